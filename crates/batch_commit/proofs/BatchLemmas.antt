@@ -4,7 +4,7 @@ use Rattle.std.specs.Prelude.{slice_index_or, slice_get, slice_set, IsTrue, nat_
 use Rattle.std.specs.List.{remove}
 use Rattle.std.proofs.lemmas.List.{nil_from_length, length-map}
 use Rattle.std.proofs.lemmas.Bool.{eqb-true, eq-eqb}
-use Rattle.line_kernels.specs.declared.answers.Answer.{Answer}
+use Rattle.input_lines.specs.declared.answers.Answer.{Answer}
 use Rattle.batch_commit.specs.declared.entry.Entry.{Entry}
 use Rattle.batch_commit.specs.Halves.{numbers}
 use Rattle.batch_commit.specs.Places.{PlacesLeft}

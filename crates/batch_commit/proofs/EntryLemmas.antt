@@ -2,8 +2,8 @@
 use Rattle.std.proofs.Common.{◌≡◌, ℕ, suc, ◌+◌, List, [], ◌∷◌, Option, Some, None, length, map, refl, ap, arith}
 use Rattle.std.specs.List.{remove, cons_option}
 use Rattle.std.proofs.lemmas.List.Elements.{All-nil, All-cons, All-append, All-take, All-drop, All-map}
-use Rattle.line_kernels.specs.declared.request.Request.{Request}
-use Rattle.line_kernels.specs.declared.answers.Answer.{Answer}
+use Rattle.input_lines.specs.declared.request.Request.{Request}
+use Rattle.input_lines.specs.declared.answers.Answer.{Answer}
 use Rattle.batch_commit.specs.declared.entry.Entry.{Entry}
 use Rattle.batch_commit.specs.Slots.{values_in, places_from}
 use Rattle.batch_commit.specs.Entries.{Added, without_answer, added_of, request_in, requests_of, with_placed, answers_placed, answer_placed, answers_after, HasAnswer, AllPlaced, NonePlaced}

@@ -2,8 +2,8 @@
 use Rattle.std.specs.Prelude.{◌≡◌, ⊤, ℕ, Option, Some, None, IsSome, List, [], ◌∷◌, drop, slice_get}
 use Rattle.std.specs.Option.{option_map}
 use Rattle.std.specs.List.{All, filter_map}
-use Rattle.line_kernels.specs.declared.request.Request.{Request}
-use Rattle.line_kernels.specs.declared.answers.Answer.{Answer}
+use Rattle.input_lines.specs.declared.request.Request.{Request}
+use Rattle.input_lines.specs.declared.answers.Answer.{Answer}
 use Rattle.task_machine.specs.declared.stop.Wake.{Wake}
 use Rattle.task_machine.specs.declared.stop.Wake.TheVariants as wakes
 use Rattle.batch_commit.specs.declared.entry.Call.{Call}

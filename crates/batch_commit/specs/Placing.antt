@@ -1,7 +1,7 @@
 -- Requests and answers, slot by slot. No public clause cites this module.
 use Rattle.std.specs.Prelude.{Option, Some, None, List, [], ◌∷◌}
-use Rattle.line_kernels.specs.declared.request.Request.{Request}
-use Rattle.line_kernels.specs.declared.answers.Answer.{Answer}
+use Rattle.input_lines.specs.declared.request.Request.{Request}
+use Rattle.input_lines.specs.declared.answers.Answer.{Answer}
 use Rattle.batch_commit.specs.declared.entry.Entry.{Entry}
 use Rattle.batch_commit.specs.Entries.{request_in, with_placed, answers_after}
 

@@ -1,8 +1,8 @@
 ghost use Rattle.std.specs.Prelude.{◌≡◌, Some};
 ghost use Rattle.batch_commit.specs.Entries.{HasAnswer, request_in, wake_of};
 
-use autojump_clock::TaskId;
-use line_kernels::{Answer, Request};
+use clock::TaskId;
+use input_lines::{Answer, Request};
 use task_machine::Wake;
 
 /// Why a task is ready.

@@ -2,7 +2,7 @@ ghost use Rattle.std.specs.Prelude.{◌≡◌, ℕ, Some, None, IfOk, OnErr, opt
 ghost use Rattle.std.specs.Option.{option_copied_mut};
 ghost use Rattle.std.specs.Borrow.{sem};
 
-use autojump_clock::TaskId;
+use clock::TaskId;
 use slab::Slab;
 use std::alloc::{AllocError, Global};
 

@@ -6,7 +6,7 @@ ghost use Rattle.batch_commit.specs.Entries.{requests_of};
 ghost use Rattle.batch_commit.specs.Placing.{request_at, slot_placed, answers_after_slot, slots_placed};
 
 use crate::entry::{Entry, request_in};
-use line_kernels::{Answer, Request};
+use input_lines::{Answer, Request};
 use std::alloc::{AllocError, Global};
 use std::vec::IntoIter;
 

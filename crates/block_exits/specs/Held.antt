@@ -1,7 +1,7 @@
 -- What a block is, and what remains when it is left, in the terms of the meaning.
 use Rattle.std.specs.Prelude.{Bool, false}
 use Rattle.std.specs.Option.{option_map}
-use Rattle.exc_groups.specs.Held.{exc_of}
+use Rattle.exceptions.specs.Held.{exc_of}
 use Rattle.job_meaning.specs.Walk as meaning
 use Rattle.block_exits.specs.declared.kind.Kind.{Kind}
 use Rattle.block_exits.specs.declared.kind.Kind.TheVariants.{Scope, Nursery}

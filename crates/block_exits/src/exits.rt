@@ -1,11 +1,11 @@
 ghost use Rattle.std.specs.Prelude.{◌≡◌, IfOk};
 ghost use Rattle.std.specs.Option.{option_map};
-ghost use Rattle.exc_groups.specs.Held.{exc_of};
+ghost use Rattle.exceptions.specs.Held.{exc_of};
 ghost use Rattle.job_meaning.specs.Walk.{left_with, exc_after, handler_exc, outcome_after};
 ghost use Rattle.block_exits.specs.Held.{kind_of, fails_of, left_of};
 
 use crate::kind::Kind;
-use exc_groups::{Exc, Label, Match, Parts, Whose, holds_cancelled, split};
+use exceptions::{Exc, Label, Match, Parts, Whose, holds_cancelled, split};
 use std::alloc::{AllocError, Global};
 
 /// The exception that remains when a scope or nursery is left.

@@ -5,7 +5,7 @@ use Rattle.std.specs.Str.{bytes_eq}
 use Rattle.expect_text.specs.Beginnings.{can_match}
 use Rattle.expect_text.specs.Lines.{lines_of, parts_of}
 use Rattle.expect_text.specs.Patterns.{is_blank, is_empty}
-use Rattle.fault_text.specs.declared.deny.Deny.{Deny}
+use Rattle.outcomes.specs.declared.deny.Deny.{Deny}
 
 -- some line matches the pattern; no line does; `races` denies nothing; `faults` denies nothing of these kinds
 pub data Expected : Type 0 where

@@ -7,8 +7,8 @@ ghost use Rattle.expect_text.specs.Views.{said_of};
 use crate::beginnings::can_match;
 use crate::parts::split_once;
 use crate::words::{from_word, is_word, rest_after};
-use fault_text::Deny;
 use job_tree::Name;
+use outcomes::Deny;
 use std::alloc::{AllocError, Global};
 
 /// What a line of a `.expect` file requires of a job.

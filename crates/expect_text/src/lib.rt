@@ -4,7 +4,7 @@
 //! and returns `None` only if the two are the same. `first_match` finds the first line of a text that matches a pattern, in which
 //! `*` matches any bytes and blanks count as `specs/Patterns.antt` says, in time linear in the text and, for each line, in the
 //! pattern. `read_expectation` reads a line of a `.expect` file, as `specs/Expectations.antt` defines it; it refuses a pattern only
-//! if the pattern matches no line that begins as `specs/Beginnings.antt` says. It uses `memchr` for searches, `fault_text` for the
+//! if the pattern matches no line that begins as `specs/Beginnings.antt` says. It uses `memchr` for searches, `outcomes` for the
 //! kinds that `faults` can deny, and `job_tree` for names.
 #![tactic(auto)]
 

@@ -1,8 +1,8 @@
 -- What the comparison of an output with the one that was kept comes to.
 use Rattle.std.specs.Prelude.{◌≡◌, ◌⊎◌, ℕ, Bool, true, false, Option, Some, None, List, ◌∷◌, ◌++◌}
 use Rattle.std.specs.Str.{bytes_eq}
-use Rattle.table_app.specs.declared.form.Form.{Form}
-use Rattle.table_app.specs.declared.form.Form.TheVariants.{Text, Json}
+use Rattle.commands.specs.declared.form.Form.{Form}
+use Rattle.commands.specs.declared.form.Form.TheVariants.{Text, Json}
 use Rattle.feed_tests.specs.declared.tally.Outcome.{Outcome}
 use Rattle.feed_tests.specs.declared.tally.Outcome.TheVariants.{Passed, Accepted, Failed, Fault}
 

@@ -2,7 +2,7 @@ ghost use Rattle.std.specs.Prelude.{◌≡◌, ◌≤◌, List, ℕ, length, not
 ghost use Rattle.std.specs.Option.{is_some};
 ghost use Rattle.std.specs.Str.{bytes_eq};
 ghost use Rattle.job_meaning.specs.declared.limits.TheConstants.{MAX_INPUT};
-ghost use Rattle.test_app.specs.Outputs.{IsOutput};
+ghost use Rattle.commands.specs.Outputs.{IsOutput};
 ghost use Rattle.feed_tests.specs.Comparing.{Compares, IsKept};
 
 use crate::kept::{Unread, name_beside, read_kept, shown_line};
@@ -10,12 +10,12 @@ use crate::showing::show;
 use crate::stop::TestStop;
 use crate::tally::Outcome;
 use crate::testing::{Feed, complain};
+use cli::{ReplaceFault, Target, shown_name};
+use commands::{Output, output_of};
 use expect_text::{Difference, first_difference, law_no_difference};
-use job_files::{ReplaceFault, Target, shown_name};
 use std::alloc::{AllocError, Global};
 use std::rt::Files;
 use std::thread::Threads;
-use test_app::{Output, output_of};
 
 // Compares an output of a feed with the file that is kept of it, and returns what that came to, or `None` if there is none.
 pub(crate) fn test_output<R: Files + Print + Eprint + Threads + Sync + AllocGlobal>(

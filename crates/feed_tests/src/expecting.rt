@@ -7,13 +7,13 @@ use crate::showing::{push_indented_lines, show};
 use crate::stop::TestStop;
 use crate::tally::Outcome;
 use crate::testing::{Feed, complain};
+use cli::shown_name;
+use commands::{Met, Output, given_names, meets, output_of};
 use expect_text::{ExpectLine, LineFault, is_without_demands, read_expectation};
-use job_files::shown_name;
 use job_tree::Name;
 use std::alloc::{AllocError, Global};
 use std::rt::Files;
 use std::thread::Threads;
-use test_app::{Met, Output, given_names, meets, output_of};
 
 // Tests a feed by the expectations that are kept beside it, and returns what that came to, or `None` if there are none.
 pub(crate) fn test_expectations<R: Files + Print + Eprint + Threads + Sync + AllocGlobal>(

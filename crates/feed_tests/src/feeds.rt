@@ -1,4 +1,4 @@
-use job_files::{reason_line, shown_name};
+use cli::{reason_line, shown_name};
 use std::alloc::{AllocError, Global};
 use std::rt::Files;
 use std::{fs, io};

@@ -1,5 +1,5 @@
-use job_files::{read_reason, reason_line, shown_name};
-use nursery_app::{ReadFault, read_whole};
+use cli::{read_reason, reason_line, shown_name};
+use job_answers::{ReadFault, read_whole};
 use std::alloc::{AllocError, Global};
 use std::fs;
 use std::io::ErrorKind;

@@ -1,7 +1,7 @@
 //! `nursery test`: the feeds of files and folders, each compared with what is kept beside it.
 //!
-//! What is compared is proved in `test_app` (the outputs of a feed) and `expect_text` (where texts differ, what an expectation
-//! says). The words in the first line of a `.sweep` file are read by `nursery_cli`. This layer finds and reads the files, writes the
+//! What is compared is proved in `commands` (the outputs of a feed) and `expect_text` (where texts differ, what an expectation
+//! says). The words in the first line of a `.sweep` file are read by `cli`. This layer finds and reads the files, writes the
 //! result of each, and keeps new outputs; it is tested on real files (`tests/command`).
 #![tactic(auto)]
 

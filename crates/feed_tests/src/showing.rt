@@ -1,6 +1,6 @@
 use crate::kept::shown_line;
 use crate::stop::TestStop;
-use nursery_app::{WriteOut, send};
+use job_answers::{WriteOut, send};
 use std::alloc::{AllocError, Global};
 use std::io;
 

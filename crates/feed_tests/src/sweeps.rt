@@ -3,7 +3,7 @@ ghost use Rattle.std.specs.Option.{option_map};
 ghost use Rattle.job_meaning.specs.declared.limits.TheConstants.{MAX_INPUT};
 ghost use Rattle.feed_tests.specs.Comparing.{ComparesSweep, form_of};
 ghost use Rattle.feed_tests.specs.declared.tally.Outcome.TheVariants.{Failed};
-ghost use Rattle.test_app.specs.Outputs.{IsSwept};
+ghost use Rattle.commands.specs.Outputs.{IsSwept};
 
 use crate::comparing::{Beside, KeptFile, compare, open_kept};
 use crate::kept::shown_line;
@@ -11,15 +11,13 @@ use crate::showing::{push_indented_lines, show};
 use crate::stop::TestStop;
 use crate::tally::Outcome;
 use crate::testing::Feed;
-use job_files::{ReplaceFault, Target, shown_name};
+use cli::{Command, CommandFault, ReplaceFault, SweepArgs, Target, read_command, shown_name};
+use commands::{Form, sweep_of};
+use job_answers::Question;
 use job_runner::Settings;
-use nursery_app::Question;
-use nursery_cli::{Command, CommandFault, SweepArgs, read_command};
 use std::alloc::{AllocError, Global};
 use std::rt::Files;
 use std::thread::Threads;
-use table_app::Form;
-use test_app::sweep_of;
 
 // Compares the sweep of a feed with the file that is kept of it, whose first line has the words of the sweep, and returns what that
 // came to, or `None` if there is no such file.

@@ -12,13 +12,13 @@ use crate::showing::show;
 use crate::stop::TestStop;
 use crate::sweeps::test_sweep;
 use crate::tally::{Outcome, Tally};
-use job_files::{Target, reason_line, shown_name};
-use nursery_app::{MAX_INPUT, Question, Settings};
-use places::split_feed;
+use basics::split_feed;
+use cli::{Target, reason_line, shown_name};
+use commands::{Output, output_of};
+use job_answers::{MAX_INPUT, Question, Settings};
 use std::io::ErrorKind;
 use std::rt::Files;
 use std::thread::Threads;
-use test_app::{Output, output_of};
 
 /// Tests the feeds of some files and folders: writes a line for each file that is kept beside a feed, and the counts, and returns
 /// the exit status. With `accept`, what differs replaces the old file, and a feed with nothing beside it has its report kept. If

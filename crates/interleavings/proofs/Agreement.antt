@@ -1,10 +1,11 @@
 -- If a run agrees with a table, the table and the froms that the run keeps agree in the present moment; and the jump: nothing
 -- that was not done yet happens before the moment to which the clock jumps.
 use Rattle.std.proofs.Common.{◌≡◌, ◌⊎◌, ℕ, zero, suc, ◌+◌, ◌-◌, ◌<◌, ◌≤◌, min, max, Bool, true, Option, Some, None, List, [], ◌∷◌, refl, sym, ap, ◌∙◌, subst, inl, inr, arith}
-use Rattle.exc_groups.specs.Exceptions.{Label, Exc}
+use Rattle.exceptions.specs.Exceptions.{Label, Exc}
 use Rattle.cancel_scopes.specs.Sight.{Tick, Level, sight}
 use Rattle.job_meaning.specs.Log.{Member, Result, Table, least_sign}
-use Rattle.job_meaning.specs.Moments.{Clock, a_round_after, wakes_at, only_at}
+use Rattle.job_meaning.specs.Moments.{a_round_after, wakes_at, only_at}
+use Rattle.job_meaning.specs.declared.clock.Clock.{Clock}
 use Rattle.job_meaning.specs.Walk.{Stack, by_table, event_on, event_wait, latest}
 use Rattle.job_meaning.specs.Before.{upto}
 use Rattle.job_meaning.specs.Rest.{ChildOutcomes, told_members, Stopped, to_begin, asking, asleep, waiting_for, giving_up, awaiting, at_end, task_comes_to}

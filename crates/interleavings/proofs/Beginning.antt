@@ -3,7 +3,7 @@ use Rattle.std.proofs.Common.{◌≡◌, ◌⊎◌, ℕ, ◌+◌, ◌<◌, ◌�
 use Rattle.job_tree.specs.Tree.{Tree}
 use Rattle.job_tree.specs.Names.{GivesNamesOnce}
 use Rattle.job_tree.specs.Starting.{StartsInNurseries}
-use Rattle.exc_groups.specs.Exceptions.{Label, Exc}
+use Rattle.exceptions.specs.Exceptions.{Label, Exc}
 use Rattle.cancel_scopes.specs.Sight.{Tick}
 use Rattle.job_meaning.specs.Log.{Log, nil, entry, sign, entered, task, followed_by, Result, same_label, least_sign, deadline_of, deadline_if, either, from_by, entered_from, times_entered, Table}
 use Rattle.job_meaning.specs.Moments.{only_at}

@@ -2,12 +2,13 @@
 use Rattle.std.proofs.Common.{◌≡◌, ℕ, zero, suc, ◌≤◌, max, Bool, true, false, Option, Some, None, List, [], ◌∷◌, ◌++◌, refl, subst, arith, nat_le, nat_lt, if◌then◌else◌}
 use Rattle.job_tree.specs.Tree.{Step, sleep, checkpoint, forever, pace, find, head, longest, need, raise, cancel, set_event, wait_for, scope, nursery, event, start, repeat, attempt, Steps, stop, step, Handled, unhandled, except, Cleaned, uncleaned, finally}
 use Rattle.job_tree.specs.Starting.{StartsIn, StartsAt, HandlerStarts, CleanupStarts}
-use Rattle.buffer_parts.specs.Lines.{Span}
-use Rattle.exc_groups.specs.Exceptions.{Label, Exc, cancelled}
-use Rattle.exc_groups.specs.Split.{Wanted, keep, drop}
+use Rattle.input_lines.specs.Lines.{Span}
+use Rattle.exceptions.specs.Exceptions.{Label, Exc, cancelled}
+use Rattle.exceptions.specs.Split.{Wanted, keep, drop}
 use Rattle.cancel_scopes.specs.Sight.{Tick, Level, sight}
 use Rattle.job_meaning.specs.Log.{Log, nil, entry, sign, entered, task, followed_by, Member, Result}
-use Rattle.job_meaning.specs.Moments.{Clock, a_round_after, wakes_at, gives_up_at, Now, only_at}
+use Rattle.job_meaning.specs.Moments.{a_round_after, wakes_at, gives_up_at, Now, only_at}
+use Rattle.job_meaning.specs.declared.clock.Clock.{Clock}
 use Rattle.job_meaning.specs.Walk.{Stack, Mode, Here, walk, walk_step, walk_handler, walk_cleanup, done_at, raised_at, now_of, in_sequence, and_then, then_if, wait_by_sight, sleep_result, pace_result, wait_until, set_moment, wait_by, with_line_if, with_line, event_wait, log_of_lines, lines_result, need_result, raise_result, cancel_result, set_result, sign_of, Kind, from_of, block, event_block, with_sign, sign_if, home_of, latest, nursery_result, child, each, handler_result, handler_for, handler_if_any, cleanup_result, passes}
 use Rattle.job_meaning.proofs.MomentLemmas.{round_after}
 use Rattle.job_meaning.proofs.Late.{Late, late, latest_ends, child_ends, each_ends, late_passes}

@@ -1,6 +1,6 @@
 -- The order of the tasks does not matter: any of them may be taken to the front, for its turn.
 use Rattle.std.proofs.Common.{◌≡◌, ◌⊎◌, ℕ, suc, ◌≤◌, min, List, [], ◌∷◌, refl, sym, ap, ◌∙◌, subst, inl, inr, arith}
-use Rattle.exc_groups.specs.Exceptions.{Label}
+use Rattle.exceptions.specs.Exceptions.{Label}
 use Rattle.job_meaning.specs.Log.{Result, Table}
 use Rattle.job_meaning.specs.Before.{upto}
 use Rattle.turn_semantics.specs.Midway.{Place}

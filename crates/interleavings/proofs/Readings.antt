@@ -1,6 +1,6 @@
 -- Readings of what tasks made and have left: each is that of the parts together.
 use Rattle.std.proofs.Common.{◌≡◌, ℕ, suc, ◌+◌, ◌≤◌, min, Bool, true, false, Some, None, List, [], ◌∷◌, ◌++◌, refl, ap, ◌∙◌, sym, subst, ◌⊎◌, inl, inr, arith, if◌then◌else◌}
-use Rattle.exc_groups.specs.Exceptions.{Label}
+use Rattle.exceptions.specs.Exceptions.{Label}
 use Rattle.cancel_scopes.specs.Sight.{Tick, next}
 use Rattle.job_meaning.specs.Log.{Log, nil, entry, sign, entered, task, followed_by, same_label, tick_if, least_sign, from_by, times_entered}
 use Rattle.job_meaning.specs.Before.{upto}

@@ -4,10 +4,12 @@ use Rattle.job_tree.specs.Tree.{Tree}
 use Rattle.job_tree.specs.Names.{GivesNamesOnce, size_of}
 use Rattle.job_tree.specs.Starting.{StartsInNurseries}
 use Rattle.std.specs.Str.{bytes_eq}
-use Rattle.exc_groups.specs.Exceptions.{Label, Exc}
+use Rattle.exceptions.specs.Exceptions.{Label, Exc}
 use Rattle.cancel_scopes.specs.Sight.{Tick, Level, earlier, next, sight}
 use Rattle.job_meaning.specs.Log.{Member, Result, Table, tick_if, same_label, from_by, entered_from, least_sign, deadline_of}
-use Rattle.job_meaning.specs.Moments.{Clock, by_ticks, by_rounds, clock_of, tick_of, a_round_after, far, wakes_at, Now, only_at}
+use Rattle.job_meaning.specs.Moments.{clock_of, tick_of, a_round_after, far, wakes_at, Now, only_at}
+use Rattle.job_meaning.specs.declared.clock.Clock.{Clock}
+use Rattle.job_meaning.specs.declared.clock.Clock.TheVariants.{ByTicks as by_ticks, ByRounds as by_rounds}
 use Rattle.job_meaning.proofs.MomentLemmas.{round_after}
 use Rattle.job_meaning.specs.Walk.{no_stack, by_table, event_on, level_if, set_moment, latest}
 use Rattle.job_meaning.specs.Before.{upto}

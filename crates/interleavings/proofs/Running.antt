@@ -4,7 +4,9 @@ use Rattle.job_tree.specs.Tree.{Tree}
 use Rattle.job_tree.specs.Names.{GivesNamesOnce, size_of}
 use Rattle.job_tree.specs.Starting.{StartsInNurseries}
 use Rattle.job_meaning.specs.Log.{Result, Table}
-use Rattle.job_meaning.specs.Moments.{Clock, by_ticks, by_rounds, clock_of, tick_of, a_round_after, Now, only_at}
+use Rattle.job_meaning.specs.Moments.{clock_of, tick_of, a_round_after, Now, only_at}
+use Rattle.job_meaning.specs.declared.clock.Clock.{Clock}
+use Rattle.job_meaning.specs.declared.clock.Clock.TheVariants.{ByTicks as by_ticks, ByRounds as by_rounds}
 use Rattle.job_meaning.specs.Walk.{no_stack, by_table}
 use Rattle.job_meaning.specs.Meaning.{root_here, records_of, root_log, all_entered, froms_by, meaning, meaning_table}
 use Rattle.job_meaning.specs.Follow.{follow, IsSettled}

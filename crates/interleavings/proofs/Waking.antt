@@ -1,10 +1,11 @@
 -- A wake is what the table says: if a run agrees with the table, a task that may be woken so wakes so according to
 -- the table.
 use Rattle.std.proofs.Common.{◌≡◌, ℕ, suc, ◌≤◌, min, Bool, true, Option, List, refl, inl, inr, sym, ◌∙◌, subst, arith}
-use Rattle.exc_groups.specs.Exceptions.{Label, Exc}
+use Rattle.exceptions.specs.Exceptions.{Label, Exc}
 use Rattle.cancel_scopes.specs.Sight.{seen}
 use Rattle.job_meaning.specs.Log.{Member, Result, Table}
-use Rattle.job_meaning.specs.Moments.{Clock, wakes_at, Now}
+use Rattle.job_meaning.specs.Moments.{wakes_at, Now}
+use Rattle.job_meaning.specs.declared.clock.Clock.{Clock}
 use Rattle.job_meaning.specs.Walk.{event_on}
 use Rattle.job_meaning.specs.Before.{Near}
 use Rattle.job_meaning.specs.Rest.{ChildOutcomes, told_members, Stopped, to_begin, asking, asleep, waiting_for, giving_up, awaiting, at_end}

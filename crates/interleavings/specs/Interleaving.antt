@@ -1,9 +1,10 @@
 -- An interleaving that agrees with a table: what is kept of each started task, and what holds of all of them together.
 use Rattle.std.specs.Prelude.{◌≡◌, ℕ, suc, ◌+◌, ◌<◌, ◌≤◌, min, max, Bool, true, false, List, [], ◌∷◌, ◌⊎◌, if◌then◌else◌}
-use Rattle.exc_groups.specs.Exceptions.{Label}
+use Rattle.exceptions.specs.Exceptions.{Label}
 use Rattle.cancel_scopes.specs.Sight.{Tick, sight}
 use Rattle.job_meaning.specs.Log.{Log, nil, entry, sign, entered, task, Member, Result, same_label, least_sign, from_by, times_entered, Table}
-use Rattle.job_meaning.specs.Moments.{Clock, a_round_after, wakes_at, Now, only_at}
+use Rattle.job_meaning.specs.Moments.{a_round_after, wakes_at, Now, only_at}
+use Rattle.job_meaning.specs.declared.clock.Clock.{Clock}
 use Rattle.job_meaning.specs.Walk.{Stack, Here, by_table, sleep_result, pace_result, event_on, event_wait, latest}
 use Rattle.job_meaning.specs.Before.{upto}
 use Rattle.job_meaning.specs.Rest.{Event, noted, signs, enters, starts, ChildOutcomes, told_members, Stopped, to_begin, asking, asleep, waiting_for, giving_up, awaiting, at_end, Rest, rest_comes_to, task_comes_to}

@@ -1,11 +1,12 @@
 -- The laws of runs in turns. They are the contract of a function that does nothing.
 use Rattle.std.specs.Prelude.{◌≡◌, ◌⊎◌, true, ℕ, ◌+◌, ◌*◌, ◌%◌, ◌<◌, ◌≤◌, Some, List, [], ◌∷◌}
-use Rattle.exc_groups.specs.Exceptions.{Label}
+use Rattle.exceptions.specs.Exceptions.{Label}
 use Rattle.job_tree.specs.Tree.{Tree}
 use Rattle.job_tree.specs.Names.{GivesNamesOnce, size_of}
 use Rattle.job_tree.specs.Starting.{StartsInNurseries}
 use Rattle.job_meaning.specs.Log.{Table}
-use Rattle.job_meaning.specs.Moments.{by_rounds, clock_of, rounds_in_a_tick, tick_of, a_round_after}
+use Rattle.job_meaning.specs.Moments.{clock_of, rounds_in_a_tick, tick_of, a_round_after}
+use Rattle.job_meaning.specs.declared.clock.Clock.TheVariants.{ByRounds as by_rounds}
 use Rattle.job_meaning.specs.Meaning.{root_label, meaning_records, meaning_froms, meaning_end, meaning_table}
 use Rattle.job_meaning.specs.Follow.{IsSettled}
 use Rattle.job_meaning.specs.Rest.{Stopped, to_begin, asking, asleep, waiting_for, giving_up, awaiting, at_end}

@@ -1,8 +1,9 @@
 -- The rows of a run that is over, one for each started task, and how its records and froms are read from them.
 use Rattle.std.specs.Prelude.{◌≡◌, ℕ, Option, List, [], ◌∷◌, ◌++◌}
-use Rattle.exc_groups.specs.Exceptions.{Label, Exc}
+use Rattle.exceptions.specs.Exceptions.{Label, Exc}
 use Rattle.job_meaning.specs.Log.{Table}
-use Rattle.job_meaning.specs.Moments.{Clock, tick_of}
+use Rattle.job_meaning.specs.Moments.{tick_of}
+use Rattle.job_meaning.specs.declared.clock.Clock.{Clock}
 use Rattle.job_meaning.specs.Meaning.{Noted, Record, From, froms_by}
 use Rattle.job_meaning.specs.Rest.{Event, noted, signs, enters, starts, at_end}
 use Rattle.interleavings.specs.Interleaving.{Started}

@@ -1,9 +1,10 @@
 -- When a runner may wake a task, by the froms that the runner keeps and the ends of the task's children.
 use Rattle.std.specs.Prelude.{◌≡◌, ◌⊎◌, Bool, true, false, ℕ, suc, ◌<◌, ◌≤◌, Option, List, []}
-use Rattle.exc_groups.specs.Exceptions.{Exc}
+use Rattle.exceptions.specs.Exceptions.{Exc}
 use Rattle.cancel_scopes.specs.Sight.{seen}
 use Rattle.job_meaning.specs.Log.{Member, Table}
-use Rattle.job_meaning.specs.Moments.{Clock, a_round_after, wakes_at, Now}
+use Rattle.job_meaning.specs.Moments.{a_round_after, wakes_at, Now}
+use Rattle.job_meaning.specs.declared.clock.Clock.{Clock}
 use Rattle.job_meaning.specs.Asking.{answer_of}
 use Rattle.job_meaning.specs.Rest.{Stopped, to_begin, asking, asleep, waiting_for, giving_up, awaiting, at_end}
 use Rattle.turn_semantics.specs.Midway.{stack_at}

@@ -2,10 +2,11 @@
 -- across a `start`.
 use Rattle.std.specs.Prelude.{◌≡◌, ℕ, zero, suc, ◌+◌, Option, None, Some, List, [], ◌∷◌, ◌++◌, refl, codes, length}
 use Rattle.job_tree.specs.Tree.{Step, sleep, raise, cancel}
-use Rattle.exc_groups.specs.Exceptions.{Exc, cancelled}
+use Rattle.exceptions.specs.Exceptions.{Exc, cancelled}
 use Rattle.cancel_scopes.specs.Sight.{Tick}
 use Rattle.job_meaning.specs.Log.{Table}
-use Rattle.job_meaning.specs.Moments.{by_ticks, only_at}
+use Rattle.job_meaning.specs.Moments.{only_at}
+use Rattle.job_meaning.specs.declared.clock.Clock.TheVariants.{ByTicks as by_ticks}
 use Rattle.job_meaning.specs.Walk.{Here}
 use Rattle.job_meaning.specs.Meaning.{Record, root_here}
 use Rattle.job_meaning.specs.Rest.{Event, Rest, rest_at_start, Stopped, to_begin, asking, asleep, waiting_for, giving_up, awaiting, at_end}

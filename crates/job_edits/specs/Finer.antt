@@ -1,8 +1,8 @@
 -- A job text in finer ticks, and with one site moved by a hair.
 use Rattle.std.specs.Prelude.{ℕ, ◌+◌, ◌-◌, ◌*◌, ◌==◌, Bool, ◌&&◌, max, nat_le, nat_lt, if◌then◌else◌, List, [], ◌∷◌, ◌++◌, Option, Some, None, codes}
 use Rattle.std.specs.Io.Iter.{u64_saturate}
-use Rattle.moments.specs.declared.clock.Clock.{Clock}
-use Rattle.moments.specs.declared.clock.Clock.TheVariants.{ByTicks, ByRounds}
+use Rattle.job_meaning.specs.declared.clock.Clock.{Clock}
+use Rattle.job_meaning.specs.declared.clock.Clock.TheVariants.{ByTicks, ByRounds}
 use Rattle.job_edits.specs.declared.change.Piece.TheVariants as piece
 use Rattle.job_edits.specs.declared.change.Change.{Change}
 use Rattle.job_edits.specs.declared.number.Number.{Number}

@@ -2,7 +2,7 @@ ghost use Rattle.std.specs.Prelude.{◌≡◌, ◌-◌, ◌++◌, take, drop, de
 ghost use Rattle.job_edits.specs.declared.change.Piece.TheVariants as piece;
 ghost use Rattle.job_edits.specs.Changes.{piece_text, changed_from, changed_text};
 
-use digits::push_number;
+use basics::push_number;
 use job_tree::Name;
 use std::alloc::{AllocError, Global};
 

@@ -1,10 +1,10 @@
 ghost use Rattle.std.specs.Prelude.{◌≡◌};
-ghost use Rattle.moments.specs.declared.clock.Clock.TheVariants.{ByTicks, ByRounds};
+ghost use Rattle.job_meaning.specs.declared.clock.Clock.TheVariants.{ByTicks, ByRounds};
 ghost use Rattle.job_edits.specs.Finer.{fits, by_thousand, by_hundred, by_ten, finer_by, finer_for, most_ticks, ticks_of, ticks_by};
 
 use crate::number::Number;
 use crate::site::{Moment, Site};
-use moments::Clock;
+use job_meaning::Clock;
 
 /// How much finer the ticks of a changed job text are than those of the original text.
 #[derive(Clone, Copy, Debug, PartialEq, Eq)]

@@ -2,7 +2,7 @@ ghost use Rattle.std.specs.Prelude.{◌≡◌, IfOk, IsTrue};
 ghost use Rattle.job_tree.specs.Words.{is_word};
 ghost use Rattle.job_edits.specs.Fresh.{occurs, numbered_word, fresh_word};
 
-use digits::push_number;
+use basics::push_number;
 use job_tokens::Token;
 use job_tree::Name;
 use std::alloc::{AllocError, Global};

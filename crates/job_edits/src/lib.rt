@@ -8,7 +8,7 @@
 //! `repeat` (`specs/Copied.antt`).
 //! `number_at` and `deadline_of` find a number of the text by its place, or as the deadline of a scope or nursery;
 //! `Number::set_to` is the change that puts another number in its place (`specs/Numbers.antt`). The crate uses `job_tokens` for
-//! the tokens of the text, `job_syntax` for keywords, and `moments` for how the time of the job is counted.
+//! the tokens of the text, `job_syntax` for keywords, and `job_meaning` for how the time of the job is counted.
 #![tactic(auto)]
 
 mod change;

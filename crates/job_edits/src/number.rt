@@ -3,7 +3,7 @@ ghost use Rattle.job_edits.specs.Numbers.{number_of, number_at, number_first, de
 
 use crate::change::{Change, Piece};
 use crate::waiting::{first_name, keyword_in};
-use digits::digit_count;
+use basics::digit_count;
 use job_syntax::Keyword;
 use job_tokens::Token;
 use job_tree::Name;

@@ -10,9 +10,9 @@ use crate::finer::{Finer, ticks_of};
 use crate::fresh::fresh_word;
 use crate::number::Number;
 use crate::site::{Moment, Site};
+use job_meaning::Clock;
 use job_tokens::Token;
 use job_tree::Name;
-use moments::Clock;
 use std::alloc::{AllocError, Global};
 
 /// In which direction a site is moved by a hair.

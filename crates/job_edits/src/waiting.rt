@@ -2,7 +2,7 @@ ghost use Rattle.std.specs.Prelude.{◌≡◌, [], ◌++◌, decimal, IfOk, OnOk
 ghost use Rattle.job_tokens.specs.Shapes.{word_in};
 ghost use Rattle.job_edits.specs.Waiting.{begins_after, step_keyword, wait_of, wait_if, keyword_in, need_in, first_number, first_name, first_mark, waiting_at, with_waiting, waiting_in, wait_text};
 
-use digits::push_number;
+use basics::push_number;
 use job_syntax::Keyword;
 use job_tokens::{Mark, Shape, Token, push_canon};
 use job_tree::{Name, Text};

@@ -18,12 +18,12 @@ use Rattle.job_tokens.proofs.Ascii_texts.{is_small}
 use Rattle.job_tokens.proofs.Between.{AreAlong, AreAllOf, along_are, all_along}
 use Rattle.job_syntax.specs.Pieces.{shapes_in as pieces_shapes, job_pieces}
 use Rattle.job_syntax.specs.Depth.{AreWithin}
-use Rattle.job_grammar.specs.declared.fault.JobKind.TheVariants as kind
-use Rattle.job_grammar.specs.Refusals.{most_bytes, first_line, format_of, is_text_byte, may_have_comments, HasTokens, IsOf, Spells}
-use Rattle.job_grammar.specs.Canon.{canon}
-use Rattle.job_grammar.specs.Jobs.{IsReadable}
-use Rattle.job_grammar.proofs.Canonical.{PassesTokens, passed, all_writable, short_enough, headed_spells}
-use Rattle.job_grammar.proofs.Passing.{one_spelled, within}
+use Rattle.job_reader.specs.declared.fault.JobKind.TheVariants as kind
+use Rattle.job_reader.specs.Refusals.{most_bytes, first_line, format_of, is_text_byte, may_have_comments, HasTokens, IsOf, Spells}
+use Rattle.job_reader.specs.Canon.{canon}
+use Rattle.job_reader.specs.Jobs.{IsReadable}
+use Rattle.job_reader.proofs.Canonical.{PassesTokens, passed, all_writable, short_enough, headed_spells}
+use Rattle.job_reader.proofs.Passing.{one_spelled, within}
 use Rattle.job_layout.specs.declared.spaced.SpacedToken.{SpacedToken}
 use Rattle.job_layout.specs.Commented.{first_of, others_of, lines_of, commented_text}
 use Rattle.job_layout.specs.Layout.{job_tokens, comments_of, bare_of, text_with, formatted_text}

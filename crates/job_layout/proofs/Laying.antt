@@ -8,8 +8,8 @@ use Rattle.job_tokens.specs.declared.token.Shape.TheVariants as shape
 use Rattle.job_syntax.specs.declared.keyword.Keyword.TheVariants as word
 use Rattle.job_syntax.specs.declared.role.Role.TheVariants as role
 use Rattle.job_syntax.specs.Pieces.{Piece, shapes_in as pieces_shapes, keyword, name_piece, opens, closes, ends, steps_pieces, handler_pieces, cleanup_pieces, job_pieces}
-use Rattle.job_grammar.specs.Heads.{head_onto, tail_onto}
-use Rattle.job_grammar.proofs.Tails.{head_and_tail}
+use Rattle.job_reader.specs.Heads.{head_onto, tail_onto}
+use Rattle.job_reader.proofs.Tails.{head_and_tail}
 use Rattle.job_layout.specs.Heads.{head_of, is_plain}
 use Rattle.job_layout.specs.declared.spaced.Gap.TheVariants as gaps
 use Rattle.job_layout.specs.declared.spaced.SpacedToken.{SpacedToken}

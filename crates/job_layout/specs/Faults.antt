@@ -1,10 +1,10 @@
 -- The results of formatting a text.
 use Rattle.std.specs.Prelude.{◌≡◌, ℕ, ◌<◌, List, length}
 use Rattle.job_tree.specs.Tree.{Tree}
-use Rattle.job_grammar.specs.declared.fault.JobKind.{JobKind}
-use Rattle.job_grammar.specs.declared.fault.JobKind.TheVariants as kind
-use Rattle.job_grammar.specs.declared.fault.JobFault.{JobFault}
-use Rattle.job_grammar.specs.Refusals.{most_bytes, IsRefused, Spells}
+use Rattle.job_reader.specs.declared.fault.JobKind.{JobKind}
+use Rattle.job_reader.specs.declared.fault.JobKind.TheVariants as kind
+use Rattle.job_reader.specs.declared.fault.JobFault.{JobFault}
+use Rattle.job_reader.specs.Refusals.{most_bytes, IsRefused, Spells}
 use Rattle.job_layout.specs.declared.fault.FormatFault.{FormatFault}
 use Rattle.job_layout.specs.declared.fault.FormatFault.TheVariants.{Refused, TooLong, NoMemory}
 use Rattle.job_layout.specs.Layout.{comments_of, formatted_text}

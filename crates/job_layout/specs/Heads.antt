@@ -3,7 +3,7 @@ use Rattle.std.specs.Prelude.{Bool, true, false, List, []}
 use Rattle.job_tree.specs.Tree.{Step, scope, nursery, event, start, repeat, attempt}
 use Rattle.job_tokens.specs.declared.token.Shape.{Shape}
 use Rattle.job_syntax.specs.Pieces.{shapes_in}
-use Rattle.job_grammar.specs.Heads.{head_onto}
+use Rattle.job_reader.specs.Heads.{head_onto}
 
 -- the tokens of a step before its semicolon or its first block
 abbrev pub head_of : Step → List Shape

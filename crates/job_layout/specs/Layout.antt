@@ -11,7 +11,7 @@ use Rattle.job_tokens.specs.Comments.{Comment, comments_along}
 use Rattle.job_syntax.specs.declared.keyword.Keyword.TheVariants as word
 use Rattle.job_syntax.specs.declared.role.Role.TheVariants as role
 use Rattle.job_syntax.specs.Pieces.{shapes_in, keyword, name_piece, job_pieces}
-use Rattle.job_grammar.specs.Refusals.{first_line}
+use Rattle.job_reader.specs.Refusals.{first_line}
 use Rattle.job_layout.specs.Heads.{head_of, is_plain}
 use Rattle.job_layout.specs.declared.spaced.Gap.TheVariants as gaps
 use Rattle.job_layout.specs.declared.spaced.SpacedToken.{SpacedToken}

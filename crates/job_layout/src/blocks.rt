@@ -1,7 +1,7 @@
 ghost use Rattle.std.specs.Prelude.{◌≡◌, ◌++◌, ◌+◌, ◌-◌, Some, None, OnOk, IfOk, MatchOption};
 ghost use Rattle.job_tree.specs.Blocks.{step_of, steps_of, handled_of, cleaned_of};
 ghost use Rattle.job_syntax.specs.Depth.{AreWithin, IsWithin, IsHandlerWithin, IsCleanupWithin};
-ghost use Rattle.job_grammar.specs.Jobs.{IsReadable};
+ghost use Rattle.job_reader.specs.Jobs.{IsReadable};
 ghost use Rattle.job_layout.specs.Spaced.{after_gap};
 ghost use Rattle.job_layout.specs.Layout.{one_line, fitting_line, with_steps, with_step, with_rest, with_block, with_handler, with_cleanup, job_tokens};
 ghost use Rattle.job_layout.specs.Columns.{IsNested};
@@ -9,7 +9,7 @@ ghost use Rattle.job_layout.specs.Columns.{IsNested};
 use crate::layout::Layout;
 use crate::lines::{after_gap, head_of, one_line};
 use crate::spaced::{Gap, SpacedToken};
-use job_grammar::{Body, Handler, Job, Step, push_keyword, push_named};
+use job_reader::{Body, Handler, Job, Step, push_keyword, push_named};
 use job_syntax::Keyword;
 use job_tokens::{Mark, Shape};
 use std::alloc::{AllocError, Global};

@@ -2,7 +2,7 @@ ghost use Rattle.std.specs.Prelude.{◌≡◌};
 ghost use Rattle.job_layout.specs.Faults.{fault_of};
 ghost use Rattle.job_layout.specs.declared.fault.FormatFault.TheVariants.{NoMemory};
 
-use job_grammar::{JobFault, JobKind};
+use job_reader::{JobFault, JobKind};
 use std::alloc::AllocError;
 
 /// Why a text could not be formatted.

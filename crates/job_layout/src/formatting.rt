@@ -1,7 +1,7 @@
 ghost use Rattle.std.specs.Prelude.{◌≡◌, ◌++◌, ◌∷◌, [], length, true, drop, if◌then◌else◌, IfOk, OnOk, IfErr};
 ghost use Rattle.job_tokens.specs.Lexing.{has_comments};
 ghost use Rattle.job_tokens.specs.Comments.{comments_along};
-ghost use Rattle.job_grammar.specs.Refusals.{Spells, first_line};
+ghost use Rattle.job_reader.specs.Refusals.{Spells, first_line};
 ghost use Rattle.job_layout.specs.Commented.{first_of, others_of, lines_of, commented_text};
 ghost use Rattle.job_layout.specs.Layout.{formatted_text};
 ghost use Rattle.job_layout.specs.Faults.{IsFormatted, IsTextFault};
@@ -10,9 +10,7 @@ use crate::blocks::tokens_of;
 use crate::comments::{bare_of, push_lines};
 use crate::fault::FormatFault;
 use crate::spaced::{SpacedToken, level_after, push_token, push_tokens};
-use job_grammar::{
-    FIRST_LINE_LENGTH, Format, Job, MAX_BYTES, first_line, read_job, spelled_tokens,
-};
+use job_reader::{FIRST_LINE_LENGTH, Format, Job, MAX_BYTES, first_line, read_job, spelled_tokens};
 use job_tokens::{has_comments, skip_token, split_separator};
 use std::alloc::{AllocError, Global};
 

@@ -2,7 +2,7 @@
 
 ghost use Rattle.std.specs.Prelude.{◌≡◌, ◌≤◌, ℕ, List, length};
 ghost use Rattle.job_tree.specs.Tree.{Tree};
-ghost use Rattle.job_grammar.specs.Refusals.{Spells, most_bytes};
+ghost use Rattle.job_reader.specs.Refusals.{Spells, most_bytes};
 ghost use Rattle.job_layout.specs.Layout.{comments_of, formatted_text};
 
 /// A law: the formatted text of a job as some text spells it also spells that job, with the same comments before each token,

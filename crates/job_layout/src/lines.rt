@@ -7,7 +7,7 @@ ghost use Rattle.job_layout.specs.Spaced.{spaced_tokens, after_gap, mark_after};
 ghost use Rattle.job_layout.specs.Layout.{one_line};
 
 use crate::spaced::{Gap, SpacedToken};
-use job_grammar::{Step, push_head};
+use job_reader::{Step, push_head};
 use job_tokens::{Mark, Shape};
 use std::alloc::{AllocError, Global};
 

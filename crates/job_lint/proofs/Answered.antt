@@ -2,10 +2,10 @@
 use Rattle.std.proofs.Common.{ℕ, List, inl, inr, refl, ap}
 use Rattle.std.specs.Prelude.{Result, Ok, Err, MatchResult}
 use Rattle.job_tree.specs.Tree.{Tree}
-use Rattle.job_grammar.specs.declared.fault.JobKind.{JobKind}
-use Rattle.job_grammar.specs.declared.fault.JobFault.{JobFault}
-use Rattle.job_grammar.specs.Refusals.{Spells, IsRefused, IsFair, AnswersUnlessMemory}
-use Rattle.job_grammar.proofs.Passing.{one_refusal}
+use Rattle.job_reader.specs.declared.fault.JobKind.{JobKind}
+use Rattle.job_reader.specs.declared.fault.JobFault.{JobFault}
+use Rattle.job_reader.specs.Refusals.{Spells, IsRefused, IsFair, AnswersUnlessMemory}
+use Rattle.job_reader.proofs.Passing.{one_refusal}
 use Rattle.job_lint.specs.Linted.{IsOkUnlessMemory}
 
 -- For a text that spells a job, the result is `Ok`, or that memory runs out. What is found in a text shows that it

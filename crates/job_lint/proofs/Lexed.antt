@@ -4,7 +4,7 @@ use Rattle.job_tree.specs.Tree.{Tree}
 use Rattle.job_tokens.specs.declared.token.Token.{Token}
 use Rattle.job_tokens.proofs.LeftToRight.{Lexes-unique}
 use Rattle.job_syntax.specs.declared.keyword.Keyword.{Keyword}
-use Rattle.job_grammar.specs.Refusals.{Spells, HasTokens, may_have_comments}
+use Rattle.job_reader.specs.Refusals.{Spells, HasTokens, may_have_comments}
 use Rattle.job_lint.specs.Openings.{opening_places, openings_of, numbered_in}
 use Rattle.job_lint.specs.Warnings.{in_job, job_warnings}
 use Rattle.job_lint.specs.Fitting.{opening_keywords, keywords_of, AllStandAtKeywords}

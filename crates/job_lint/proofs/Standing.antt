@@ -7,7 +7,7 @@ use Rattle.std.proofs.Math.Seq.{drop-append_seam}
 use Rattle.job_tree.specs.Tree.{Step, sleep, checkpoint, forever, pace, find, head, longest, need, raise, cancel, set_event, wait_for, scope, nursery, event, start, repeat, attempt, Steps, stop, step, Handled, unhandled, except, Cleaned, uncleaned, finally}
 use Rattle.job_syntax.specs.declared.keyword.Keyword.{Keyword}
 use Rattle.job_syntax.specs.declared.keyword.Keyword.TheVariants as word
-use Rattle.job_checks.specs.Given.{is_among}
+use Rattle.job_reader.specs.Given.{is_among}
 use Rattle.job_lint.specs.declared.around.Around.{Around}
 use Rattle.job_lint.specs.declared.warning.Lint.TheVariants.{UnsetEvent, UnawaitedEvent}
 use Rattle.job_lint.specs.declared.warning.Warning.{Warning}

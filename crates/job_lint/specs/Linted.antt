@@ -2,9 +2,9 @@
 use Rattle.std.specs.Prelude.{◌≡◌, ◌⊎◌, ℕ, None, List, Result, Err, IsOk}
 use Rattle.job_tree.specs.Tree.{Tree}
 use Rattle.job_tokens.specs.declared.token.Token.{Token}
-use Rattle.job_grammar.specs.declared.fault.JobFault.{JobFault}
-use Rattle.job_grammar.specs.Kinds.{no_memory}
-use Rattle.job_grammar.specs.Refusals.{Spells, HasTokens}
+use Rattle.job_reader.specs.declared.fault.JobFault.{JobFault}
+use Rattle.job_reader.specs.Kinds.{no_memory}
+use Rattle.job_reader.specs.Refusals.{Spells, HasTokens}
 use Rattle.job_lint.specs.declared.warning.Warning.{Warning}
 use Rattle.job_lint.specs.Openings.{opening_places, numbered_in}
 use Rattle.job_lint.specs.Warnings.{job_warnings}

@@ -1,7 +1,7 @@
 ghost use Rattle.std.specs.Prelude.{◌≡◌};
 ghost use Rattle.job_lint.specs.Warnings.{counts_ticks, in_block, in_cleanup, in_handler, in_job};
 
-use job_grammar::Format;
+use job_reader::Format;
 
 // What encloses a block.
 #[derive(Clone, Copy)]

@@ -1,7 +1,7 @@
 ghost use Rattle.std.specs.Prelude.{◌≡◌, ℕ, List, [], None, length};
 ghost use Rattle.job_tree.specs.Tree.{Tree};
 ghost use Rattle.job_tokens.specs.declared.token.Token.{Token};
-ghost use Rattle.job_grammar.specs.Refusals.{Spells, HasTokens};
+ghost use Rattle.job_reader.specs.Refusals.{Spells, HasTokens};
 ghost use Rattle.job_lint.specs.Openings.{openings_of, opening_places, numbered_in};
 ghost use Rattle.job_lint.specs.Warnings.{job_warnings};
 ghost use Rattle.job_lint.specs.Fitting.{opening_keywords, keywords_of, AllStandAtKeywords};

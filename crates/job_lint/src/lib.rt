@@ -4,7 +4,7 @@
 //! run, cleanups that wait without a shield or that raise, shields in which nothing outside can cancel a wait, scopes that
 //! nothing cancels, handlers of exceptions that nothing raises, events that nothing sets or waits for, and cancellations that
 //! come later than in Trio. Each place is that of the keyword in the text which the warning is about (`specs/Openings.antt`,
-//! `laws.rt`). The crate uses `job_grammar` for the job that a text spells and `job_tokens` for the places.
+//! `laws.rt`). The crate uses `job_reader` for the job that a text spells and `job_tokens` for the places.
 #![tactic(auto)]
 
 mod around;

@@ -1,7 +1,7 @@
 ghost use Rattle.std.specs.Prelude.{ℕ, Err, IfOk, IfErr, MatchResult};
 ghost use Rattle.job_tree.specs.Tree.{Tree};
-ghost use Rattle.job_grammar.specs.declared.fault.JobKind.{JobKind};
-ghost use Rattle.job_grammar.specs.Refusals.{Spells, IsRefused, IsFair, AnswersUnlessMemory};
+ghost use Rattle.job_reader.specs.declared.fault.JobKind.{JobKind};
+ghost use Rattle.job_reader.specs.Refusals.{Spells, IsRefused, IsFair, AnswersUnlessMemory};
 ghost use Rattle.job_lint.specs.Linted.{AreWarnings, IsOkUnlessMemory};
 
 use crate::around::in_job;
@@ -10,7 +10,7 @@ use crate::opened::Opened;
 use crate::opening::opening_places;
 use crate::walk::walk_steps;
 use crate::warning::Warning;
-use job_grammar::{Job, JobFault, read_job, spelled_tokens};
+use job_reader::{Job, JobFault, read_job, spelled_tokens};
 use std::alloc::{AllocError, Global};
 
 /// Returns the probable mistakes in the job that a text spells, in the order of the keywords that they are about. If the text

@@ -1,5 +1,5 @@
 ghost use Rattle.std.specs.Prelude.{◌≡◌};
-ghost use Rattle.job_checks.specs.Given.{is_among};
+ghost use Rattle.job_reader.specs.Given.{is_among};
 ghost use Rattle.job_lint.specs.Opened.{names_opened};
 
 use job_tree::Name;

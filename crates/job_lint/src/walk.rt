@@ -15,7 +15,7 @@ use job_tree::{Body, Handler, Step};
 use std::alloc::AllocError;
 
 // Each of these functions appends the warnings of a part of a job. `number` is the number of the first keyword of the part, and
-// `places` are the places of all keywords. The result is the number of the first keyword after the part.
+// `basics` are the places of all keywords. The result is the number of the first keyword after the part.
 
 // Appends the warnings of the steps of a block.
 #[cycle(walking)]

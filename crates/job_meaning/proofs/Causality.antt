@@ -3,11 +3,12 @@ use Rattle.std.proofs.Common.{◌≡◌, ℕ, zero, suc, ◌<◌, ◌≤◌, ◌
 use Rattle.std.proofs.lemmas.Bool.{true≢false, le-ltb, cases_lt}
 use Rattle.std.proofs.lemmas.Bool.Decides.{nat_tests}
 use Rattle.job_tree.specs.Tree.{Step, sleep, checkpoint, forever, pace, find, head, longest, need, raise, cancel, set_event, wait_for, scope, nursery, event, start, repeat, attempt, Steps, stop, step, Handled, unhandled, except, Cleaned, uncleaned, finally}
-use Rattle.exc_groups.specs.Exceptions.{Label, Exc, cancelled, by_nursery, group_of, parts_of}
-use Rattle.exc_groups.specs.Split.{Wanted, keep, drop}
+use Rattle.exceptions.specs.Exceptions.{Label, Exc, cancelled, by_nursery, group_of, parts_of}
+use Rattle.exceptions.specs.Split.{Wanted, keep, drop}
 use Rattle.cancel_scopes.specs.Sight.{Tick, Level, earlier, sight, seen, is_reached, catches}
 use Rattle.job_meaning.specs.Log.{Log, nil, entry, waited, entered, followed_by, Member, Result}
-use Rattle.job_meaning.specs.Moments.{Clock, tick_of, a_round_after, wakes_at, gives_up_at, far, Now, only_at}
+use Rattle.job_meaning.specs.Moments.{tick_of, a_round_after, wakes_at, gives_up_at, far, Now, only_at}
+use Rattle.job_meaning.specs.declared.clock.Clock.{Clock}
 use Rattle.job_meaning.proofs.MomentLemmas.{round_after, wakes_after, gives_up_after}
 use Rattle.job_meaning.specs.Walk.{Levels, Stack, Mode, two_walks, by_table, Here, walk, walk_step, walk_handler, walk_cleanup, done_at, raised_at, now_of, in_sequence, and_then, then_if, wait_by_sight, sleep_result, pace_result, wait_until, set_moment, wait_by, with_line_if, with_line, event_wait, cancel_result, set_result, is_among, from_for, stack_for, label_on, Kind, from_of, block, event_block, event_result, exit_with_from, left_with, left_as, exc_after, stack_inside, stack_in_event, with_sign, sign_if, home_of, latest, with_exc, excs_of, nursery_result, child, each, passes, handler_result, handler_for, handler_if_any, handler_exc, with_outcome, outcome_after, cleanup_result}
 use Rattle.job_meaning.specs.Before.{upto, NearLevels, Near, Agree, soon, later, known_members, log_before, exc_if, entered_if, task_if}

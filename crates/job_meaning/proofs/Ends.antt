@@ -10,14 +10,16 @@ use Rattle.job_tree.specs.Formats.{most_steps}
 use Rattle.job_tree.specs.declared.format.Format.{Format}
 use Rattle.job_tree.specs.declared.format.Format.TheVariants.{One, Two, Three}
 use Rattle.job_tree.specs.Names.{size_of, size_in, handled_size, cleaned_size}
-use Rattle.buffer_parts.specs.Lines.{Range, Span, bytes_of}
-use Rattle.buffer_parts.proofs.JoinLemmas.{length-lines_from}
-use Rattle.line_kernels.specs.Kernels.{count_in}
-use Rattle.exc_groups.specs.Exceptions.{Label, Exc, cancelled}
-use Rattle.exc_groups.specs.Split.{Wanted, keep, drop}
+use Rattle.input_lines.specs.Lines.{Range, Span, bytes_of}
+use Rattle.input_lines.proofs.JoinLemmas.{length-lines_from}
+use Rattle.input_lines.specs.Kernels.{count_in}
+use Rattle.exceptions.specs.Exceptions.{Label, Exc, cancelled}
+use Rattle.exceptions.specs.Split.{Wanted, keep, drop}
 use Rattle.cancel_scopes.specs.Sight.{Tick, Level, sight}
 use Rattle.job_meaning.specs.Log.{Member, Result}
-use Rattle.job_meaning.specs.Moments.{Clock, by_ticks, by_rounds, clock_of, tick_of, a_round_after, wakes_at, gives_up_at, Now, only_at, far}
+use Rattle.job_meaning.specs.Moments.{clock_of, tick_of, a_round_after, wakes_at, gives_up_at, Now, only_at, far}
+use Rattle.job_meaning.specs.declared.clock.Clock.{Clock}
+use Rattle.job_meaning.specs.declared.clock.Clock.TheVariants.{ByTicks as by_ticks, ByRounds as by_rounds}
 use Rattle.job_meaning.specs.Meaning.{meaning, root_walk, root_here}
 use Rattle.job_meaning.specs.Laws.{EndsByTheLastTick}
 use Rattle.job_meaning.specs.Walk.{Stack, no_stack, Mode, two_walks, Here, walk, walk_step, walk_handler, walk_cleanup, done_at, raised_at, now_of, in_sequence, and_then, then_if, wait_by_sight, sleep_result, pace_result, wait_until, set_moment, wait_by, with_line_if, with_line, event_wait, pace_ticks, lines_result, raise_result, need_result, cancel_result, set_result, Kind, from_of, block, event_block, with_sign, latest, nursery_result, child, each, passes, handler_result, handler_for, handler_if_any, cleanup_result}

@@ -1,6 +1,6 @@
 -- When a table fits a log, and how that passes to the parts of the log.
 use Rattle.std.proofs.Common.{◌≡◌, ℕ, ◌+◌, ◌≤◌, min, Option, Some, None, refl, ap, sym, ◌∙◌, ◌⊎◌, inl, inr, arith}
-use Rattle.exc_groups.specs.Exceptions.{Label}
+use Rattle.exceptions.specs.Exceptions.{Label}
 use Rattle.cancel_scopes.specs.Sight.{Tick, earlier}
 use Rattle.job_meaning.specs.Log.{Log, followed_by, Result, least_sign, deadline_of, either, from_by, Table, table_of, entered_from}
 use Rattle.job_meaning.specs.Walk.{Stack}

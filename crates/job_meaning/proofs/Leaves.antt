@@ -1,8 +1,8 @@
 -- Which exceptions hold a `Cancelled`, when they are split, grouped or left.
 use Rattle.std.proofs.Common.{◌≡◌, ℕ, Bool, true, false, ◌||◌, ◌&&◌, not, Option, Some, None, List, refl, sym, ◌∙◌, IsTrue, arith}
 use Rattle.std.proofs.lemmas.Bool.{false≢true}
-use Rattle.exc_groups.specs.Exceptions.{Label, Whose, Exc, cancelled, raised, too_slow, group, Excs, no_parts, part, parts_of, group_of, holds_cancelled, hold_cancelled}
-use Rattle.exc_groups.specs.Split.{is_cancelled, matches, drop, pruned_exc, pruned_parts, with_part, leaf_if}
+use Rattle.exceptions.specs.Exceptions.{Label, Whose, Exc, cancelled, raised, too_slow, group, Excs, no_parts, part, parts_of, group_of, holds_cancelled, hold_cancelled}
+use Rattle.exceptions.specs.Split.{is_cancelled, matches, drop, pruned_exc, pruned_parts, with_part, leaf_if}
 use Rattle.job_meaning.specs.Walk.{Kind, a_scope, a_nursery, left_with, slow_if, exc_after, with_exc}
 use Rattle.job_meaning.specs.Laws.{some_cancelled}
 

@@ -1,6 +1,8 @@
 -- When waits end, in either clock.
 use Rattle.std.proofs.Common.{ℕ, zero, suc, ◌≤◌, arith}
-use Rattle.job_meaning.specs.Moments.{Clock, by_ticks, by_rounds, a_round_after, wakes_at, gives_up_at}
+use Rattle.job_meaning.specs.Moments.{a_round_after, wakes_at, gives_up_at}
+use Rattle.job_meaning.specs.declared.clock.Clock.{Clock}
+use Rattle.job_meaning.specs.declared.clock.Clock.TheVariants.{ByTicks as by_ticks, ByRounds as by_rounds}
 
 pub round_after : (clock : Clock) (m : ℕ) → m ≤ a_round_after clock m
 round_after by_ticks m = omega arith

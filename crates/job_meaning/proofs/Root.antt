@@ -3,12 +3,14 @@ use Rattle.std.proofs.Common.{◌≡◌, ℕ, zero, suc, ◌≤◌, max, Bool, t
 use Rattle.std.proofs.lemmas.Bool.{false≢true, or_cases}
 use Rattle.std.proofs.lemmas.Bool.Decides.{nat_tests}
 use Rattle.job_tree.specs.Tree.{Step, sleep, checkpoint, forever, pace, find, head, longest, need, raise, cancel, set_event, wait_for, scope, nursery, event, start, repeat, attempt, Steps, stop, step, Handled, unhandled, except, Cleaned, uncleaned, finally}
-use Rattle.buffer_parts.specs.Lines.{Span}
-use Rattle.exc_groups.specs.Exceptions.{Label, Exc, cancelled, hold_cancelled, parts_of, holds_cancelled, by_nursery}
-use Rattle.exc_groups.specs.Split.{Wanted, keep, drop}
+use Rattle.input_lines.specs.Lines.{Span}
+use Rattle.exceptions.specs.Exceptions.{Label, Exc, cancelled, hold_cancelled, parts_of, holds_cancelled, by_nursery}
+use Rattle.exceptions.specs.Split.{Wanted, keep, drop}
 use Rattle.cancel_scopes.specs.Sight.{Tick, Level, sight, seen, is_reached, catches}
 use Rattle.job_meaning.specs.Log.{Member, Result}
-use Rattle.job_meaning.specs.Moments.{Clock, by_ticks, a_round_after, wakes_at, gives_up_at, tick_of, Now, only_at}
+use Rattle.job_meaning.specs.Moments.{a_round_after, wakes_at, gives_up_at, tick_of, Now, only_at}
+use Rattle.job_meaning.specs.declared.clock.Clock.{Clock}
+use Rattle.job_meaning.specs.declared.clock.Clock.TheVariants.{ByTicks as by_ticks}
 use Rattle.job_meaning.specs.Walk.{Levels, Stack, no_stack, Mode, Here, walk, walk_step, walk_handler, walk_cleanup, done_at, raised_at, now_of, in_sequence, and_then, then_if, wait_by_sight, sleep_result, pace_result, wait_until, set_moment, wait_by, with_line_if, with_line, event_wait, lines_result, raise_result, need_result, with_own, cancel_result, set_result, from_for, stack_for, Kind, from_of, block, event_block, stack_inside, stack_in_event, left_with, exc_after, with_sign, latest, with_exc, excs_of, nursery_result, child, each, passes, handler_result, handler_for, handler_if_any, handler_exc, cleanup_result, outcome_after}
 use Rattle.job_meaning.specs.Meaning.{root_walk, root_here}
 use Rattle.job_meaning.specs.Laws.{some_cancelled, CancelledIsSeen, NoneReachesTheRoot}

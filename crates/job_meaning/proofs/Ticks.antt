@@ -1,7 +1,7 @@
 -- Ticks that may never come, and what a stack sees.
 use Rattle.std.proofs.Common.{◌≡◌, ℕ, ◌≤◌, Bool, true, false, ◌||◌, ◌&&◌, not, Some, None, [], ◌∷◌, refl, IsTrue, arith, nat_le, if◌then◌else◌}
 use Rattle.std.proofs.lemmas.Bool.Decides.{nat_tests}
-use Rattle.exc_groups.specs.Exceptions.{Label}
+use Rattle.exceptions.specs.Exceptions.{Label}
 use Rattle.cancel_scopes.specs.Sight.{Tick, earlier, is_reached, Level, sight, seen}
 use Rattle.job_meaning.specs.Walk.{Levels}
 use Rattle.job_meaning.specs.Laws.{AtMost, StaysSeen, LoweringShows}

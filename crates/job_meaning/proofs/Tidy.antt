@@ -5,12 +5,13 @@ use Rattle.std.proofs.lemmas.List.{append-nil}
 use Rattle.std.specs.Str.{bytes_eq}
 use Rattle.job_tree.specs.Tree.{Step, sleep, checkpoint, forever, pace, find, head, longest, need, raise, cancel, set_event, wait_for, scope, nursery, event, start, repeat, attempt, Steps, stop, step, Handled, unhandled, except, Cleaned, uncleaned, finally}
 use Rattle.job_tree.specs.Names.{names_of, names_in, handled_names, cleaned_names}
-use Rattle.buffer_parts.specs.Lines.{Range, Span}
-use Rattle.exc_groups.specs.Exceptions.{Label, Exc, cancelled}
-use Rattle.exc_groups.specs.Split.{Wanted, keep, drop}
+use Rattle.input_lines.specs.Lines.{Range, Span}
+use Rattle.exceptions.specs.Exceptions.{Label, Exc, cancelled}
+use Rattle.exceptions.specs.Split.{Wanted, keep, drop}
 use Rattle.cancel_scopes.specs.Sight.{Tick, Level, sight, catches}
 use Rattle.job_meaning.specs.Log.{Log, nil, entry, followed_by, Result}
-use Rattle.job_meaning.specs.Moments.{Clock, a_round_after, Now, only_at}
+use Rattle.job_meaning.specs.Moments.{a_round_after, Now, only_at}
+use Rattle.job_meaning.specs.declared.clock.Clock.{Clock}
 use Rattle.job_meaning.specs.Walk.{Levels, Stack, Mode, Here, walk, walk_step, walk_handler, walk_cleanup, done_at, raised_at, now_of, in_sequence, and_then, then_if, wait_by_sight, sleep_result, pace_result, wait_until, set_moment, wait_by, with_line_if, with_line, event_wait, log_of_lines, lines_result, raise_result, need_result, from_for, stack_for, label_on, label_if, sign_of, cancel_result, set_result, Kind, from_of, block, event_block, event_result, stack_in_event, exit_with_from, left_as, left_with, stack_inside, with_sign, sign_if, home_of, nursery_result, child, each, passes, handler_result, handler_for, handler_if_any, cleanup_result, label_here, label_over, here_in, in_pass}
 use Rattle.job_meaning.proofs.Distinct.{among_left, among_right, Belongs, belongs_in, belongs_after, OnLevels, OnStack}
 use Rattle.job_meaning.proofs.Touched.{Gives, Signs, gives_followed, gives_first, gives_second, signs_followed}

@@ -1,7 +1,7 @@
 -- Which labels a log gives and signs, and what its deadlines and first signs are then.
 use Rattle.std.proofs.Common.{◌≡◌, ℕ, Bool, true, false, Option, Some, None, refl, ap, ◌∙◌, ◌⊎◌, inl, inr, nat_lt, if◌then◌else◌, arith}
 use Rattle.std.proofs.lemmas.Bool.Decides.{nat_tests}
-use Rattle.exc_groups.specs.Exceptions.{Label}
+use Rattle.exceptions.specs.Exceptions.{Label}
 use Rattle.cancel_scopes.specs.Sight.{Tick, earlier}
 use Rattle.job_meaning.specs.Log.{Log, nil, entry, sign, entered, task, followed_by, least_sign, tick_if, deadline_of, deadline_if, either, same_label}
 use Rattle.job_meaning.proofs.Distinct.{same_label_equal}

@@ -1,7 +1,7 @@
 -- What a task requests from the lines of its part, the answer, and what the task does with it.
 use Rattle.std.specs.Prelude.{ℕ, Option, Some, None, List, [], ◌∷◌}
-use Rattle.buffer_parts.specs.Lines.{Span}
-use Rattle.line_kernels.specs.Kernels.{found_in, head_of, longest_in, needed_in, count_in}
+use Rattle.input_lines.specs.Lines.{Span}
+use Rattle.input_lines.specs.Kernels.{found_in, head_of, longest_in, needed_in, count_in}
 use Rattle.job_meaning.specs.Log.{Result}
 use Rattle.job_meaning.specs.Moments.{Now}
 use Rattle.job_meaning.specs.Walk.{Stack, Here, done_at, pace_ticks, lines_result, pace_result, raise_result}

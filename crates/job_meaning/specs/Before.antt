@@ -1,6 +1,6 @@
 -- What is known of a walk before a tick c, and when two stacks or two walks agree in those ticks.
 use Rattle.std.specs.Prelude.{◌≡◌, ℕ, ◌<◌, ◌≤◌, Bool, true, false, Option, Some, None, List, [], ◌∷◌, min, nat_lt}
-use Rattle.exc_groups.specs.Exceptions.{Label, Exc}
+use Rattle.exceptions.specs.Exceptions.{Label, Exc}
 use Rattle.cancel_scopes.specs.Sight.{Tick}
 use Rattle.job_meaning.specs.Log.{Entry, Log, nil, entry, sign, entered, task, Member, Result}
 use Rattle.job_meaning.specs.Walk.{Levels, Stack}

@@ -3,7 +3,7 @@ use Rattle.std.specs.Prelude.{â„•, true, false, Option, None, Some, List, [], â—
 use Rattle.job_tree.specs.declared.deadline.Deadline.TheVariants.{Never, After, At}
 use Rattle.job_tree.specs.declared.format.Format.TheVariants.{Two}
 use Rattle.job_tree.specs.Tree.{Step, scope, nursery, event, start, repeat, attempt, Steps, stop, step, unhandled, except, uncleaned, finally, Tree}
-use Rattle.exc_groups.specs.Exceptions.{Label, by_nursery, by_handler, Exc, raised, group, parts_of}
+use Rattle.exceptions.specs.Exceptions.{Label, by_nursery, by_handler, Exc, raised, group, parts_of}
 use Rattle.job_meaning.specs.Log.{line, waited, scope_left, nursery_left}
 use Rattle.job_meaning.specs.Walk.{walk, and_then, sleep_result, pace_result, lines_result, raise_result, need_result, cancel_result, set_result, event_wait, block, event_block, with_sign, nursery_result, child, handler_result, cleanup_result}
 use Rattle.job_meaning.specs.Meaning.{Noted, Record, meaning, meaning_records, meaning_end, meaning_table}

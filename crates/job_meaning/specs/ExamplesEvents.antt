@@ -2,7 +2,7 @@
 use Rattle.std.specs.Prelude.{◌≡◌, false, None, Some, [], ◌∷◌, refl, codes}
 use Rattle.job_tree.specs.Tree.{sleep, checkpoint, set_event, wait_for, raise, cancel, nursery}
 use Rattle.job_tree.specs.declared.deadline.Deadline.TheVariants.{After}
-use Rattle.exc_groups.specs.Exceptions.{cancelled, raised}
+use Rattle.exceptions.specs.Exceptions.{cancelled, raised}
 use Rattle.job_meaning.specs.Log.{waited, nursery_left}
 use Rattle.job_meaning.specs.Examples.{block_of, event_of, repeat_of, nursery_of, start_of, start_over, timed_scope, label_named, label_at, scope_caught, nursery_caught, nursery_passed, waited_for, record_of, main_ran, group_by}
 use Rattle.job_meaning.specs.ExamplesRounds.{records_by_rounds}

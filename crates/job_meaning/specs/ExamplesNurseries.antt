@@ -1,7 +1,7 @@
 -- Worked examples on nurseries, their children and exception groups, each a theorem by computing.
 use Rattle.std.specs.Prelude.{◌≡◌, None, Some, [], ◌∷◌, refl, codes}
 use Rattle.job_tree.specs.Tree.{sleep, checkpoint, forever, find, raise, cancel}
-use Rattle.exc_groups.specs.Exceptions.{cancelled}
+use Rattle.exceptions.specs.Exceptions.{cancelled}
 use Rattle.job_meaning.specs.Examples.{scope_of, fail_scope, nursery_of, start_of, start_over, try_except, try_finally, label_named, label_at, raised_by, group_by, handler_group, scope_caught, nursery_caught, nursery_passed, record_of, main_ran, run_of}
 
 -- nursery n { start p over 3 { find "x"; } }

@@ -3,7 +3,7 @@ use Rattle.std.specs.Prelude.{◌≡◌, ℕ, Bool, true, false, None, Some, Lis
 use Rattle.job_tree.specs.declared.deadline.Deadline.{Deadline}
 use Rattle.job_tree.specs.declared.deadline.Deadline.TheVariants.{Never, After}
 use Rattle.job_tree.specs.Tree.{Step, sleep, checkpoint, forever, raise, nursery, repeat}
-use Rattle.exc_groups.specs.Exceptions.{Label, cancelled}
+use Rattle.exceptions.specs.Exceptions.{Label, cancelled}
 use Rattle.job_meaning.specs.Log.{scope_left, nursery_left}
 use Rattle.job_meaning.specs.Meaning.{Noted}
 use Rattle.job_meaning.specs.Examples.{block_of, timed_scope, nursery_of, start_of, start_over, label_named, label_at, raised_by, scope_caught, scope_passed, nursery_caught, nursery_passed, record_of, main_ran, run_of}

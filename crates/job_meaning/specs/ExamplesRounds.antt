@@ -2,9 +2,10 @@
 -- and where two tasks fail in one round, it has several outcomes.
 use Rattle.std.specs.Prelude.{◌≡◌, ℕ, None, Some, List, [], ◌∷◌, refl, codes}
 use Rattle.job_tree.specs.Tree.{Step, sleep, checkpoint, forever, pace, raise, cancel, repeat, attempt, except, finally}
-use Rattle.exc_groups.specs.Exceptions.{cancelled}
+use Rattle.exceptions.specs.Exceptions.{cancelled}
 use Rattle.job_meaning.specs.Log.{Result, nil, task}
-use Rattle.job_meaning.specs.Moments.{by_rounds, tick_of, only_at}
+use Rattle.job_meaning.specs.Moments.{tick_of, only_at}
+use Rattle.job_meaning.specs.declared.clock.Clock.TheVariants.{ByRounds as by_rounds}
 use Rattle.job_meaning.specs.Walk.{two_walks, no_stack, walk, and_then, sleep_result, pace_result, lines_result, raise_result, need_result, cancel_result, set_result, event_wait, block, event_block, with_sign, nursery_result, child, handler_result, cleanup_result}
 use Rattle.job_meaning.specs.Meaning.{Record, records_of}
 use Rattle.job_meaning.specs.Examples.{block_of, scope_of, timed_scope, scope_at, fail_scope, timed_shield, nursery_of, start_of, try_except, try_finally, label_named, raised_by, group_by, scope_caught, scope_passed, nursery_caught, nursery_passed, record_of, main_ran}

@@ -1,7 +1,7 @@
 -- Worked examples on scopes, deadlines, shields and cancellation, each a theorem by computing.
 use Rattle.std.specs.Prelude.{◌≡◌, None, Some, [], ◌∷◌, refl, codes}
 use Rattle.job_tree.specs.Tree.{sleep, checkpoint, forever, find, raise, cancel}
-use Rattle.exc_groups.specs.Exceptions.{too_slow}
+use Rattle.exceptions.specs.Exceptions.{too_slow}
 use Rattle.job_meaning.specs.Examples.{scope_of, timed_scope, scope_at, fail_scope, shielded_scope, timed_shield, try_except, try_finally, label_named, raised_by, line_at, scope_caught, scope_passed, main_ran, run_of, end_of, followed_end_of}
 
 -- scope s after 5 { sleep 5; }

@@ -1,7 +1,7 @@
 -- Following a table, and when a table is settled.
 use Rattle.std.specs.Prelude.{◌≡◌, ℕ, List}
 use Rattle.job_tree.specs.Tree.{Tree}
-use Rattle.exc_groups.specs.Exceptions.{Label}
+use Rattle.exceptions.specs.Exceptions.{Label}
 use Rattle.job_meaning.specs.Log.{Result, Table, table_of}
 use Rattle.job_meaning.specs.Walk.{by_table}
 use Rattle.job_meaning.specs.Meaning.{root_walk}

@@ -5,9 +5,10 @@ use Rattle.job_tree.specs.Tree.{Steps, Tree}
 use Rattle.job_tree.specs.Formats.{in_format}
 use Rattle.job_tree.specs.Names.{GivesNamesOnce}
 use Rattle.job_tree.specs.InRange.{IsInRange}
-use Rattle.exc_groups.specs.Exceptions.{Label, Exc, holds_cancelled}
+use Rattle.exceptions.specs.Exceptions.{Label, Exc, holds_cancelled}
 use Rattle.cancel_scopes.specs.Sight.{Tick, seen}
-use Rattle.job_meaning.specs.Moments.{by_ticks, clock_of, Now, only_at}
+use Rattle.job_meaning.specs.Moments.{clock_of, Now, only_at}
+use Rattle.job_meaning.specs.declared.clock.Clock.TheVariants.{ByTicks as by_ticks}
 use Rattle.job_meaning.specs.Walk.{Levels, Stack, Mode, Here, walk}
 use Rattle.job_meaning.specs.Log.{Table, times_given}
 use Rattle.job_meaning.specs.Meaning.{root_walk, root_log, meaning, meaning_table, meaning_records, meaning_end, meaning_froms}

@@ -1,3 +1,4 @@
+pub mod Clocks
 pub mod Log
 pub mod Moments
 pub mod Walk

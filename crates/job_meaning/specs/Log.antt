@@ -1,8 +1,8 @@
 -- What a walk results in: its end, its exception, and the log of what was done on the way.
 use Rattle.std.specs.Prelude.{ℕ, ◌+◌, Bool, true, false, if◌then◌else◌, Option, Some, None, List}
-use Rattle.buffer_parts.specs.Lines.{Span}
-use Rattle.exc_groups.specs.Exceptions.{Label, Exc}
-pub use Rattle.exc_groups.specs.Labels.{same_label}
+use Rattle.input_lines.specs.Lines.{Span}
+use Rattle.exceptions.specs.Exceptions.{Label, Exc}
+pub use Rattle.exceptions.specs.Labels.{same_label}
 use Rattle.cancel_scopes.specs.Sight.{Tick, earlier, next}
 
 -- what a task notes: a line that it borrowed, the scopes and nurseries that it left, with whether they caught, and the events

@@ -1,10 +1,11 @@
 -- The meaning of a job over an input: one thread's walk of its tree, and the records of that walk.
 use Rattle.std.specs.Prelude.{ℕ, Option, List, [], ◌∷◌, ◌++◌, length}
 use Rattle.job_tree.specs.Tree.{Tree}
-use Rattle.exc_groups.specs.Exceptions.{Label, Exc}
+use Rattle.exceptions.specs.Exceptions.{Label, Exc}
 use Rattle.cancel_scopes.specs.Sight.{Tick}
 use Rattle.job_meaning.specs.Log.{Entry, Log, nil, entry, sign, entered, task, Result, Table, table_of}
-use Rattle.job_meaning.specs.Moments.{Clock, clock_of, tick_of, only_at}
+use Rattle.job_meaning.specs.Moments.{clock_of, tick_of, only_at}
+use Rattle.job_meaning.specs.declared.clock.Clock.{Clock}
 use Rattle.job_meaning.specs.Walk.{Mode, two_walks, Here, no_stack, walk}
 
 -- an entry with its tick

@@ -1,9 +1,7 @@
--- Moments, as the crate `moments` counts them, and where a task is in time.
+-- Moments, as `Clocks` counts them, and where a task is in time.
 use Rattle.std.specs.Prelude.{ℕ, List, []}
-use Rattle.exc_groups.specs.Exceptions.{Label}
-pub use Rattle.moments.specs.declared.clock.Clock.{Clock}
-pub use Rattle.moments.specs.declared.clock.Clock.TheVariants.{ByTicks as by_ticks, ByRounds as by_rounds}
-pub use Rattle.moments.specs.Moments.{clock_of, rounds_in_a_tick, tick_of, start_of, a_round_after, far, wakes_at, gives_up_at, due}
+use Rattle.exceptions.specs.Exceptions.{Label}
+pub use Rattle.job_meaning.specs.Clocks.{clock_of, rounds_in_a_tick, tick_of, start_of, a_round_after, far, wakes_at, gives_up_at, due}
 
 -- where a task is in time: a moment, and what it has cancelled itself in this moment
 pub record Now : Type 0 where

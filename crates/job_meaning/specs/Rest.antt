@@ -2,10 +2,11 @@
 use Rattle.std.specs.Prelude.{ℕ, zero, suc, ◌+◌, ◌*◌, Bool, true, false, Option, List, [], ◌∷◌, ◌++◌}
 use Rattle.job_tree.specs.Tree.{Steps, Handled, Cleaned}
 use Rattle.job_tree.specs.Names.{size_of, handled_size, cleaned_size}
-use Rattle.exc_groups.specs.Exceptions.{Label, Exc, cancelled}
+use Rattle.exceptions.specs.Exceptions.{Label, Exc, cancelled}
 use Rattle.cancel_scopes.specs.Sight.{Tick, Level, catches}
 use Rattle.job_meaning.specs.Log.{Entry, Log, nil, entry, sign, entered, task, followed_by, Member, Result}
-use Rattle.job_meaning.specs.Moments.{Clock, tick_of, Now, only_at}
+use Rattle.job_meaning.specs.Moments.{tick_of, Now, only_at}
+use Rattle.job_meaning.specs.declared.clock.Clock.{Clock}
 use Rattle.job_meaning.specs.Walk.{label_over, in_pass, passes, Levels, Stack, Mode, Here, walk, walk_handler, walk_cleanup, done_at, raised_at, and_then, sleep_result, pace_result, event_wait, event_on, from_for, stack_for, Kind, a_scope, a_nursery, left_as, Left, left_with, exc_after, with_sign, nursery_result, handler_exc, outcome_after, with_outcome}
 use Rattle.job_meaning.specs.Asking.{Kernel, answer_of, Purpose, shows, needs, paces, answer_result}
 

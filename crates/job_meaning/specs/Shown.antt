@@ -1,8 +1,8 @@
 -- What a reader is shown of a job's meaning: records whose lines have their bytes.
 use Rattle.std.specs.Prelude.{ℕ, Bool, Option, Some, None, List, map}
 use Rattle.job_tree.specs.Tree.{Tree}
-use Rattle.buffer_parts.specs.Lines.{text_of}
-use Rattle.exc_groups.specs.Exceptions.{Label, Exc, cancelled, raised, too_slow, group}
+use Rattle.input_lines.specs.Lines.{text_of}
+use Rattle.exceptions.specs.Exceptions.{Label, Exc, cancelled, raised, too_slow, group}
 use Rattle.job_meaning.specs.Log.{Entry, line, waited, scope_left, nursery_left}
 use Rattle.job_meaning.specs.Meaning.{Noted, Record, meaning_records}
 

@@ -2,14 +2,16 @@
 use Rattle.std.specs.Prelude.{ℕ, zero, suc, ◌+◌, ◌-◌, ◌/◌, Bool, true, false, ◌&&◌, ◌||◌, Option, Some, None, List, [], ◌∷◌, ◌++◌, nat_le, nat_lt, min, max, if◌then◌else◌}
 use Rattle.std.specs.Str.{bytes_eq}
 use Rattle.job_tree.specs.Tree.{Step, sleep, checkpoint, forever, pace, find, head, longest, need, raise, cancel, set_event, wait_for, scope, nursery, event, start, repeat, attempt, Steps, stop, step, Handled, unhandled, except, Cleaned, uncleaned, finally}
-use Rattle.buffer_parts.specs.Lines.{Range, Span}
-use Rattle.buffer_parts.specs.Cuts.{cut_of}
-use Rattle.line_kernels.specs.Kernels.{found_in, head_of, longest_in, needed_in, count_in}
-use Rattle.exc_groups.specs.Exceptions.{Label, by_nursery, by_handler, Exc, cancelled, raised, too_slow, group, no_parts, part, parts_of, group_of, holds_cancelled}
-use Rattle.exc_groups.specs.Split.{Wanted, named, is_cancelled, keep, drop}
+use Rattle.input_lines.specs.Lines.{Range, Span}
+use Rattle.input_lines.specs.Cuts.{cut_of}
+use Rattle.input_lines.specs.Kernels.{found_in, head_of, longest_in, needed_in, count_in}
+use Rattle.exceptions.specs.Exceptions.{Label, by_nursery, by_handler, Exc, cancelled, raised, too_slow, group, no_parts, part, parts_of, group_of, holds_cancelled}
+use Rattle.exceptions.specs.Split.{Wanted, named, is_cancelled, keep, drop}
 use Rattle.cancel_scopes.specs.Sight.{Tick, Level, earlier, sight, catches}
 use Rattle.job_meaning.specs.Log.{Entry, line, waited, scope_left, nursery_left, Log, nil, entry, sign, entered, task, followed_by, Member, Result, same_label, least_sign, from_by, Table}
-use Rattle.job_meaning.specs.Moments.{Clock, by_ticks, by_rounds, tick_of, a_round_after, wakes_at, gives_up_at, due, far, Now, only_at}
+use Rattle.job_meaning.specs.Moments.{tick_of, a_round_after, wakes_at, gives_up_at, due, far, Now, only_at}
+use Rattle.job_meaning.specs.declared.clock.Clock.{Clock}
+use Rattle.job_meaning.specs.declared.clock.Clock.TheVariants.{ByTicks as by_ticks, ByRounds as by_rounds}
 
 abbrev pub Levels : Type 0
 Levels = List (Level Label)

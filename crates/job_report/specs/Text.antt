@@ -1,8 +1,8 @@
 -- The text of a report.
 use Rattle.std.specs.Prelude.{ℕ, ◌/◌, ◌%◌, Bool, true, false, ◌&&◌, not, ◌==◌, nat_le, if◌then◌else◌, List, [], ◌∷◌, ◌++◌, length, codes, decimal}
 use Rattle.std.specs.List.{flat_map}
-use Rattle.digits.specs.Hex.{hex_digit}
-use Rattle.exc_text.specs.Texts.{label_text, exc_text}
+use Rattle.basics.specs.Hex.{hex_digit}
+use Rattle.exceptions.specs.Texts.{label_text, exc_text}
 use Rattle.job_meaning.specs.Shown.{Shown, line_shown, scope_shown, nursery_shown, wait_shown, Ending, well, by_cancellation, with_exception, Row}
 
 abbrev pub ending_text : Ending → List ℕ

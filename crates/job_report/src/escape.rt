@@ -2,7 +2,7 @@ ghost use Rattle.std.specs.Prelude.{◌≡◌, ◌++◌, [], ◌∷◌, OnOk, If
 ghost use Rattle.std.specs.List.{flat_map};
 ghost use Rattle.job_report.specs.Text.{byte_text, stands_for_itself};
 
-use digits::hex_digit;
+use basics::hex_digit;
 use std::alloc::AllocError;
 
 // Appends the bytes of a line as the report shows them; a run of bytes that are not escaped is

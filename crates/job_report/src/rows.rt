@@ -1,5 +1,5 @@
 ghost use Rattle.std.specs.Prelude.{◌≡◌, ◌++◌, [], ◌∷◌, IfOk, OnOk, take, map, length, decimal, codes};
-ghost use Rattle.buffer_parts.specs.Part.{span_of, line_text};
+ghost use Rattle.input_lines.specs.Part.{span_of, line_text};
 ghost use Rattle.job_meaning.specs.Shown.{line_shown};
 ghost use Rattle.std.specs.List.{flat_map};
 ghost use Rattle.task_machine.specs.Noted.{entry_of};
@@ -7,9 +7,9 @@ ghost use Rattle.task_table.specs.Records.{ending_in, row_in};
 ghost use Rattle.job_report.specs.Text.{shown_text, ending_text, row_text, caught_text};
 
 use crate::escape::push_escaped;
-use buffer_parts::Line;
-use digits::push_number;
-use exc_text::{push_exc, push_label};
+use basics::push_number;
+use exceptions::{push_exc, push_label};
+use input_lines::Line;
 use job_runner::{Entry, Outcome, Record};
 use std::alloc::{AllocError, Global};
 

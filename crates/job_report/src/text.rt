@@ -4,7 +4,7 @@ ghost use Rattle.job_runner.specs.Runs.{name_of, rows_of};
 ghost use Rattle.job_report.specs.Text.{report_text, last_tick};
 
 use crate::rows::{push_rows, text_for};
-use digits::push_number;
+use basics::push_number;
 use job_runner::{Record, Run};
 use std::alloc::{AllocError, Global};
 

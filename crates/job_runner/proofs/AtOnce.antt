@@ -4,7 +4,9 @@ use Rattle.std.specs.Prelude.{IsSome}
 use Rattle.std.specs.Option.{ForSome}
 use Rattle.cancel_scopes.specs.Sight.{Tick, seen}
 use Rattle.cancel_scopes.specs.Tree.{Stack, Tree, stack_of, outer_of, IsOpen}
-use Rattle.job_meaning.specs.Moments.{Clock, by_ticks, by_rounds, far, tick_of, wakes_at}
+use Rattle.job_meaning.specs.Moments.{far, tick_of, wakes_at}
+use Rattle.job_meaning.specs.declared.clock.Clock.{Clock}
+use Rattle.job_meaning.specs.declared.clock.Clock.TheVariants.{ByTicks as by_ticks, ByRounds as by_rounds}
 use Rattle.run_refinement.proofs.OtherScopes.{open_stack, outer_is}
 use Rattle.task_machine.specs.Events.{wait_ends}
 use Rattle.task_machine.specs.Tasks.{scope_of}

@@ -10,8 +10,8 @@ use Rattle.batch_commit.specs.declared.entry.Call.TheVariants.{Begin, Due, Seen,
 use Rattle.batch_commit.specs.declared.entry.Entry.{Entry}
 use Rattle.batch_commit.specs.Batch.{Batches, HandsOut}
 use Rattle.batch_commit.specs.Entries.{AllPlaced, NonePlaced, answers_placed, request_in, requests_of, answers_after, with_placed, without_answer}
-use Rattle.line_kernels.specs.declared.answers.Answer.{Answer}
-use Rattle.scoped_workers.specs.Slots.{AreAnswers}
+use Rattle.input_lines.specs.declared.answers.Answer.{Answer}
+use Rattle.workers.specs.Slots.{AreAnswers}
 use Rattle.task_machine.specs.declared.stop.Wake.{Wake}
 use Rattle.run_refinement.specs.Ready.{MayGo}
 use Rattle.task_table.specs.declared.task_table.Running.{Running}

@@ -7,8 +7,8 @@ use Rattle.std.proofs.lemmas.Option.{none-some, same_Some}
 use Rattle.batch_commit.specs.declared.entry.Call.{Call}
 use Rattle.batch_commit.specs.declared.entry.Entry.{Entry}
 use Rattle.batch_commit.specs.Entries.{Added}
-use Rattle.exc_groups.specs.Held.{exc_of}
-use Rattle.exc_groups.specs.declared.exc.Exc as held
+use Rattle.exceptions.specs.Held.{exc_of}
+use Rattle.exceptions.specs.declared.exc.Exc as held
 use Rattle.job_meaning.specs.Follow.{IsSettled}
 use Rattle.job_meaning.specs.Log.{Table}
 use Rattle.job_meaning.specs.Moments.{tick_of}

@@ -6,7 +6,7 @@ use Rattle.batch_commit.specs.declared.entry.Call.{Call}
 use Rattle.batch_commit.specs.declared.entry.Call.TheVariants.{Begin, Due, Seen, Settled, Ask}
 use Rattle.batch_commit.specs.declared.entry.Entry.{Entry}
 use Rattle.batch_commit.specs.Entries.{requests_of}
-use Rattle.line_kernels.specs.declared.answers.Answer.{Answer}
+use Rattle.input_lines.specs.declared.answers.Answer.{Answer}
 use Rattle.interleavings.specs.Interleaving.{In}
 use Rattle.run_refinement.specs.Laws.{AreDistinct}
 use Rattle.run_refinement.proofs.FewTasks.{state_few}

@@ -8,10 +8,12 @@ use Rattle.batch_commit.specs.declared.entry.Call.TheVariants as calls
 use Rattle.batch_commit.specs.Entries.{wake_of}
 use Rattle.cancel_scopes.specs.Sight.{is_reached, seen}
 use Rattle.cancel_scopes.specs.Tree.{outer_of}
-use Rattle.line_kernels.specs.declared.answers.Answer.{Answer}
-use Rattle.line_kernels.specs.declared.request.Request.{Request}
+use Rattle.input_lines.specs.declared.answers.Answer.{Answer}
+use Rattle.input_lines.specs.declared.request.Request.{Request}
 use Rattle.interleavings.specs.Woken.{SeesNow, IsOver}
-use Rattle.job_meaning.specs.Moments.{Clock, by_ticks, by_rounds, a_round_after, wakes_at}
+use Rattle.job_meaning.specs.Moments.{a_round_after, wakes_at}
+use Rattle.job_meaning.specs.declared.clock.Clock.{Clock}
+use Rattle.job_meaning.specs.declared.clock.Clock.TheVariants.{ByTicks as by_ticks, ByRounds as by_rounds}
 use Rattle.nursery_book.specs.Nursery.{Nursery, is_settled}
 use Rattle.nursery_book.specs.Book.{nursery_at, HasNursery}
 use Rattle.task_machine.specs.declared.stop.TaskState.{TaskState}

@@ -6,8 +6,8 @@ use Rattle.std.proofs.lemmas.Bool.{cases_lt, le-leb}
 use Rattle.std.proofs.lemmas.Bool.Decides.{leb_tells}
 use Rattle.std.proofs.lemmas.List.Elements.{All-nil}
 use Rattle.std.proofs.lemmas.Option.{same_Some, none-some}
-use Rattle.autojump_clock.specs.Clock.{now_of, limit_of, due_of, HasTimer, AllLater, IsNext}
-use Rattle.autojump_clock.specs.Clock as timers
+use Rattle.clock.specs.Clock.{now_of, limit_of, due_of, HasTimer, AllLater, IsNext}
+use Rattle.clock.specs.Clock as timers
 use Rattle.cancel_scopes.specs.Sight.{Tick, is_reached, seen, sight}
 use Rattle.cancel_scopes.specs.Tree.{outer_of}
 use Rattle.nursery_book.specs.Nursery.{Nursery, is_settled}
@@ -17,7 +17,9 @@ use Rattle.job_meaning.specs.Before.{upto}
 use Rattle.job_meaning.specs.Follow.{IsSettled}
 use Rattle.job_meaning.specs.Log.{Table}
 use Rattle.job_meaning.specs.Meaning.{meaning_end}
-use Rattle.job_meaning.specs.Moments.{Clock, by_rounds, clock_of, tick_of, a_round_after, wakes_at}
+use Rattle.job_meaning.specs.Moments.{clock_of, tick_of, a_round_after, wakes_at}
+use Rattle.job_meaning.specs.declared.clock.Clock.{Clock}
+use Rattle.job_meaning.specs.declared.clock.Clock.TheVariants.{ByRounds as by_rounds}
 use Rattle.job_meaning.specs.Rest.{Stopped, at_end}
 use Rattle.task_machine.specs.declared.stop.TaskState.{TaskState}
 use Rattle.task_machine.specs.declared.stop.TaskState.TheVariants.{ToBegin, Asked, Asleep, Waiting, GivingUp, Awaits, Over}
@@ -38,7 +40,7 @@ use Rattle.task_table.specs.declared.task_table.Running.{Running}
 use Rattle.job_runner.specs.declared.runner.Runner.{Runner}
 use Rattle.job_runner.specs.Jumps.{sight_asleep, sight_by, sight_in, Wakes, IsNextMoment, BeganBefore, Stayed, IsAnyNow, IsWaking}
 use Rattle.job_runner.specs.Limits.{last_of}
-use Rattle.sleepers.specs.Sleeping.{IsFirst}
+use Rattle.clock.specs.Sleeping.{IsFirst}
 use Rattle.task_table.specs.TaskTable.{running_at, task_of, gone_of, id_of, task_count, run_state, IsTaskTable}
 use Rattle.job_runner.specs.Shelves.{left_in, moment_of, IsCalledAdded, IsConsistent, IsAsleepIn, DozesIn, Stays, sleep_slot_of, wait_slot_of, timer_times, settled_times, task_state_times, running_times, times_shelved, state_in, IsUnderway}
 use Rattle.task_table.proofs.Times.{one_if}

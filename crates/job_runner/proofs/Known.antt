@@ -5,7 +5,7 @@ use Rattle.std.specs.Prelude.{◌⊎◌}
 use Rattle.std.specs.Option.{unwrap_or}
 use Rattle.std.proofs.lemmas.Bool.{cases_eq}
 use Rattle.std.proofs.lemmas.Option.{none-some, same_Some}
-use Rattle.autojump_clock.specs.Clock.{Clock, due_of, Updates}
+use Rattle.clock.specs.Clock.{Clock, due_of, Updates}
 use Rattle.cancel_scopes.specs.Sight.{Tick, sight}
 use Rattle.cancel_scopes.specs.Tree.{Stack, Tree, is_changed, outer_of}
 use Rattle.task_machine.specs.declared.stop.TaskState.{TaskState}
@@ -15,8 +15,8 @@ use Rattle.task_machine.specs.Labels.{Events}
 use Rattle.task_machine.specs.Tasks.{scope_of}
 use Rattle.task_machine.specs.Worlds.{event_at}
 use Rattle.run_refinement.specs.Sights.{Shows}
-use Rattle.sleepers.specs.Sleeping.{Sleeping, scope_in, sight_of, Moves, KeepsSights, SeesFrom}
-use Rattle.sleepers.specs.Waiting.{event_in, WaitsFor}
+use Rattle.clock.specs.Sleeping.{Sleeping, scope_in, sight_of, Moves, KeepsSights, SeesFrom}
+use Rattle.clock.specs.Waiting.{event_in, WaitsFor}
 use Rattle.task_table.specs.declared.task_table.TaskTable.{TaskTable}
 use Rattle.task_table.specs.declared.task_table.Running.{Running}
 use Rattle.task_table.specs.TaskTable.{running_at}

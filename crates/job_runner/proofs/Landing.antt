@@ -3,19 +3,21 @@
 use Rattle.std.proofs.Common.{◌≡◌, ◌≢◌, ℕ, suc, ◌<◌, ◌≤◌, ◌^◌, max, Option, Some, None, List, [], ◌∷◌, map, refl, ap, sym, ◌∙◌, arith}
 use Rattle.std.specs.Option.{option_map}
 use Rattle.std.proofs.lemmas.List.Elements.{All-map, All-nil}
-use Rattle.autojump_clock.specs.Clock as timers
-use Rattle.autojump_clock.specs.Clock.{now_of, limit_of, HasTimer, AllLater, JumpsTo, MeetsLimit}
+use Rattle.clock.specs.Clock as timers
+use Rattle.clock.specs.Clock.{now_of, limit_of, HasTimer, AllLater, JumpsTo, MeetsLimit}
 use Rattle.batch_commit.specs.declared.entry.Entry.{Entry}
 use Rattle.batch_commit.specs.Batch.{Batches}
 use Rattle.batch_commit.specs.Entries.{Added, NonePlaced, without_answer}
 use Rattle.cancel_scopes.specs.Sight.{Tick}
 use Rattle.job_meaning.specs.Meaning.{meaning_end}
-use Rattle.job_meaning.specs.Moments.{Clock, by_ticks, by_rounds, clock_of, tick_of}
+use Rattle.job_meaning.specs.Moments.{clock_of, tick_of}
+use Rattle.job_meaning.specs.declared.clock.Clock.{Clock}
+use Rattle.job_meaning.specs.declared.clock.Clock.TheVariants.{ByTicks as by_ticks, ByRounds as by_rounds}
 use Rattle.task_machine.specs.declared.task.Task.{Task}
 use Rattle.task_machine.specs.declared.world.World.{World}
 use Rattle.run_refinement.specs.RunState.{Gone}
 use Rattle.job_runner.specs.declared.runner.Phase.TheVariants as phases
-use Rattle.sleepers.specs.Sleeping.{IsFirst}
+use Rattle.clock.specs.Sleeping.{IsFirst}
 use Rattle.job_runner.specs.declared.runner.Runner.{Runner}
 use Rattle.job_runner.specs.Jumps.{IsNextMoment, IsPast, IsWaking, WakesOnly}
 use Rattle.job_runner.specs.Limits.{last_of}

@@ -6,7 +6,9 @@ use Rattle.job_tree.specs.Names.{size_of}
 use Rattle.job_tree.specs.Tree.{Tree}
 use Rattle.job_meaning.specs.declared.limits.TheConstants.{MAX_INPUT}
 use Rattle.job_meaning.specs.Meaning.{meaning, meaning_end, root_here, root_walk}
-use Rattle.job_meaning.specs.Moments.{Clock, by_ticks, by_rounds, clock_of, tick_of, only_at}
+use Rattle.job_meaning.specs.Moments.{clock_of, tick_of, only_at}
+use Rattle.job_meaning.specs.declared.clock.Clock.{Clock}
+use Rattle.job_meaning.specs.declared.clock.Clock.TheVariants.{ByTicks as by_ticks, ByRounds as by_rounds}
 use Rattle.job_meaning.specs.Walk.{two_walks, no_stack}
 use Rattle.job_meaning.proofs.Ends.{reach, span, ends_by}
 use Rattle.job_runner.specs.declared.fault.RunFault.{RunFault}

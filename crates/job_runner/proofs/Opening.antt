@@ -4,12 +4,13 @@ use Rattle.std.specs.Prelude.{All, ◌==◌}
 use Rattle.std.proofs.lemmas.Bool.Decides.{eqb_tells}
 use Rattle.std.proofs.lemmas.List.Elements.{All-cons, All-nil}
 use Rattle.std.proofs.lemmas.Option.{same_Some, none-some}
-use Rattle.autojump_clock.specs.Clock.{due_of, limit_of, now_of}
+use Rattle.clock.specs.Clock.{due_of, limit_of, now_of}
 use Rattle.batch_commit.specs.declared.entry.Call.TheVariants.{Begin}
 use Rattle.batch_commit.specs.declared.entry.Entry.{Entry}
 use Rattle.batch_commit.specs.Entries.{Added, NonePlaced, without_answer}
 use Rattle.job_meaning.specs.Log.{Table}
-use Rattle.job_meaning.specs.Moments.{Clock, clock_of}
+use Rattle.job_meaning.specs.Moments.{clock_of}
+use Rattle.job_meaning.specs.declared.clock.Clock.{Clock}
 use Rattle.job_meaning.specs.declared.limits.TheConstants.{MAX_INPUT}
 use Rattle.task_machine.specs.declared.task.Task.{Task}
 use Rattle.task_machine.specs.Worlds.{event_at}
@@ -17,8 +18,8 @@ use Rattle.run_refinement.specs.Begun.{IsNewWorld, IsRootTask}
 use Rattle.run_refinement.specs.RunState.{Refines}
 use Rattle.run_refinement.specs.Ready.{AreHomesOf}
 use Rattle.run_refinement.proofs.Begun.{state_begun}
-use Rattle.sleepers.specs.Sleeping.{scope_in}
-use Rattle.sleepers.specs.Waiting.{event_in}
+use Rattle.clock.specs.Sleeping.{scope_in}
+use Rattle.clock.specs.Waiting.{event_in}
 use Rattle.task_table.specs.declared.task_table.Running.{Running}
 use Rattle.job_runner.specs.declared.runner.Runner.{Runner}
 use Rattle.task_table.specs.TaskTable.{parent_of, running_at, task_of, HasRoot, IsTaskTable}

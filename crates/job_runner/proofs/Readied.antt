@@ -4,15 +4,17 @@ use Rattle.std.specs.Prelude.{All, IsSome, is_some, IsSomeAnd, ◌⊎◌, slice_
 use Rattle.std.specs.Option.{ForSome}
 use Rattle.std.proofs.lemmas.List.{append-nil, append_assoc, map-append}
 use Rattle.std.proofs.lemmas.List.Elements.{All-append, All-cons, All-nil}
-use Rattle.autojump_clock.specs.Clock.{due_of}
+use Rattle.clock.specs.Clock.{due_of}
 use Rattle.batch_commit.specs.declared.entry.Call.{Call}
 use Rattle.batch_commit.specs.Entries.{Added}
 use Rattle.batch_commit.specs.declared.entry.Call.TheVariants as calls
-use Rattle.job_meaning.specs.Moments.{Clock, by_ticks, by_rounds, a_round_after}
+use Rattle.job_meaning.specs.Moments.{a_round_after}
+use Rattle.job_meaning.specs.declared.clock.Clock.{Clock}
+use Rattle.job_meaning.specs.declared.clock.Clock.TheVariants.{ByTicks as by_ticks, ByRounds as by_rounds}
 use Rattle.nursery_book.specs.Nursery.{Nursery, is_settled}
 use Rattle.nursery_book.specs.Book.{nursery_at, HasNursery}
-use Rattle.sleepers.specs.Sleeping.{scope_in}
-use Rattle.sleepers.specs.Waiting.{event_in}
+use Rattle.clock.specs.Sleeping.{scope_in}
+use Rattle.clock.specs.Waiting.{event_in}
 use Rattle.task_machine.specs.declared.stop.TaskState.{TaskState}
 use Rattle.task_machine.specs.declared.stop.TaskState.TheVariants.{ToBegin, Awaits}
 use Rattle.task_machine.specs.declared.task.Task.{Task}

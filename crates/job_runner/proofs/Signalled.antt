@@ -4,15 +4,17 @@ use Rattle.std.specs.Prelude.{IsSomeAnd, ◌⊎◌, nat_lt}
 use Rattle.std.proofs.lemmas.Bool.{cases_eq}
 use Rattle.std.proofs.lemmas.Bool.Decides.{leb_tells}
 use Rattle.std.proofs.lemmas.Option.{none-some, same_Some}
-use Rattle.autojump_clock.specs.Clock.{due_of}
-use Rattle.autojump_clock.specs.Clock as timers
+use Rattle.clock.specs.Clock.{due_of}
+use Rattle.clock.specs.Clock as timers
 use Rattle.cancel_scopes.specs.Sight.{Tick, earlier, seen}
 use Rattle.cancel_scopes.specs.Tree.{outer_of}
-use Rattle.job_meaning.specs.Moments.{Clock, by_ticks, by_rounds, a_round_after}
+use Rattle.job_meaning.specs.Moments.{a_round_after}
+use Rattle.job_meaning.specs.declared.clock.Clock.{Clock}
+use Rattle.job_meaning.specs.declared.clock.Clock.TheVariants.{ByTicks as by_ticks, ByRounds as by_rounds}
 use Rattle.nursery_book.specs.Book.{nursery_at}
 use Rattle.run_refinement.specs.Sights.{Shows, IsOneOf, StaysOrIsSet}
-use Rattle.sleepers.specs.Sleeping.{Sleeping, sight_of}
-use Rattle.sleepers.specs.Waiting.{event_in}
+use Rattle.clock.specs.Sleeping.{Sleeping, sight_of}
+use Rattle.clock.specs.Waiting.{event_in}
 use Rattle.task_machine.specs.declared.stop.TaskState.{TaskState}
 use Rattle.task_machine.specs.declared.stop.TaskState.TheVariants.{ToBegin, Asked, Asleep, Waiting, GivingUp, Awaits, Over}
 use Rattle.task_machine.specs.declared.world.World.{World}

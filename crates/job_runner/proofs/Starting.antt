@@ -5,9 +5,10 @@ use Rattle.std.proofs.lemmas.Bool.{cases_eq, cases_lt}
 use Rattle.std.proofs.lemmas.Bool.Decides.{eqb_tells}
 use Rattle.std.proofs.lemmas.List.{append-nil, append_assoc, length_push}
 use Rattle.std.proofs.lemmas.Option.{none-some, same_Some, slice_get_past, slice_get_within}
-use Rattle.autojump_clock.specs.Clock.{now_of, due_of}
+use Rattle.clock.specs.Clock.{now_of, due_of}
 use Rattle.batch_commit.specs.declared.entry.Call.TheVariants.{Begin}
-use Rattle.job_meaning.specs.Moments.{Clock, tick_of, a_round_after}
+use Rattle.job_meaning.specs.Moments.{tick_of, a_round_after}
+use Rattle.job_meaning.specs.declared.clock.Clock.{Clock}
 use Rattle.task_machine.specs.declared.task.Task.{Task}
 use Rattle.task_machine.specs.declared.world.World.{World}
 use Rattle.run_refinement.specs.Turn.{serials_from}

@@ -1,10 +1,11 @@
 -- The run of the definitions by the table of the job's meaning.
 use Rattle.std.proofs.Common.{◌≡◌, ℕ, ◌+◌, ◌*◌, ◌≤◌, ◌^◌, List, Option, None, arith}
-use Rattle.autojump_clock.specs.Clock as timers
+use Rattle.clock.specs.Clock as timers
 use Rattle.job_meaning.specs.Follow.{IsSettled}
 use Rattle.job_meaning.specs.Log.{Table}
 use Rattle.job_meaning.specs.Meaning.{meaning_table}
-use Rattle.job_meaning.specs.Moments.{Clock, by_ticks, by_rounds}
+use Rattle.job_meaning.specs.declared.clock.Clock.{Clock}
+use Rattle.job_meaning.specs.declared.clock.Clock.TheVariants.{ByTicks as by_ticks, ByRounds as by_rounds}
 use Rattle.job_meaning.proofs.Settled.{table_is_settled}
 use Rattle.job_tree.specs.Names.{size_of}
 use Rattle.job_tree.specs.Tree.{Tree as Job}

@@ -5,13 +5,15 @@ use Rattle.std.specs.Option.{ForSome}
 use Rattle.std.proofs.lemmas.Bool.{cases_eq}
 use Rattle.std.proofs.lemmas.Bool.Decides.{eqb_tells}
 use Rattle.std.proofs.lemmas.Option.{none-some, same_Some}
-use Rattle.autojump_clock.specs.Clock.{now_of, due_of, Updates, SameTime}
-use Rattle.autojump_clock.specs.Clock as timers
+use Rattle.clock.specs.Clock.{now_of, due_of, Updates, SameTime}
+use Rattle.clock.specs.Clock as timers
 use Rattle.batch_commit.specs.declared.entry.Call.{Call}
 use Rattle.batch_commit.specs.declared.entry.Call.TheVariants as calls
 use Rattle.batch_commit.specs.Batch.{Batches}
-use Rattle.job_meaning.specs.Moments.{Clock, by_ticks, by_rounds, a_round_after}
-use Rattle.line_kernels.specs.declared.request.Request.{Request}
+use Rattle.job_meaning.specs.Moments.{a_round_after}
+use Rattle.job_meaning.specs.declared.clock.Clock.{Clock}
+use Rattle.job_meaning.specs.declared.clock.Clock.TheVariants.{ByTicks as by_ticks, ByRounds as by_rounds}
+use Rattle.input_lines.specs.declared.request.Request.{Request}
 use Rattle.nursery_book.specs.Nursery.{Nursery, is_settled}
 use Rattle.nursery_book.specs.Book.{nursery_at, HasNursery}
 use Rattle.nursery_book.specs.declared.book.NurseryBook.{NurseryBook}
@@ -31,8 +33,8 @@ use Rattle.run_refinement.specs.Sights.{Shows}
 use Rattle.run_refinement.specs.Step.{IsUnseen, FallsAsleep, GivesUp, StopSays}
 use Rattle.run_refinement.specs.Turn.{leaving_by}
 use Rattle.run_refinement.proofs.OtherScopes.{open_stack}
-use Rattle.sleepers.specs.Sleeping.{Sleeping, scope_in, sight_of, Moves, Sees}
-use Rattle.sleepers.specs.Waiting.{event_in, WaitsFor}
+use Rattle.clock.specs.Sleeping.{Sleeping, scope_in, sight_of, Moves, Sees}
+use Rattle.clock.specs.Waiting.{event_in, WaitsFor}
 use Rattle.task_table.specs.declared.task_table.Running.{Running}
 use Rattle.task_table.specs.TaskTable.{running_at, task_count}
 use Rattle.task_table.specs.Rows.{times}

@@ -19,7 +19,7 @@ use Rattle.task_machine.specs.Worlds.{event_at}
 use Rattle.run_refinement.specs.Ready.{IsTimely}
 use Rattle.run_refinement.specs.Sights.{Shows}
 use Rattle.run_refinement.proofs.Jumped.{state_takes}
-use Rattle.sleepers.specs.Sleeping.{Sleeping, scope_in, sight_of, SameScopes, Sees}
+use Rattle.clock.specs.Sleeping.{Sleeping, scope_in, sight_of, SameScopes, Sees}
 use Rattle.task_table.specs.declared.task_table.TaskTable.{TaskTable}
 use Rattle.task_table.specs.declared.task_table.Running.{Running}
 use Rattle.task_table.specs.TaskTable.{running_at, task_count}

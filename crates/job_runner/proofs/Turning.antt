@@ -4,7 +4,7 @@ use Rattle.std.proofs.Common.{◌≡◌, ◌≢◌, ℕ, suc, ◌+◌, ◌<◌, 
 use Rattle.std.specs.Prelude.{All, IsSome, is_some, IsSomeAnd, ◌⊎◌, slice_get}
 use Rattle.std.proofs.lemmas.Bool.{cases_eq, cases_lt}
 use Rattle.std.proofs.lemmas.Option.{none-some, same_Some, slice_get_within}
-use Rattle.autojump_clock.specs.Clock.{now_of, due_of}
+use Rattle.clock.specs.Clock.{now_of, due_of}
 use Rattle.batch_commit.specs.declared.entry.Call.{Call}
 use Rattle.batch_commit.specs.declared.entry.Call.TheVariants as calls
 use Rattle.batch_commit.specs.declared.entry.Entry.{Entry}
@@ -17,7 +17,8 @@ use Rattle.job_tree.specs.Names.{size_of}
 use Rattle.job_tree.proofs.Sizes.{few_steps}
 use Rattle.job_meaning.specs.Follow.{IsSettled}
 use Rattle.job_meaning.specs.Log.{Table}
-use Rattle.job_meaning.specs.Moments.{Clock, tick_of, a_round_after}
+use Rattle.job_meaning.specs.Moments.{tick_of, a_round_after}
+use Rattle.job_meaning.specs.declared.clock.Clock.{Clock}
 use Rattle.task_machine.specs.declared.stop.TaskState.{TaskState}
 use Rattle.task_machine.specs.declared.stop.TaskState.TheVariants.{ToBegin, Asked, Asleep, Waiting, GivingUp, Awaits, Over}
 use Rattle.task_machine.specs.declared.stop.Stop.{Stop}
@@ -51,8 +52,8 @@ use Rattle.run_refinement.proofs.Keeping.{still_goes, homes_kept, seen_still}
 use Rattle.run_refinement.proofs.Parts.{begun_at}
 use Rattle.run_refinement.proofs.SightsStay.{shows_still}
 use Rattle.run_refinement.proofs.Stepped.{other_follows, turning_of, stepped, stop_says}
-use Rattle.sleepers.specs.Sleeping.{scope_in, sight_of}
-use Rattle.sleepers.specs.Waiting.{event_in}
+use Rattle.clock.specs.Sleeping.{scope_in, sight_of}
+use Rattle.clock.specs.Waiting.{event_in}
 use Rattle.task_table.specs.declared.task_table.TaskTable.{TaskTable}
 use Rattle.task_table.specs.declared.task_table.Running.{Running}
 use Rattle.task_table.specs.Rows.{times}

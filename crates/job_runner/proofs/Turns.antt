@@ -4,7 +4,7 @@ use Rattle.std.specs.Prelude.{IsSomeAnd}
 use Rattle.batch_commit.specs.Batch.{Batches}
 use Rattle.batch_commit.specs.declared.entry.Entry.{Entry}
 use Rattle.batch_commit.specs.Entries.{Added, answers_placed, without_answer}
-use Rattle.line_kernels.specs.declared.answers.Answer.{Answer}
+use Rattle.input_lines.specs.declared.answers.Answer.{Answer}
 use Rattle.task_machine.specs.declared.stop.Stop.{Stop}
 use Rattle.task_machine.specs.declared.stop.Stop.TheVariants.{Ask, Sleep, WaitFor, GiveUp, Wait, Ended}
 use Rattle.task_machine.specs.declared.stop.Wake.{Wake}

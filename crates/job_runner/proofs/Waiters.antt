@@ -7,11 +7,11 @@ use Rattle.std.specs.Option.{option_map}
 use Rattle.std.proofs.lemmas.Bool.{cases_eq}
 use Rattle.std.proofs.lemmas.Bool.Decides.{eqb_tells}
 use Rattle.std.proofs.lemmas.Option.{none-some, same_Some}
-use Rattle.autojump_clock.specs.Clock.{due_of}
+use Rattle.clock.specs.Clock.{due_of}
 use Rattle.batch_commit.specs.declared.entry.Call.TheVariants as calls
-use Rattle.exc_groups.specs.Exceptions.{Exc}
-use Rattle.exc_groups.specs.Held.{exc_of}
-use Rattle.exc_groups.specs.declared.exc.Exc as held
+use Rattle.exceptions.specs.Exceptions.{Exc}
+use Rattle.exceptions.specs.Held.{exc_of}
+use Rattle.exceptions.specs.declared.exc.Exc as held
 use Rattle.job_meaning.specs.Moments.{tick_of}
 use Rattle.nursery_book.specs.Nursery.{End, Nursery, is_settled, with_child}
 use Rattle.nursery_book.specs.Book.{nursery_at, HasNursery, Updates}

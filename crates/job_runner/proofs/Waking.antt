@@ -6,7 +6,7 @@ use Rattle.std.proofs.lemmas.Bool.{le-leb}
 use Rattle.std.proofs.lemmas.Bool.Decides.{eqb_tells, leb_tells}
 use Rattle.std.proofs.lemmas.List.Elements.{All-nil, All-push}
 use Rattle.std.proofs.lemmas.Option.{same_Some, none-some}
-use Rattle.autojump_clock.specs.Clock.{Clock, now_of, due_of, SameTime, Updates, TakesDue, NoneDue}
+use Rattle.clock.specs.Clock.{Clock, now_of, due_of, SameTime, Updates, TakesDue, NoneDue}
 use Rattle.batch_commit.specs.declared.entry.Call.{Call}
 use Rattle.batch_commit.specs.declared.entry.Call.TheVariants as calls
 use Rattle.cancel_scopes.specs.Sight.{Tick, is_reached}
@@ -19,8 +19,8 @@ use Rattle.task_machine.specs.Worlds.{event_at}
 use Rattle.nursery_book.specs.Nursery.{Nursery, is_settled}
 use Rattle.nursery_book.specs.Book.{nursery_at}
 use Rattle.nursery_book.specs.declared.book.NurseryBook.{NurseryBook}
-use Rattle.sleepers.specs.Sleeping.{Sleeping, Moves, KeepsSights, TakesSeen, NoneSees as NoneSleeps}
-use Rattle.sleepers.specs.Waiting.{WaitsFor}
+use Rattle.clock.specs.Sleeping.{Sleeping, Moves, KeepsSights, TakesSeen, NoneSees as NoneSleeps}
+use Rattle.clock.specs.Waiting.{WaitsFor}
 use Rattle.task_table.specs.declared.task_table.TaskTable.{TaskTable}
 use Rattle.task_table.specs.declared.task_table.Running.{Running}
 use Rattle.task_table.specs.TaskTable.{running_at}

@@ -4,10 +4,10 @@ use Rattle.std.specs.Prelude.{IsSome, is_some, ◌⊎◌}
 use Rattle.std.proofs.lemmas.Bool.{cases_eq}
 use Rattle.std.proofs.lemmas.List.{append-nil, append_assoc}
 use Rattle.std.proofs.lemmas.Option.{none-some, same_Some}
-use Rattle.autojump_clock.specs.Clock.{now_of, due_of, SameTime, Updates}
-use Rattle.autojump_clock.specs.Clock as timers
+use Rattle.clock.specs.Clock.{now_of, due_of, SameTime, Updates}
+use Rattle.clock.specs.Clock as timers
 use Rattle.run_refinement.specs.Sights.{IsOneOf}
-use Rattle.sleepers.specs.Waiting.{event_in, NoneWaits, TakesWaiter}
+use Rattle.clock.specs.Waiting.{event_in, NoneWaits, TakesWaiter}
 use Rattle.task_machine.specs.declared.world.World.{World}
 use Rattle.job_runner.specs.declared.runner.Runner.{Runner}
 use Rattle.job_runner.specs.Steps.{WakesWaiters, TakesSet}

@@ -1,8 +1,8 @@
 -- What a jump of the clock does: to which moment, and which tasks continue then.
 use Rattle.std.specs.Prelude.{◌≡◌, ◌≢◌, ◌⊎◌, ℕ, suc, ◌<◌, ◌≤◌, max, Bool, true, false, Option, Some, None, [], All, IsSomeAnd}
 use Rattle.std.specs.Option.{option_map}
-use Rattle.autojump_clock.specs.Clock.{due_of}
-use Rattle.autojump_clock.specs.Clock as timers
+use Rattle.clock.specs.Clock.{due_of}
+use Rattle.clock.specs.Clock as timers
 use Rattle.batch_commit.specs.declared.entry.Call.{Call}
 use Rattle.batch_commit.specs.declared.entry.Call.TheVariants.{Due, Seen}
 use Rattle.cancel_scopes.specs.Sight.{Tick, is_reached, sight}
@@ -14,7 +14,7 @@ use Rattle.task_machine.specs.declared.world.World.{World}
 use Rattle.task_machine.specs.Events.{is_wait_over}
 use Rattle.task_machine.specs.Tasks.{scope_of}
 use Rattle.task_machine.specs.Worlds.{event_at}
-use Rattle.sleepers.specs.Sleeping.{IsFirst}
+use Rattle.clock.specs.Sleeping.{IsFirst}
 use Rattle.task_table.specs.TaskTable.{running_at}
 use Rattle.task_table.specs.declared.task_table.TaskTable.{TaskTable}
 use Rattle.task_table.specs.declared.task_table.Running.{Running}

@@ -1,8 +1,8 @@
 -- How far the clock of a run goes.
 use Rattle.std.specs.Prelude.{ℕ, ◌+◌, ◌*◌}
-use Rattle.moments.specs.declared.clock.Clock.{Clock}
-use Rattle.moments.specs.declared.clock.Clock.TheVariants.{ByTicks, ByRounds}
-use Rattle.moments.specs.Moments.{far}
+use Rattle.job_meaning.specs.declared.clock.Clock.{Clock}
+use Rattle.job_meaning.specs.declared.clock.Clock.TheVariants.{ByTicks, ByRounds}
+use Rattle.job_meaning.specs.Clocks.{far}
 use Rattle.job_meaning.specs.declared.limits.TheConstants.{LAST_TICK}
 
 -- the last tick to which a run may go: no job ends later

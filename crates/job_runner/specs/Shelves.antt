@@ -2,8 +2,8 @@
 -- nursery of which a member runs.
 use Rattle.std.specs.Prelude.{◌≡◌, ◌≢◌, ℕ, ◌⊎◌, ◌+◌, ◌<◌, ◌≤◌, suc, if◌then◌else◌, false, List, Option, Some, None, [], map, All, IsSomeAnd}
 use Rattle.std.specs.Option.{ForSome}
-use Rattle.autojump_clock.specs.Clock.{now_of, limit_of, due_of}
-use Rattle.autojump_clock.specs.Clock as timers
+use Rattle.clock.specs.Clock.{now_of, limit_of, due_of}
+use Rattle.clock.specs.Clock as timers
 use Rattle.batch_commit.specs.declared.entry.Call.{Call}
 use Rattle.batch_commit.specs.declared.entry.Call.TheVariants.{Ask}
 use Rattle.batch_commit.specs.declared.entry.Entry.{Entry}
@@ -17,9 +17,11 @@ use Rattle.job_tree.specs.Starting.{StartsInNurseries}
 use Rattle.job_tree.specs.InRange.{IsInRange}
 use Rattle.job_meaning.specs.Follow.{IsSettled}
 use Rattle.job_meaning.specs.Log.{Table}
-use Rattle.job_meaning.specs.Moments.{Clock, by_rounds, clock_of, a_round_after, wakes_at}
-use Rattle.line_kernels.specs.Answers.{IsAnswer}
-use Rattle.line_kernels.specs.declared.answers.Answer.{Answer}
+use Rattle.job_meaning.specs.Moments.{clock_of, a_round_after, wakes_at}
+use Rattle.job_meaning.specs.declared.clock.Clock.{Clock}
+use Rattle.job_meaning.specs.declared.clock.Clock.TheVariants.{ByRounds as by_rounds}
+use Rattle.input_lines.specs.Answers.{IsAnswer}
+use Rattle.input_lines.specs.declared.answers.Answer.{Answer}
 use Rattle.nursery_book.specs.Nursery.{Nursery, is_settled}
 use Rattle.nursery_book.specs.Book.{nursery_at}
 use Rattle.nursery_book.specs.declared.book.NurseryBook.{NurseryBook}
@@ -35,8 +37,8 @@ use Rattle.task_machine.specs.Worlds.{event_at}
 use Rattle.run_refinement.specs.RunState.{RunState, Refines}
 use Rattle.run_refinement.specs.Ready.{MayGo, AreHomesOf}
 use Rattle.run_refinement.specs.Sights.{Shows}
-use Rattle.sleepers.specs.Sleeping.{Sleeping, scope_in, sight_of}
-use Rattle.sleepers.specs.Waiting.{event_in}
+use Rattle.clock.specs.Sleeping.{Sleeping, scope_in, sight_of}
+use Rattle.clock.specs.Waiting.{event_in}
 use Rattle.task_table.specs.declared.task_table.TaskTable.{TaskTable}
 use Rattle.task_table.specs.declared.task_table.Running.{Running}
 use Rattle.job_runner.specs.declared.runner.Runner.{Runner}

@@ -3,14 +3,16 @@ use Rattle.std.specs.Option.{ForSome}
 use Rattle.std.specs.Prelude.{◌≡◌, ◌≢◌, ℕ, zero, suc, ◌+◌, ◌<◌, ◌≤◌, Bool, true, false, Option, Some, None, List, [], ◌∷◌, ◌++◌, length, map, slice_get, IsSomeAnd}
 use Rattle.cancel_scopes.specs.Sight.{Tick, sight}
 use Rattle.cancel_scopes.specs.Tree.{stack_of}
-use Rattle.exc_groups.specs.Exceptions.{Exc}
-use Rattle.autojump_clock.specs.Clock.{due_of, Updates, SameTime}
+use Rattle.exceptions.specs.Exceptions.{Exc}
+use Rattle.clock.specs.Clock.{due_of, Updates, SameTime}
 use Rattle.batch_commit.specs.declared.entry.Call.{Call}
 use Rattle.batch_commit.specs.declared.entry.Call.TheVariants.{Begin, Settled}
 use Rattle.batch_commit.specs.Entries.{Added}
 use Rattle.job_meaning.specs.Follow.{IsSettled}
 use Rattle.job_meaning.specs.Log.{Table}
-use Rattle.job_meaning.specs.Moments.{Clock, by_ticks, by_rounds, clock_of, tick_of, a_round_after}
+use Rattle.job_meaning.specs.Moments.{clock_of, tick_of, a_round_after}
+use Rattle.job_meaning.specs.declared.clock.Clock.{Clock}
+use Rattle.job_meaning.specs.declared.clock.Clock.TheVariants.{ByTicks as by_ticks, ByRounds as by_rounds}
 use Rattle.nursery_book.specs.Nursery.{Nursery, is_settled, with_child}
 use Rattle.nursery_book.specs.Book.{HasNursery, Changes}
 use Rattle.task_machine.specs.declared.stop.Stop.{Stop}
@@ -19,8 +21,8 @@ use Rattle.task_machine.specs.Tasks.{scope_of}
 use Rattle.run_refinement.specs.Sights.{IsOneOf}
 use Rattle.run_refinement.specs.Step.{StopSays, StoppedIn}
 use Rattle.run_refinement.specs.Turn.{serials_from}
-use Rattle.sleepers.specs.Sleeping.{Moves, Sees}
-use Rattle.sleepers.specs.Waiting.{event_in}
+use Rattle.clock.specs.Sleeping.{Moves, Sees}
+use Rattle.clock.specs.Waiting.{event_in}
 use Rattle.task_table.specs.Rows.{times}
 use Rattle.task_table.specs.TaskTable.{running_at, task_of, gone_of, start_of, children_of, parent_of, id_of, task_count, IsTaskTable}
 use Rattle.task_table.specs.declared.task_table.TaskTable.{TaskTable}

@@ -10,8 +10,8 @@ ghost use Rattle.job_runner.specs.Shelves.{AreShelved, IsSameJob, IsUnderway};
 
 use crate::fault::RunFault;
 use crate::runner::Runner;
-use autojump_clock::{Jump, TaskId};
 use batch_commit::Call;
+use clock::{Jump, TaskId};
 use std::alloc::AllocError;
 
 impl<'a> Runner<'a> {

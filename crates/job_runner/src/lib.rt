@@ -23,7 +23,7 @@ pub use job_meaning::{LAST_TICK, MAX_INPUT};
 pub use limits::{MAX_LIMIT, MAX_WORKERS};
 pub use runner::{Phase, Runner};
 pub use running::{run, run_to_end};
-pub use scoped_workers::{Gate, NoGate};
 pub use settings::Settings;
 pub use task_machine::{Entry, ScopeFrom};
 pub use task_table::{Outcome, Record};
+pub use workers::{Gate, NoGate};

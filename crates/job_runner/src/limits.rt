@@ -1,8 +1,7 @@
 ghost use Rattle.std.specs.Prelude.{◌≡◌, ◌≤◌};
 ghost use Rattle.job_runner.specs.Limits.{last_tick, last_of};
 
-use job_meaning::LAST_TICK;
-use moments::{Clock, FAR, ROUNDS_IN_A_TICK};
+use job_meaning::{Clock, FAR, LAST_TICK, ROUNDS_IN_A_TICK};
 
 /// The maximum number of workers of a run.
 pub const MAX_WORKERS: usize = 64;

@@ -1,6 +1,6 @@
 ghost use Rattle.std.specs.Prelude.{◌≡◌, ◌+◌, ◌*◌, ◌<◌, ◌≤◌, IfOk, IfErr, length};
 ghost use Rattle.job_meaning.specs.declared.limits.TheConstants.{MAX_INPUT};
-ghost use Rattle.moments.specs.Moments.{clock_of};
+ghost use Rattle.job_meaning.specs.Clocks.{clock_of};
 ghost use Rattle.job_meaning.specs.Meaning.{meaning_end, meaning_froms};
 ghost use Rattle.job_meaning.specs.Shown.{meaning_rows};
 ghost use Rattle.job_tree.specs.Names.{size_of};
@@ -18,11 +18,11 @@ use crate::limits::last_tick;
 use crate::runner::{Phase, Runner};
 use crate::settings::Settings;
 use batch_commit::Pick;
-use job_grammar::{Job, spelled_jobs_are_sound};
-use moments::Clock;
-use scoped_workers::{Gate, work};
+use job_meaning::Clock;
+use job_reader::{Job, spelled_jobs_are_sound};
 use std::alloc::{AllocError, Global};
 use std::thread::Threads;
+use workers::{Gate, work};
 
 /// Runs a job over an input of at most `MAX_INPUT` bytes, in turns of its tasks, one moment after another. The result is that of
 /// the job's one-thread meaning, whatever the number of workers, the order of picks and the gate: its records, or `Limit` exactly

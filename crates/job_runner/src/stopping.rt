@@ -1,12 +1,12 @@
 ghost use Rattle.std.specs.Prelude.{◌≡◌, ◌<◌, ◌≤◌, ◌^◌, true, None, Some, IsSome, IfOk, OnOk, slice_get};
-ghost use Rattle.autojump_clock.specs.Clock.{now_of, due_of};
+ghost use Rattle.clock.specs.Clock.{now_of, due_of};
 ghost use Rattle.std.specs.Option.{ForSome, option_map};
 ghost use Rattle.cancel_scopes.specs.Sight.{seen};
 ghost use Rattle.cancel_scopes.specs.Tree.{IsOpen, outer_of};
-ghost use Rattle.exc_groups.specs.Held.{exc_of};
+ghost use Rattle.exceptions.specs.Held.{exc_of};
 ghost use Rattle.nursery_book.specs.Nursery.{is_settled, with_child};
 ghost use Rattle.nursery_book.specs.Book.{HasNursery};
-ghost use Rattle.sleepers.specs.Sleeping.{scope_in};
+ghost use Rattle.clock.specs.Sleeping.{scope_in};
 ghost use Rattle.task_machine.specs.declared.stop.Stop.TheVariants.{Ask, Sleep, WaitFor, GiveUp, Wait, Ended};
 ghost use Rattle.task_machine.specs.Tasks.{scope_of};
 ghost use Rattle.task_table.specs.TaskTable.{running_at, parent_of, id_of, task_count};
@@ -15,12 +15,12 @@ ghost use Rattle.job_runner.specs.Steps.{IsStopping, IsSameTurn, PutsToSleep, Te
 ghost use Rattle.job_runner.specs.Turns.{ComesOf, call_at_once};
 
 use crate::runner::Runner;
-use autojump_clock::TaskId;
 use batch_commit::Call;
 use cancel_scopes::ScopeId;
-use exc_groups::Exc;
-use line_kernels::Request;
-use moments::Clock;
+use clock::TaskId;
+use exceptions::Exc;
+use input_lines::Request;
+use job_meaning::Clock;
 use nursery_book::{NurseryId, Place};
 use std::alloc::{AllocError, Global};
 use task_machine::Stop;

@@ -1,7 +1,7 @@
 //! The tasks that wait for events.
 ghost use Rattle.std.specs.Prelude.{◌≡◌, ◌≤◌, ◌^◌, suc, Some, [], ◌∷◌, ℕ, IsSome, OnOk};
-ghost use Rattle.autojump_clock.specs.Clock.{now_of, due_of};
-ghost use Rattle.sleepers.specs.Waiting.{event_in};
+ghost use Rattle.clock.specs.Clock.{now_of, due_of};
+ghost use Rattle.clock.specs.Waiting.{event_in};
 ghost use Rattle.job_runner.specs.Steps.{TakesSet, WakesWaiters};
 
 use crate::runner::Runner;

@@ -4,8 +4,8 @@ use Rattle.std.proofs.lemmas.Bool.Decides.{nat_tests}
 use Rattle.std.specs.Prelude.{◌==◌, is_some, if◌then◌else◌}
 use Rattle.job_tree.specs.Tree.{Tree}
 use Rattle.job_tree.specs.Names.{GivesNamesOnce}
-use Rattle.buffer_parts.specs.Lines.{Span}
-use Rattle.exc_groups.specs.Exceptions.{Label, Exc}
+use Rattle.input_lines.specs.Lines.{Span}
+use Rattle.exceptions.specs.Exceptions.{Label, Exc}
 use Rattle.cancel_scopes.specs.Sight.{Tick, earlier, next}
 use Rattle.job_meaning.specs.Log.{Result, Log, nil, entry, sign, entered, task, followed_by, tick_if, least_sign, either, deadline_if, deadline_of, entered_from, Table, same_label}
 use Rattle.job_meaning.specs.Walk.{Levels, Kind, by_table, log_of_lines, sign_if}

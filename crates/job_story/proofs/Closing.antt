@@ -2,7 +2,7 @@
 use Rattle.std.proofs.Common.{◌≡◌, ℕ, zero, suc, ◌+◌, ◌<◌, ◌≤◌, true≢false, Bool, true, false, not, ◌&&◌, ◌||◌, Option, Some, None, List, [], ◌∷◌, length, refl, ap, sym, ◌∙◌, subst, ◌⊎◌, inl, inr, arith}
 use Rattle.std.proofs.lemmas.Bool.{or_left, or_right}
 use Rattle.std.specs.Prelude.{if◌then◌else◌}
-use Rattle.exc_groups.specs.Exceptions.{Label, Exc}
+use Rattle.exceptions.specs.Exceptions.{Label, Exc}
 use Rattle.job_meaning.specs.Log.{Table, same_label}
 use Rattle.job_meaning.proofs.Distinct.{same_label_equal, same_label_itself}
 use Rattle.job_story.specs.Story.{is_cancelled}

@@ -3,15 +3,16 @@ use Rattle.std.proofs.Common.{◌≡◌, ℕ, zero, suc, ◌-◌, ◌≤◌, tru
 use Rattle.std.proofs.lemmas.Bool.Decides.{nat_tests}
 use Rattle.std.specs.Prelude.{nat_le, nat_lt, max, if◌then◌else◌}
 use Rattle.job_tree.specs.Tree.{Step, sleep, checkpoint, forever, pace, find, head, longest, need, raise, cancel, set_event, wait_for, scope, nursery, event, start, repeat, attempt, Steps, stop, step, Handled, unhandled, except, Cleaned, uncleaned, finally}
-use Rattle.buffer_parts.specs.Lines.{Span}
-use Rattle.buffer_parts.specs.Cuts.{cut_of}
-use Rattle.exc_groups.specs.Exceptions.{Label, Exc, cancelled}
-use Rattle.exc_groups.specs.Split.{Wanted, named, keep, drop}
+use Rattle.input_lines.specs.Lines.{Span}
+use Rattle.input_lines.specs.Cuts.{cut_of}
+use Rattle.exceptions.specs.Exceptions.{Label, Exc, cancelled}
+use Rattle.exceptions.specs.Split.{Wanted, named, keep, drop}
 use Rattle.cancel_scopes.specs.Sight.{Tick, Level, sight, catches}
 use Rattle.job_meaning.specs.Log.{waited, Log, nil, entry, entered, task, followed_by, Result, Table}
 use Rattle.job_meaning.specs.Follow.{follow}
 use Rattle.job_meaning.specs.Meaning.{root_log, root_label}
-use Rattle.job_meaning.specs.Moments.{Clock, tick_of, a_round_after, wakes_at, gives_up_at, Now, only_at, far}
+use Rattle.job_meaning.specs.Moments.{tick_of, a_round_after, wakes_at, gives_up_at, Now, only_at, far}
+use Rattle.job_meaning.specs.declared.clock.Clock.{Clock}
 use Rattle.job_meaning.specs.Walk.{Levels, Stack, no_stack, by_table, Here, walk, walk_step, walk_handler, walk_cleanup, in_sequence, then_if, and_then, done_at, raised_at, wait_by_sight, wait_until, set_moment, with_line_if, event_wait, sleep_result, pace_result, log_of_lines, lines_result, raise_result, need_result, sign_of, cancel_result, set_result, Kind, from_for, stack_for, exit_with_from, left_with, block, event_block, event_result, sign_if, home_of, with_sign, nursery_result, child, each, passes, handler_result, cleanup_result, with_outcome, handler_exc, label_here, label_over, stack_inside, stack_in_event, here_in, in_pass}
 use Rattle.job_meaning.specs.Walk as walks
 use Rattle.job_meaning.proofs.MomentLemmas.{round_after}

@@ -2,8 +2,8 @@
 use Rattle.std.proofs.Common.{◌≡◌, ℕ, ◌+◌, true≢false, Bool, true, false, Option, Some, None, is_none, List, [], ◌∷◌, refl, ap, sym, ◌∙◌, subst, inl, inr, arith}
 use Rattle.std.proofs.lemmas.Bool.Decides.{nat_tests}
 use Rattle.std.specs.Prelude.{◌==◌, if◌then◌else◌}
-use Rattle.exc_groups.specs.Exceptions.{Label, Exc}
-use Rattle.exc_groups.specs.Split.{is_cancelled as by_cancelled, drop}
+use Rattle.exceptions.specs.Exceptions.{Label, Exc}
+use Rattle.exceptions.specs.Split.{is_cancelled as by_cancelled, drop}
 use Rattle.cancel_scopes.specs.Sight.{Tick}
 use Rattle.job_meaning.specs.Log.{Table, same_label}
 use Rattle.job_meaning.proofs.Distinct.{same_label_equal}

@@ -9,3 +9,15 @@ pub mod Members
 pub mod Caused
 pub mod Nested
 pub mod Limited
+pub mod Adding
+pub mod Teller
+pub mod Owned
+pub mod Slept
+pub mod Blocks
+pub mod Trying
+pub mod Shows
+pub mod Going
+pub mod Steps
+pub mod Passing
+pub mod Waited
+pub mod Rooted

@@ -1,9 +1,9 @@
 -- Which events are among those of a story, and among the same in order.
 use Rattle.std.proofs.Common.{◌≡◌, Bool, true, false, Option, List, [], ◌∷◌, ◌++◌, ◌⊎◌, inl, inr}
 use Rattle.std.specs.Prelude.{nat_le, if◌then◌else◌}
-use Rattle.stable_sort.specs.Sorting.{put_by}
-use Rattle.buffer_parts.specs.Lines.{Range}
-use Rattle.exc_groups.specs.Exceptions.{Label, Exc}
+use Rattle.basics.specs.Sorting.{put_by}
+use Rattle.input_lines.specs.Lines.{Range}
+use Rattle.exceptions.specs.Exceptions.{Label, Exc}
 use Rattle.job_story.specs.Story.{Happening}
 use Rattle.job_story.specs.Events.{starts, happens, ends, Event, moment_of, in_order}
 use Rattle.job_story.specs.Shown.{IsIn}

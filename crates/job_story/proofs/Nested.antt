@@ -4,9 +4,11 @@ use Rattle.std.proofs.lemmas.Bool.Decides.{nat_tests}
 use Rattle.std.specs.Prelude.{◌==◌, if◌then◌else◌}
 use Rattle.std.proofs.lemmas.Slice.Eq.{bytes_eq-Decides}
 use Rattle.std.specs.Str.{bytes_eq}
-use Rattle.exc_groups.specs.Exceptions.{Label, Exc}
+use Rattle.exceptions.specs.Exceptions.{Label, Exc}
 use Rattle.job_meaning.specs.Log.{Table}
-use Rattle.job_meaning.specs.Moments.{Clock, by_ticks, by_rounds, clock_of, a_round_after, Now, only_at}
+use Rattle.job_meaning.specs.Moments.{clock_of, a_round_after, Now, only_at}
+use Rattle.job_meaning.specs.declared.clock.Clock.{Clock}
+use Rattle.job_meaning.specs.declared.clock.Clock.TheVariants.{ByTicks as by_ticks, ByRounds as by_rounds}
 use Rattle.job_meaning.specs.Walk.{Levels, no_stack, Kind, label_if, label_on, with_own}
 use Rattle.job_story.specs.Story.{Happening, enters_event, finds, misses, raises, handles, cleans, replaces, Story, happened, then_story}
 use Rattle.job_story.specs.Tell.{story_of_one, root_scene, tale_by}

@@ -2,8 +2,8 @@
 use Rattle.std.proofs.Common.{◌≡◌, ℕ, true≢false, Bool, true, false, ◌||◌, Option, None, List, [], ◌∷◌, ◌++◌, refl, sym, ap, ◌∙◌, subst, if◌then◌else◌}
 use std.Path.{fun_ext}
 use Rattle.job_tree.specs.Tree.{Tree}
-use Rattle.exc_groups.specs.Exceptions.{Label}
-use Rattle.exc_groups.specs.Labels.{same_label}
+use Rattle.exceptions.specs.Exceptions.{Label}
+use Rattle.exceptions.specs.Labels.{same_label}
 use Rattle.cancel_scopes.specs.Sight.{Tick}
 use Rattle.job_meaning.specs.Log.{Log, nil, entry, sign, entered, task, Table, deadline_of, deadline_if, either, entered_from, least_sign}
 use Rattle.job_meaning.specs.Meaning.{froms_by, entered_by, all_entered, root_log, meaning, meaning_table}

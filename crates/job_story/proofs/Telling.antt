@@ -4,13 +4,15 @@ use Rattle.std.proofs.lemmas.Bool.Decides.{nat_tests}
 use Rattle.std.specs.Str.{bytes_eq}
 use Rattle.std.specs.Prelude.{nat_le, nat_lt, if◌then◌else◌}
 use Rattle.job_tree.specs.Tree.{Step, sleep, checkpoint, forever, pace, find, head, longest, need, raise, cancel, set_event, wait_for, scope, nursery, event, start, repeat, attempt, Steps, stop, step, Handled, unhandled, except, Cleaned, uncleaned, finally}
-use Rattle.buffer_parts.specs.Lines.{Range, Span}
-use Rattle.buffer_parts.specs.Cuts.{cut_of}
-use Rattle.exc_groups.specs.Exceptions.{Label, Exc, cancelled}
-use Rattle.exc_groups.specs.Split.{Wanted, named, keep, drop}
+use Rattle.input_lines.specs.Lines.{Range, Span}
+use Rattle.input_lines.specs.Cuts.{cut_of}
+use Rattle.exceptions.specs.Exceptions.{Label, Exc, cancelled}
+use Rattle.exceptions.specs.Split.{Wanted, named, keep, drop}
 use Rattle.cancel_scopes.specs.Sight.{Tick, Level, sight, catches}
 use Rattle.job_meaning.specs.Log.{Table}
-use Rattle.job_meaning.specs.Moments.{Clock, by_ticks, by_rounds, tick_of, a_round_after, wakes_at, gives_up_at, start_of, Now, only_at, far}
+use Rattle.job_meaning.specs.Moments.{tick_of, a_round_after, wakes_at, gives_up_at, start_of, Now, only_at, far}
+use Rattle.job_meaning.specs.declared.clock.Clock.{Clock}
+use Rattle.job_meaning.specs.declared.clock.Clock.TheVariants.{ByTicks as by_ticks, ByRounds as by_rounds}
 use Rattle.job_meaning.specs.Walk.{Levels, Stack, Here, Kind, home_of, set_moment, label_on, level_if, event_on, with_own, from_for, stack_for, left_with, exc_after, latest, label_here, label_over, stack_inside, stack_in_event, here_in, in_pass}
 use Rattle.job_meaning.proofs.Late.{latest_ends}
 use Rattle.job_meaning.proofs.MomentLemmas.{round_after, wakes_after, gives_up_after}

@@ -1,8 +1,10 @@
 -- The time of a task of a story passes only while it sleeps or waits, and by rounds at a checkpoint too.
 use Rattle.std.proofs.Common.{◌≡◌, ℕ, ◌≤◌, refl, sym, ◌∙◌, subst, [], arith}
-use Rattle.exc_groups.specs.Exceptions.{Label}
+use Rattle.exceptions.specs.Exceptions.{Label}
 use Rattle.job_meaning.specs.Log.{Table}
-use Rattle.job_meaning.specs.Moments.{Clock, by_ticks, by_rounds, clock_of, a_round_after, Now, only_at}
+use Rattle.job_meaning.specs.Moments.{clock_of, a_round_after, Now, only_at}
+use Rattle.job_meaning.specs.declared.clock.Clock.{Clock}
+use Rattle.job_meaning.specs.declared.clock.Clock.TheVariants.{ByTicks as by_ticks, ByRounds as by_rounds}
 use Rattle.job_meaning.specs.Walk.{Levels, no_stack}
 use Rattle.job_meaning.proofs.MomentLemmas.{round_after}
 use Rattle.job_story.specs.Story.{Happening, enters_event, finds, misses, raises, handles, cleans, replaces, Story, no_more, happened, then_story}

@@ -1,6 +1,6 @@
 -- Which scope or nursery a story may name for a cancellation.
 use Rattle.std.specs.Prelude.{◌≡◌, ◌≢◌, ◌⊎◌, ℕ, ◌<◌, ◌≤◌, Bool, false, Option, Some, [], ◌∷◌}
-use Rattle.exc_groups.specs.Exceptions.{Label}
+use Rattle.exceptions.specs.Exceptions.{Label}
 use Rattle.cancel_scopes.specs.Sight.{Tick, sight}
 use Rattle.job_meaning.specs.Log.{Table}
 use Rattle.job_meaning.specs.Walk.{Levels}

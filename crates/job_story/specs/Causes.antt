@@ -1,7 +1,7 @@
 -- Why a scope or nursery is cancelled.
 use Rattle.std.specs.Prelude.{ℕ, ◌+◌, ◌==◌, Bool, true, false, Option, Some, None, is_none, List, [], ◌∷◌, if◌then◌else◌}
-use Rattle.exc_groups.specs.Exceptions.{Label, Exc}
-use Rattle.exc_groups.specs.Split.{is_cancelled as by_cancelled, drop}
+use Rattle.exceptions.specs.Exceptions.{Label, Exc}
+use Rattle.exceptions.specs.Split.{is_cancelled as by_cancelled, drop}
 use Rattle.cancel_scopes.specs.Sight.{Tick}
 use Rattle.job_meaning.specs.Log.{Table, same_label}
 use Rattle.job_meaning.specs.Walk.{Kind}

@@ -1,6 +1,6 @@
 -- When a selection of tasks contains every task that it names as a cause.
 use Rattle.std.specs.Prelude.{◌≡◌, true, Some, List}
-use Rattle.exc_groups.specs.Exceptions.{Label}
+use Rattle.exceptions.specs.Exceptions.{Label}
 use Rattle.job_meaning.specs.Log.{Table}
 use Rattle.job_story.specs.Events.{Event}
 use Rattle.job_story.specs.Focus.{causer_of, is_among}

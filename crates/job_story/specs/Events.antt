@@ -1,8 +1,8 @@
 -- The events of a story, one after the other.
 use Rattle.std.specs.Prelude.{ℕ, Option, List, [], ◌∷◌, ◌++◌}
-use Rattle.stable_sort.specs.Sorting.{sorted_by}
-use Rattle.buffer_parts.specs.Lines.{Range}
-use Rattle.exc_groups.specs.Exceptions.{Label, Exc}
+use Rattle.basics.specs.Sorting.{sorted_by}
+use Rattle.input_lines.specs.Lines.{Range}
+use Rattle.exceptions.specs.Exceptions.{Label, Exc}
 use Rattle.job_story.specs.Story.{Happening, Story, no_more, happened, started}
 
 -- the kind of an event: a task starts in a nursery (the root task in none) with its part, something happens to it, or it ends

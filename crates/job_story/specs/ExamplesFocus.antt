@@ -2,7 +2,7 @@
 use Rattle.std.specs.Prelude.{◌≡◌, ℕ, List, [], ◌∷◌, codes, refl}
 use Rattle.std.specs.Fmt.{digits}
 use Rattle.job_tree.specs.Tree.{Tree}
-use Rattle.exc_groups.specs.Exceptions.{Label}
+use Rattle.exceptions.specs.Exceptions.{Label}
 use Rattle.job_meaning.specs.Examples.{label_named}
 use Rattle.job_meaning.specs.Meaning.{meaning, meaning_table}
 use Rattle.job_meaning.specs.Walk.{walk, and_then, sleep_result, lines_result, raise_result, need_result, cancel_result, block, with_sign, nursery_result, child, handler_result, cleanup_result}

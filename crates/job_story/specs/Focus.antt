@@ -2,14 +2,14 @@
 use Rattle.std.specs.Prelude.{ℕ, zero, suc, Bool, true, false, ◌&&◌, ◌||◌, not, Option, Some, None, List, [], ◌∷◌, length, if◌then◌else◌}
 use Rattle.std.specs.Str.{bytes_eq}
 use Rattle.job_tree.specs.Tree.{Tree}
-use Rattle.exc_groups.specs.Exceptions.{Label}
+use Rattle.exceptions.specs.Exceptions.{Label}
 use Rattle.job_meaning.specs.Log.{Table, same_label}
 use Rattle.job_meaning.specs.Moments.{clock_of}
 use Rattle.job_story.specs.Story.{is_cancelled}
 use Rattle.job_story.specs.Events.{What, starts, happens, ends, Event, in_order}
 use Rattle.job_story.specs.Causes.{Cause, by_deadline, by_task, by_set, by_failure, by_cancellation, cause_of}
 use Rattle.job_story.specs.Sentences.{kept_text, job_events}
-use Rattle.exc_text.specs.Texts.{label_text}
+use Rattle.exceptions.specs.Texts.{label_text}
 use Rattle.job_story.specs.Limit.{kept_text_to, walked_to}
 
 -- the task of a cause, or `None` where the cause is a deadline

@@ -2,10 +2,10 @@
 use Rattle.std.specs.Prelude.{Option, map}
 use Rattle.std.specs.Option.{option_map}
 use Rattle.std.specs.Global.{Box}
-use Rattle.buffer_parts.specs.Lines as lines
-use Rattle.exc_groups.specs.Exceptions as tree
-use Rattle.exc_groups.specs.Held.{exc_of}
-use Rattle.exc_groups.specs.declared.exc.Exc.{Exc}
+use Rattle.input_lines.specs.Lines as lines
+use Rattle.exceptions.specs.Exceptions as tree
+use Rattle.exceptions.specs.Held.{exc_of}
+use Rattle.exceptions.specs.declared.exc.Exc.{Exc}
 use Rattle.block_exits.specs.Held.{kind_of}
 use Rattle.job_story.specs.Story as story
 use Rattle.job_story.specs.Events as events

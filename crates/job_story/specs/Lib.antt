@@ -20,3 +20,7 @@ pub mod ExamplesCauses
 pub mod ExamplesLimit
 pub mod ExamplesFocus
 pub mod ExamplesEvents
+pub mod Rooms
+pub mod Stacks
+pub mod Heres
+pub mod Tales

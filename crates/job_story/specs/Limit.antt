@@ -1,15 +1,16 @@
 -- The story up to a limit, of a job that does not end by then.
 use Rattle.std.specs.Prelude.{ℕ, Bool, true, false, ◌&&◌, ◌||◌, not, Option, Some, None, List, [], ◌∷◌, ◌++◌, codes, decimal, nat_le, if◌then◌else◌}
-use Rattle.exc_groups.specs.Exceptions.{Label}
+use Rattle.exceptions.specs.Exceptions.{Label}
 use Rattle.job_tree.specs.Tree.{Tree}
 use Rattle.job_meaning.specs.Log.{Table, same_label}
 use Rattle.job_meaning.specs.Meaning.{root_label}
-use Rattle.job_meaning.specs.Moments.{Clock, clock_of, tick_of}
+use Rattle.job_meaning.specs.Moments.{clock_of, tick_of}
+use Rattle.job_meaning.specs.declared.clock.Clock.{Clock}
 use Rattle.job_story.specs.Story.{sleeps, awaits, waits}
 use Rattle.job_story.specs.Tell.{story_by}
 use Rattle.job_story.specs.Events.{What, starts, happens, ends, Event, events_of, in_order}
 use Rattle.job_story.specs.Sentences.{until_text, padded_text, label_width, kept_text}
-use Rattle.exc_text.specs.Texts.{label_text}
+use Rattle.exceptions.specs.Texts.{label_text}
 
 -- the events up to a tick
 abbrev pub by_limit : Clock → ℕ → List Event → List Event

@@ -1,9 +1,10 @@
 -- That the scopes and nurseries of a story are nested, and how they are left.
 use Rattle.std.specs.Prelude.{◌≡◌, ℕ, ◌==◌, Bool, Option, Some, None, List, [], ◌∷◌, if◌then◌else◌}
-use Rattle.exc_groups.specs.Exceptions.{Label, Exc}
+use Rattle.exceptions.specs.Exceptions.{Label, Exc}
 use Rattle.cancel_scopes.specs.Sight.{catches}
 use Rattle.job_meaning.specs.Log.{Table}
-use Rattle.job_meaning.specs.Moments.{Clock, tick_of, Now, only_at}
+use Rattle.job_meaning.specs.Moments.{tick_of, Now, only_at}
+use Rattle.job_meaning.specs.declared.clock.Clock.{Clock}
 use Rattle.job_meaning.specs.Walk.{Levels, Kind, home_of, label_on, with_own, from_for, stack_for, left_with, exc_after}
 use Rattle.job_story.specs.Story.{Happening, cancels, sets, waits, leaves, Story, no_more, happened, started}
 use Rattle.job_story.specs.Blame.{open_after}

@@ -1,13 +1,14 @@
 -- The text of a story.
 use Rattle.std.specs.Prelude.{ℕ, ◌+◌, ◌-◌, ◌==◌, Bool, true, false, Option, Some, None, is_none, List, [], ◌∷◌, ◌++◌, length, codes, decimal, max, if◌then◌else◌, replicate}
-use Rattle.exc_groups.specs.Exceptions.{Label, Exc}
-use Rattle.exc_text.specs.Texts.{label_text, exc_text, end_text}
-use Rattle.exc_groups.specs.Split.{is_cancelled as by_cancelled, drop}
+use Rattle.exceptions.specs.Exceptions.{Label, Exc}
+use Rattle.exceptions.specs.Texts.{label_text, exc_text, end_text}
+use Rattle.exceptions.specs.Split.{is_cancelled as by_cancelled, drop}
 use Rattle.cancel_scopes.specs.Sight.{Tick}
 use Rattle.job_tree.specs.Tree.{Tree}
 use Rattle.job_meaning.specs.Log.{Table}
 use Rattle.job_meaning.specs.Meaning.{root_label}
-use Rattle.job_meaning.specs.Moments.{Clock, clock_of, tick_of}
+use Rattle.job_meaning.specs.Moments.{clock_of, tick_of}
+use Rattle.job_meaning.specs.declared.clock.Clock.{Clock}
 use Rattle.job_meaning.specs.Walk.{Kind, a_scope, a_nursery}
 use Rattle.job_story.specs.Story.{During, at_checkpoint, sleeping, waiting_for, Happening, enters, enters_event, sleeps, is_cancelled, finds, misses, raises, cancels, sets, awaits, was_set, handles, cleans, replaces, waits, leaves}
 use Rattle.job_story.specs.Tell.{is_from, story_by}

@@ -1,7 +1,7 @@
 -- The story of a task: what happened to it, in order, and the stories of the tasks that it started.
 use Rattle.std.specs.Prelude.{ℕ, Bool, Option, Some, None, List}
-use Rattle.buffer_parts.specs.Lines.{Range, Span}
-use Rattle.exc_groups.specs.Exceptions.{Label, Exc}
+use Rattle.input_lines.specs.Lines.{Range, Span}
+use Rattle.exceptions.specs.Exceptions.{Label, Exc}
 use Rattle.cancel_scopes.specs.Sight.{Tick}
 use Rattle.job_meaning.specs.Log.{waited, Log, nil, entry, entered, task, followed_by, Member, Result}
 use Rattle.job_meaning.specs.Walk.{Kind, left_as, log_of_lines, sign_if, sign_of}

@@ -1,15 +1,16 @@
 -- The story of a job's steps by a table: the walk of its tree, with a story in place of the log.
 use Rattle.std.specs.Prelude.{ℕ, zero, suc, ◌-◌, ◌==◌, Bool, true, false, Option, Some, None, List, [], ◌∷◌, ◌++◌, nat_le, nat_lt, max, if◌then◌else◌}
 use Rattle.job_tree.specs.Tree.{Step, sleep, checkpoint, forever, pace, find, head, longest, need, raise, cancel, set_event, wait_for, scope, nursery, event, start, repeat, attempt, Steps, stop, step, Handled, unhandled, except, Cleaned, uncleaned, finally, Tree}
-use Rattle.buffer_parts.specs.Lines.{Span}
-use Rattle.buffer_parts.specs.Cuts.{cut_of}
-use Rattle.line_kernels.specs.Kernels.{found_in, head_of, longest_in, needed_in, count_in}
-use Rattle.exc_groups.specs.Exceptions.{Label, by_nursery, Exc, cancelled, raised, parts_of, group_of}
-use Rattle.exc_groups.specs.Split.{Wanted, named, keep, drop}
+use Rattle.input_lines.specs.Lines.{Span}
+use Rattle.input_lines.specs.Cuts.{cut_of}
+use Rattle.input_lines.specs.Kernels.{found_in, head_of, longest_in, needed_in, count_in}
+use Rattle.exceptions.specs.Exceptions.{Label, by_nursery, Exc, cancelled, raised, parts_of, group_of}
+use Rattle.exceptions.specs.Split.{Wanted, named, keep, drop}
 use Rattle.cancel_scopes.specs.Sight.{Tick, Level, sight, catches}
 use Rattle.job_meaning.specs.Log.{Table}
 use Rattle.job_meaning.specs.Meaning.{root_label, root_here}
-use Rattle.job_meaning.specs.Moments.{Clock, tick_of, a_round_after, wakes_at, gives_up_at, due, Now, only_at, far}
+use Rattle.job_meaning.specs.Moments.{tick_of, a_round_after, wakes_at, gives_up_at, due, Now, only_at, far}
+use Rattle.job_meaning.specs.declared.clock.Clock.{Clock}
 use Rattle.job_meaning.specs.Walk.{Levels, Stack, no_stack, Here, label_here, set_moment, pace_ticks, label_on, event_on, with_own, from_for, stack_for, Left, left_with, Kind, a_scope, a_nursery, exc_after, stack_inside, stack_in_event, home_of, latest, with_exc, excs_of, in_pass, here_in, label_over, handler_exc, outcome_after}
 use Rattle.job_story.specs.Story.{During, at_checkpoint, sleeping, waiting_for, Happening, enters, enters_event, sleeps, is_cancelled, finds, misses, raises, cancels, sets, awaits, was_set, handles, cleans, replaces, waits, leaves, Story, no_more, happened, started, then_story, Tale}
 

@@ -1,5 +1,5 @@
 use block_exits::Kind;
-use exc_groups::{Exc, Label};
+use exceptions::{Exc, Label};
 use job_tree::Name;
 
 /// A part of the input: the place of its first byte, and the place after its last byte. Places are in bytes.

@@ -1,9 +1,9 @@
 ghost use Rattle.std.specs.Prelude.{◌≡◌, OnOk, OnErr, None, if◌then◌else◌};
-ghost use Rattle.exc_groups.specs.Exceptions as tree;
+ghost use Rattle.exceptions.specs.Exceptions as tree;
 ghost use Rattle.job_meaning.specs.Log.{same_label};
 ghost use Rattle.job_story.specs.Froms.{table_in};
 
-use exc_groups::Label;
+use exceptions::Label;
 use indexmap::IndexMap;
 use std::alloc::{AllocError, Global};
 

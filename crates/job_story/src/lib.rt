@@ -1,15 +1,39 @@
+//! Definitions and laws of the story of a job by a table, among them that it is true; its events, computed in one walk over the
+//! job's tree, and a table by labels.
+//!
 //! The story of a run: what happened to each task, in which tick and why.
 //!
-//! The layer defines the story of a job by a table (`specs/Tell.antt`), as the walk of `job_meaning` with a story in place of the
-//! log, and the text of a story (`specs/Sentences.antt`, `specs/Limit.antt`). It promises that the story by a settled table is
-//! true: with everything erased that a log does not contain, it is the log of the job's meaning (`specs/Laws.antt`). At run time the
-//! crate has only the types of the events and the table.
+//! The layer defines the story of a job by a table (`specs/Tell.antt`), as the walk of `job_meaning` with a story in place of
+//! the log, and the text of a story (`specs/Sentences.antt`, `specs/Limit.antt`). It promises that the story by a settled table
+//! is true: with everything erased that a log does not contain, it is the log of the job's meaning (`specs/Laws.antt`). At run
+//! time the crate has only the types of the events and the table.
+//!
+//! Lists the events of a job's run over an input, given the moment from which each scope and nursery is cancelled, and each
+//! event of the job set.
+//!
+//! `tell` returns exactly the events of the story that `job_story` defines, in the order of the walk. It needs no queue and no
+//! timers, since these moments are given: it walks the job's tree once, follows each task from its start to its end before it
+//! continues with the task that started it, and appends every event when it reaches it. An error anywhere in the crate is a
+//! failed allocation.
 #![tactic(auto)]
 
+mod block;
 mod event;
+mod excs;
 mod froms;
+mod here;
 mod kinds;
 mod laws;
+mod leaves;
+mod notes;
+mod own;
+mod places;
+mod progress;
+mod root;
+mod stack;
+mod told;
+mod waits;
+mod walk;
 
 pub use block_exits::Kind;
 pub use event::{During, Event, Happening, Range, Span, What};
@@ -17,3 +41,4 @@ pub use froms::Froms;
 pub use laws::{
     law_blame, law_causes, law_focus, law_froms_of_meaning, law_nesting, law_story, law_waking,
 };
+pub use root::tell;

@@ -10,7 +10,7 @@ use Rattle.job_tokens.specs.declared.token.Mark.TheVariants as mark
 use Rattle.job_tokens.specs.declared.token.Shape.{Shape}
 use Rattle.job_tokens.specs.declared.token.Shape.TheVariants as shape
 use Rattle.job_tokens.specs.Lexing.{is_plain, is_blank}
-use Rattle.digits.specs.Hex.{hex_digit}
+use Rattle.basics.specs.Hex.{hex_digit}
 use Rattle.job_tokens.specs.Canon.{unit, mark_byte, token, is_wordlike, gap, canon_after}
 use Rattle.job_tokens.proofs.Round_bytes.{and_parts, and_whole, either_way}
 use Rattle.job_tokens.proofs.Round_numbers.{digits_of_number}

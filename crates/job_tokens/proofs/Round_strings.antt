@@ -5,7 +5,7 @@ use Rattle.std.proofs.lemmas.Bool.{le-leb, le-ltb, cases_lt}
 use Rattle.job_tree.specs.Words.{is_digit, is_text}
 use Rattle.job_tokens.specs.declared.token.Shape.TheVariants as shape
 use Rattle.job_tokens.specs.Lexing.{hex_value, unit_at, is_plain, after_quote, units, string_of, string_at, token_at}
-use Rattle.digits.specs.Hex.{hex_digit}
+use Rattle.basics.specs.Hex.{hex_digit}
 use Rattle.job_tokens.specs.Canon.{unit}
 use Rattle.job_tokens.proofs.Round_bytes.{and_whole, or_none, either_way}
 

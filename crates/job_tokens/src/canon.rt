@@ -4,7 +4,7 @@ ghost use Rattle.std.specs.Fmt.{decimal};
 ghost use Rattle.job_tokens.specs.Canon.{unit, mark_byte, number as canon_number, token, is_wordlike, gap, canon_of};
 
 use crate::token::{Mark, Shape};
-use digits::{hex_digit, push_number};
+use basics::{hex_digit, push_number};
 use std::alloc::AllocError;
 
 /// Appends the canonical text of the tokens to `out`: one space between two words or numbers and no other blanks, digits

@@ -1,4 +1,4 @@
-//! The tree of a job, as `job_grammar` reads it from a text: names, strings, deadlines and steps.
+//! The tree of a job, as `job_reader` reads it from a text: names, strings, deadlines and steps.
 //!
 //! In contracts, these types are plain values: a name or a string is the list of its bytes, and a block is the list
 //! of its steps (`specs/Tree.antt`). The crate uses no other crate of the product.

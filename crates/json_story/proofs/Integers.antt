@@ -6,17 +6,18 @@ use Rattle.std.specs.Cmp.Lexicographic.{slice_cmp}
 use Rattle.serde_json.specs.Data.{Data, null, boolean, Members, no_members, member, put}
 use Rattle.serde_json.specs.View.{items_of}
 use Rattle.serde_json.specs.Written.{has_float, items_have_float, members_have_float}
-use Rattle.buffer_parts.specs.Lines.{Span}
-use Rattle.exc_groups.specs.Exceptions.{Label, Exc}
+use Rattle.input_lines.specs.Lines.{Span}
+use Rattle.exceptions.specs.Exceptions.{Label, Exc}
 use Rattle.cancel_scopes.specs.Sight.{Tick}
 use Rattle.job_meaning.specs.Log.{Table}
-use Rattle.job_meaning.specs.Moments.{Clock, tick_of}
+use Rattle.job_meaning.specs.Moments.{tick_of}
+use Rattle.job_meaning.specs.declared.clock.Clock.{Clock}
 use Rattle.job_story.specs.Story.{During, at_checkpoint, sleeping, waiting_for, Happening, enters, enters_event, sleeps, is_cancelled, finds, misses, raises, cancels, sets, awaits, was_set, handles, cleans, replaces, waits, leaves}
 use Rattle.job_story.specs.Events.{What, starts, happens, ends, Event}
 use Rattle.job_story.specs.Limit.{running_in, last_event}
 use Rattle.job_story.specs.Causes.{Cause, by_deadline, by_task, by_set, by_failure, by_cancellation, cause_of}
-use Rattle.json_report.specs.Values.{integer, word, list_of, text_json, label_json, exc_json}
-use Rattle.json_report.proofs.Integers.{exc_without_float}
+use Rattle.json_story.specs.Values.{integer, word, list_of, text_json, label_json, exc_json}
+use Rattle.json_story.proofs.ReportIntegers.{exc_without_float}
 use Rattle.json_story.specs.Events.{tick_json, moment_json, label_or_null, exc_or_null, cause_json, why_json, cancel_from, failure_from, kind_key, span_json, with_during, with_happening, with_what, event_head, event_json}
 use Rattle.json_story.specs.Running.{with_idle, with_doing, with_last, task_json}
 use Rattle.json_story.specs.Stories.{running_json}

@@ -3,8 +3,8 @@ use Rattle.std.proofs.Common.{◌≡◌, ℕ, List, ◌++◌, refl, sym, ap, ◌
 use Rattle.std.specs.Prelude.{codes, decimal}
 use Rattle.json.specs.Print.{escape_byte}
 use Rattle.serde_json.specs.Written.{compact_text}
-use Rattle.buffer_parts.specs.Lines.{Span}
-use Rattle.json_report.proofs.PieceLemmas.{joined}
+use Rattle.input_lines.specs.Lines.{Span}
+use Rattle.json_story.proofs.PieceLemmas.{joined}
 use Rattle.json_story.specs.Events.{span_json}
 
 span_text : (line : Span) → compact_text (span_json line)

@@ -2,17 +2,18 @@
 -- file. Each number that says when something happens is a tick.
 use Rattle.std.specs.Prelude.{ℕ, ◌+◌, Option, Some, None, List, map, codes, if◌then◌else◌}
 use Rattle.serde_json.specs.Data.{Data, null, boolean, object, Members, no_members, member, put}
-use Rattle.buffer_parts.specs.Lines.{Span}
-use Rattle.exc_groups.specs.Exceptions.{Label, Exc}
+use Rattle.input_lines.specs.Lines.{Span}
+use Rattle.exceptions.specs.Exceptions.{Label, Exc}
 use Rattle.cancel_scopes.specs.Sight.{Tick}
 use Rattle.job_meaning.specs.Log.{Table}
-use Rattle.job_meaning.specs.Moments.{Clock, tick_of}
+use Rattle.job_meaning.specs.Moments.{tick_of}
+use Rattle.job_meaning.specs.declared.clock.Clock.{Clock}
 use Rattle.job_meaning.specs.Walk.{Kind, a_scope, a_nursery}
 use Rattle.job_story.specs.Story.{During, at_checkpoint, sleeping, waiting_for, Happening, enters, enters_event, sleeps, is_cancelled, finds, misses, raises, cancels, sets, awaits, was_set, handles, cleans, replaces, waits, leaves}
 use Rattle.job_story.specs.Tell.{is_from}
 use Rattle.job_story.specs.Events.{What, starts, happens, ends, Event}
 use Rattle.job_story.specs.Causes.{Cause, by_deadline, by_task, by_set, by_failure, by_cancellation, cause_of}
-use Rattle.json_report.specs.Values.{integer, word, list_of, text_json, label_json, exc_json}
+use Rattle.json_story.specs.Values.{integer, word, list_of, text_json, label_json, exc_json}
 
 -- ---- values that may be none
 

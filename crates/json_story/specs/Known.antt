@@ -1,10 +1,10 @@
 -- What is known of a story.
 use Rattle.std.specs.Prelude.{List, map}
 use Rattle.job_meaning.specs.Log.{Table}
-use Rattle.job_meaning.specs.Moments.{Clock}
+use Rattle.job_meaning.specs.declared.clock.Clock.{Clock}
 use Rattle.job_story.specs.Events as told
 use Rattle.job_story.specs.Froms.{table_in}
-use Rattle.story_causes.specs.Seen.{event_in}
+use Rattle.story_index.specs.Seen.{event_in}
 use Rattle.json_story.specs.declared.known.Known.{Known}
 
 -- how its moments count

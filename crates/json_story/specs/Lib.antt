@@ -1,3 +1,5 @@
+pub mod Values
+pub mod Laws
 pub mod Known
 pub mod Events
 pub mod Running

@@ -1,11 +1,12 @@
 -- The tasks of a story that have not ended, as JSON objects.
 use Rattle.std.specs.Prelude.{ℕ, Option, Some, None, List, codes}
 use Rattle.serde_json.specs.Data.{Data, null, object, Members, no_members, put}
-use Rattle.exc_groups.specs.Exceptions.{Label}
-use Rattle.job_meaning.specs.Moments.{Clock, tick_of}
+use Rattle.exceptions.specs.Exceptions.{Label}
+use Rattle.job_meaning.specs.Moments.{tick_of}
+use Rattle.job_meaning.specs.declared.clock.Clock.{Clock}
 use Rattle.job_story.specs.Story.{sleeps, awaits, waits}
 use Rattle.job_story.specs.Events.{What, happens, Event}
-use Rattle.json_report.specs.Values.{integer, word, label_json}
+use Rattle.json_story.specs.Values.{integer, word, label_json}
 use Rattle.json_story.specs.Events.{moment_json}
 use Rattle.job_story.specs.Limit.{last_event}
 

@@ -1,14 +1,14 @@
 -- A story as a JSON value. The members of an object are in the order of their keys.
 use Rattle.std.specs.Prelude.{ℕ, Option, Some, None, List, [], map, codes}
 use Rattle.serde_json.specs.Data.{Data, object, member, no_members}
-use Rattle.exc_groups.specs.Exceptions.{Label}
+use Rattle.exceptions.specs.Exceptions.{Label}
 use Rattle.cancel_scopes.specs.Sight.{Tick}
 use Rattle.job_meaning.specs.Log.{Table}
-use Rattle.job_meaning.specs.Moments.{Clock}
+use Rattle.job_meaning.specs.declared.clock.Clock.{Clock}
 use Rattle.job_story.specs.Events.{Event, in_order}
 use Rattle.job_story.specs.Limit.{running_in}
 use Rattle.job_story.specs.Focus.{concerned_tasks, of_tasks}
-use Rattle.json_report.specs.Values.{list_of, text_json}
+use Rattle.json_story.specs.Values.{list_of, text_json}
 use Rattle.json_story.specs.Events.{tick_json, event_json}
 use Rattle.json_story.specs.Running.{task_json}
 

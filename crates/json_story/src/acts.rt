@@ -1,16 +1,16 @@
 ghost use Rattle.std.specs.Prelude.{◌≡◌, Some, IfOk, codes};
 ghost use Rattle.serde_json.specs.View.{view};
-ghost use Rattle.story_causes.specs.Found.{cause_in_code};
+ghost use Rattle.story_index.specs.Found.{cause_in_code};
 ghost use Rattle.json_story.specs.Events.{act_json, cause_json, why_json};
 ghost use Rattle.json_story.specs.Known.{clock_in, events_in, froms_in};
 
 use crate::known::Known;
-use exc_groups::Label;
-use json_report::label_value;
-use moments::Clock;
+use crate::label_value;
+use exceptions::Label;
+use job_meaning::Clock;
 use serde_json::{Value, json};
 use std::alloc::{AllocError, Global};
-use story_causes::Cause;
+use story_index::Cause;
 
 // Returns why a scope or nursery is cancelled, or an event of the job set, or `null`.
 pub(crate) fn why_value(

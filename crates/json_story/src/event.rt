@@ -3,8 +3,8 @@ ghost use Rattle.serde_json.specs.Data.{put as with_member};
 ghost use Rattle.serde_json.specs.View.{view, members_view};
 ghost use Rattle.serde_json.specs.Written.{compact_text};
 ghost use Rattle.job_story.specs.Held.{what_of, event_of};
-ghost use Rattle.story_causes.specs.Seen.{event_in};
-ghost use Rattle.json_report.specs.Values.{list_of};
+ghost use Rattle.story_index.specs.Seen.{event_in};
+ghost use Rattle.json_story.specs.Values.{list_of};
 ghost use Rattle.json_story.specs.Events.{what_word, with_what, event_head, event_json};
 ghost use Rattle.json_story.specs.Known.{clock_in, events_in, froms_in};
 
@@ -12,9 +12,9 @@ use crate::found::push_found;
 use crate::happening::{happening_word, put_happening};
 use crate::known::Known;
 use crate::optional::{exc_or_null, label_or_null, moment_value};
+use crate::{label_value, push_comma, push_value};
+use job_meaning::Clock;
 use job_story::{Event, Happening, What};
-use json_report::{label_value, push_comma, push_value};
-use moments::Clock;
 use serde_json::{Map, Value, put};
 use std::alloc::{AllocError, Global};
 

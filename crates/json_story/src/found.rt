@@ -4,13 +4,13 @@ ghost use Rattle.std.specs.Prelude.{◌≡◌, ◌++◌, OnOk, map, codes, true}
 ghost use Rattle.serde_json.specs.Data.{Members, member};
 ghost use Rattle.serde_json.specs.Written.{compact_text, members_text};
 ghost use Rattle.job_story.specs.Held.{span_in};
-ghost use Rattle.json_report.specs.Values.{list_of};
+ghost use Rattle.json_story.specs.Values.{list_of};
 ghost use Rattle.json_story.specs.Events.{found_json, span_json};
 
-use digits::push_number;
-use exc_groups::Label;
+use crate::{label_value, push_comma, push_first_member, push_key, push_member};
+use basics::push_number;
+use exceptions::Label;
 use job_story::Span;
-use json_report::{label_value, push_comma, push_first_member, push_key, push_member};
 use serde_json::Value;
 use std::alloc::{AllocError, Global};
 

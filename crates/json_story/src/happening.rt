@@ -1,21 +1,21 @@
 ghost use Rattle.std.specs.Prelude.{◌≡◌, ◌++◌, [], ◌∷◌, Some, take, map, IfOk, OnOk, codes};
 ghost use Rattle.serde_json.specs.Data.{boolean, put as with_member};
 ghost use Rattle.serde_json.specs.View.{view, members_view};
-ghost use Rattle.exc_groups.specs.Held.{exc_of};
+ghost use Rattle.exceptions.specs.Held.{exc_of};
 ghost use Rattle.block_exits.specs.Held.{kind_of};
 ghost use Rattle.job_story.specs.Held.{unboxed_exc, during_of, span_in, happening_of};
-ghost use Rattle.json_report.specs.Values.{integer, list_of, label_json, exc_json};
-ghost use Rattle.moments.specs.Moments.{tick_of};
+ghost use Rattle.json_story.specs.Values.{integer, list_of, label_json, exc_json};
+ghost use Rattle.job_meaning.specs.Clocks.{tick_of};
 ghost use Rattle.json_story.specs.Events.{moment_json, label_or_null, exc_or_null, why_json, cancel_from, failure_from, kind_key, span_json, happening_word, with_during, with_happening};
 ghost use Rattle.json_story.specs.Known.{clock_in, events_in, froms_in};
 
 use crate::acts::why_value;
 use crate::known::Known;
 use crate::optional::{exc_or_null, label_or_null, moment_value};
-use exc_groups::{Exc, Label};
+use crate::{exc_value, label_value, text_value};
+use exceptions::{Exc, Label};
+use job_meaning::Clock;
 use job_story::{During, Happening, Kind, Span};
-use json_report::{exc_value, label_value, text_value};
-use moments::Clock;
 use serde_json::{Map, Value, json, put};
 use std::alloc::{AllocError, Global};
 

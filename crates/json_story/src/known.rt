@@ -1,11 +1,11 @@
 ghost use Rattle.std.specs.Prelude.{map};
 ghost use Rattle.job_story.specs.Froms.{table_in};
-ghost use Rattle.story_causes.specs.Knows.{Knows};
-ghost use Rattle.story_causes.specs.Seen.{event_in};
+ghost use Rattle.story_index.specs.Knows.{Knows};
+ghost use Rattle.story_index.specs.Seen.{event_in};
 
+use job_meaning::Clock;
 use job_story::{Event, Froms};
-use moments::Clock;
-use story_causes::Causes;
+use story_index::Causes;
 
 // The clock of a story's moments, its events in order, the moment from which each scope and nursery is cancelled, or
 // an event of the job set, and an index of both.

@@ -3,9 +3,9 @@ ghost use Rattle.serde_json.specs.View.{view};
 ghost use Rattle.job_story.specs.Held.{unboxed_exc};
 ghost use Rattle.json_story.specs.Events.{tick_json, moment_json, label_or_null, exc_or_null};
 
-use exc_groups::{Exc, Label};
-use json_report::{exc_value, label_value};
-use moments::Clock;
+use crate::{exc_value, label_value};
+use exceptions::{Exc, Label};
+use job_meaning::Clock;
 use serde_json::Value;
 use std::alloc::{AllocError, Global};
 

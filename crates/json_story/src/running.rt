@@ -1,24 +1,24 @@
 ghost use Rattle.std.specs.Prelude.{◌≡◌, ◌++◌, ◌&&◌, not, [], ◌∷◌, List, IfOk, OnOk, map, codes, drop};
 ghost use Rattle.serde_json.specs.Data.{put as with_member};
 ghost use Rattle.serde_json.specs.View.{view, members_view};
-ghost use Rattle.exc_groups.specs.Exceptions as tree;
+ghost use Rattle.exceptions.specs.Exceptions as tree;
 ghost use Rattle.job_story.specs.Held.{happening_of, what_of};
 ghost use Rattle.job_story.specs.Events as told;
 ghost use Rattle.job_story.specs.Limit.{has_ended, start_if, is_start, running_in};
-ghost use Rattle.story_causes.specs.Seen.{event_in};
-ghost use Rattle.json_report.specs.Values.{integer, word};
-ghost use Rattle.story_causes.specs.Lasts.{seen_last};
+ghost use Rattle.story_index.specs.Seen.{event_in};
+ghost use Rattle.json_story.specs.Values.{integer, word};
+ghost use Rattle.story_index.specs.Lasts.{seen_last};
 ghost use Rattle.json_story.specs.Running.{with_idle, with_doing, with_last, task_json};
-ghost use Rattle.story_causes.specs.Tasks.{sorted_in, walked_in};
+ghost use Rattle.story_index.specs.Tasks.{sorted_in, walked_in};
 
+use crate::label_value;
 use crate::optional::moment_value;
-use exc_groups::Label;
+use exceptions::Label;
+use job_meaning::Clock;
 use job_story::{Event, Happening, What};
-use json_report::label_value;
-use moments::Clock;
 use serde_json::{Map, Value, put};
 use std::alloc::{AllocError, Global};
-use story_causes::Tasks;
+use story_index::Tasks;
 
 // Returns the tasks that have not ended as JSON objects, in the order in which the walk starts them.
 pub(crate) fn running_values(

@@ -3,17 +3,17 @@ ghost use Rattle.std.specs.Option.{option_map};
 ghost use Rattle.job_story.specs.Causes.{cause_of};
 ghost use Rattle.job_story.specs.Froms.{table_in};
 ghost use Rattle.job_story.specs.Held.{unboxed_exc};
-ghost use Rattle.story_causes.specs.Found.{cause_in_code};
-ghost use Rattle.story_causes.specs.Knows.{Knows};
-ghost use Rattle.story_causes.specs.Seen.{event_in};
+ghost use Rattle.story_index.specs.Found.{cause_in_code};
+ghost use Rattle.story_index.specs.Knows.{Knows};
+ghost use Rattle.story_index.specs.Seen.{event_in};
 ghost use Rattle.json_story.specs.Events.{next_if, cancel_from, failure_from};
 ghost use Rattle.json_story.specs.Known.{clock_in, events_in, froms_in};
 
 use crate::known::Known;
-use exc_groups::{Exc, Label};
+use exceptions::{Exc, Label};
+use job_meaning::Clock;
 use job_story::{Event, Froms};
-use moments::Clock;
-use story_causes::{Cause, Causes};
+use story_index::{Cause, Causes};
 
 impl<'k, 'e> Known<'k, 'e> {
     // Puts together the clock of a story's moments, its events in order, the table and the index of both.

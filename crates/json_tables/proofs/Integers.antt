@@ -4,20 +4,20 @@ use Rattle.std.specs.Prelude.{Bool, false}
 use Rattle.serde_json.specs.Data.{Data}
 use Rattle.serde_json.specs.View.{items_of}
 use Rattle.serde_json.specs.Written.{has_float, items_have_float}
-use Rattle.exc_groups.specs.Exceptions.{Label, Exc}
+use Rattle.exceptions.specs.Exceptions.{Label, Exc}
 use Rattle.job_edits.specs.declared.fault.BlockPart.{BlockPart}
 use Rattle.job_edits.specs.Faults.{raised_by}
-use Rattle.fault_text.specs.JobOutcomes.{JobOutcome, refused, stuck, ended}
-use Rattle.fault_text.specs.Table as faults
-use Rattle.fault_text.specs.declared.options.Untried.{Untried}
-use Rattle.sweep_text.specs.Groups as sweeps
-use Rattle.race_rows.specs.Differences.{Difference, otherwise, inside}
+use Rattle.outcomes.specs.JobOutcomes.{JobOutcome, refused, stuck, ended}
+use Rattle.outcomes.specs.Table as faults
+use Rattle.outcomes.specs.declared.options.Untried.{Untried}
+use Rattle.outcomes.specs.Groups as sweeps
+use Rattle.race_text.specs.Differences.{Difference, otherwise, inside}
 use Rattle.race_text.specs.Lines as races
 use Rattle.race_text.specs.Lines.{finer, moved, copies, is_shown}
 use Rattle.race_text.specs.Table.{lines_that}
 use Rattle.job_lint.specs.declared.warning.Warning.{Warning}
-use Rattle.json_report.specs.Values.{label_json}
-use Rattle.json_report.proofs.Integers.{exc_without_float}
+use Rattle.json_story.specs.Values.{label_json}
+use Rattle.json_story.proofs.ReportIntegers.{exc_without_float}
 use Rattle.json_tables.specs.Results.{exc_or_null, result_json}
 use Rattle.json_tables.specs.Faults.{part_or_null, fault_line_json, faults_json}
 use Rattle.json_tables.specs.Sweeps.{value_json, sweep_json}

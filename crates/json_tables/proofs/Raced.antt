@@ -1,7 +1,7 @@
 -- The values of lines, with the text of the step as it was passed on.
 use Rattle.std.proofs.Common.{◌≡◌, ℕ, Option, List, ap, ◌∙◌}
 use Rattle.serde_json.specs.Data.{Data}
-use Rattle.exc_groups.specs.Exceptions.{Label}
+use Rattle.exceptions.specs.Exceptions.{Label}
 use Rattle.job_edits.specs.declared.site.Moment.{Moment}
 use Rattle.job_edits.specs.declared.shift.Hair.{Hair}
 use Rattle.race_text.specs.Lines.{Found, moved, copies}

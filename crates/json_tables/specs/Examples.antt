@@ -2,19 +2,19 @@
 use Rattle.std.specs.Prelude.{◌≡◌, true, false, Some, None, [], ◌∷◌, ◌++◌, codes, refl}
 use Rattle.std.specs.Fmt.{digits}
 use Rattle.json.specs.Print.{escape_byte}
-use Rattle.exc_groups.specs.Exceptions.{by_nursery, cancelled, raised, group, no_parts, part}
+use Rattle.exceptions.specs.Exceptions.{by_nursery, cancelled, raised, group, no_parts, part}
 use Rattle.job_edits.specs.declared.fault.Fault.TheVariants.{Fails, Hangs, Misses}
 use Rattle.job_edits.specs.declared.waiting.Wait.TheVariants as wait
 use Rattle.job_edits.specs.declared.site.Moment.TheVariants.{Sleep}
 use Rattle.job_edits.specs.declared.shift.Hair.TheVariants.{Earlier, Later}
 use Rattle.job_lint.specs.declared.warning.Lint.TheVariants.{Unreachable, IdleScope, UnsetEvent}
-use Rattle.fault_text.specs.JobOutcomes.{JobOutcome, refused, stuck, ended}
-use Rattle.fault_text.specs.Examples.{task, too_large, line_in, line_with}
-use Rattle.sweep_text.specs.Examples.{value_with as value}
-use Rattle.race_rows.specs.Differences.{otherwise, inside}
+use Rattle.outcomes.specs.JobOutcomes.{JobOutcome, refused, stuck, ended}
+use Rattle.outcomes.specs.Examples.{task, too_large, line_in, line_with}
+use Rattle.outcomes.specs.SweepExamples.{value_with as value}
+use Rattle.race_text.specs.Differences.{otherwise, inside}
 use Rattle.race_text.specs.Examples.{copy}
 use Rattle.race_text.specs.Lines as races
-use Rattle.json_report.specs.Values.{document}
+use Rattle.json_story.specs.Values.{document}
 use Rattle.json_tables.specs.Faults.{faults_json}
 use Rattle.json_tables.specs.Sweeps.{sweep_json}
 use Rattle.json_tables.specs.Races.{races_json}

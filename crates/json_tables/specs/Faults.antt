@@ -1,11 +1,11 @@
 -- The outcomes of a job with each fault, as a JSON value.
 use Rattle.std.specs.Prelude.{ℕ, Bool, Option, Some, None, List, map, codes}
 use Rattle.serde_json.specs.Data.{Data, null, boolean, object, member, no_members}
-use Rattle.fault_text.specs.declared.counts.Counts.{Counts}
-use Rattle.fault_text.specs.declared.options.Untried.{Untried}
-use Rattle.fault_text.specs.JobOutcomes.{JobOutcome}
-use Rattle.fault_text.specs.Table.{Line, fault_text, step_text, part_text, printed, counts_of}
-use Rattle.json_report.specs.Values.{integer, word, list_of, text_json}
+use Rattle.outcomes.specs.declared.counts.Counts.{Counts}
+use Rattle.outcomes.specs.declared.options.Untried.{Untried}
+use Rattle.outcomes.specs.JobOutcomes.{JobOutcome}
+use Rattle.outcomes.specs.Table.{Line, fault_text, step_text, part_text, printed, counts_of}
+use Rattle.json_story.specs.Values.{integer, word, list_of, text_json}
 use Rattle.job_edits.specs.declared.fault.BlockPart.{BlockPart}
 use Rattle.job_edits.specs.Faults.{raised_by}
 use Rattle.json_tables.specs.Results.{result_json, first_json}

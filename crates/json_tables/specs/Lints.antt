@@ -1,12 +1,12 @@
 -- The probable mistakes in a job text, as a JSON value.
 use Rattle.std.specs.Prelude.{ℕ, Option, Some, None, List, length, map, codes}
 use Rattle.serde_json.specs.Data.{Data, null, object, member, no_members}
-use Rattle.places.specs.Places.{line_of, column_of}
+use Rattle.basics.specs.Places.{line_of, column_of}
 use Rattle.job_lint.specs.Sentences.{sentence_of}
 use Rattle.job_lint.specs.declared.warning.Lint.{Lint}
 use Rattle.job_lint.specs.declared.warning.Lint.TheVariants.{Unreachable, ExposedWait, RaiseInCleanup, ShieldWithoutDeadline, IdleScope, IdleHandler, UnsetEvent, UnawaitedEvent, LateCancel}
 use Rattle.job_lint.specs.declared.warning.Warning.{Warning}
-use Rattle.json_report.specs.Values.{integer, word, list_of, text_json}
+use Rattle.json_story.specs.Values.{integer, word, list_of, text_json}
 
 -- the kind of a mistake, in one word
 abbrev pub kind_word : Lint → List ℕ

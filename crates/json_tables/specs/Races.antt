@@ -1,12 +1,12 @@
 -- The places of a job on which its outcome depends by a hair, as a JSON value.
 use Rattle.std.specs.Prelude.{ℕ, true, List, [], ◌∷◌, length, map, codes}
 use Rattle.serde_json.specs.Data.{Data, null, boolean, object, member, no_members}
-use Rattle.exc_groups.specs.Exceptions.{Label}
+use Rattle.exceptions.specs.Exceptions.{Label}
 use Rattle.job_edits.specs.declared.shift.Hair.{Hair}
-use Rattle.race_rows.specs.Differences.{Difference, otherwise, inside}
+use Rattle.race_text.specs.Differences.{Difference, otherwise, inside}
 use Rattle.race_text.specs.Lines.{Found, not_tried, differs, Line, finer, moved, copies, is_shown, is_race, is_hair_not_tried}
 use Rattle.race_text.specs.Table.{hair_name, step_text, lines_that}
-use Rattle.json_report.specs.Values.{integer, word, list_of, text_json, label_json}
+use Rattle.json_story.specs.Values.{integer, word, list_of, text_json, label_json}
 use Rattle.json_tables.specs.Results.{not_tried_json}
 
 -- `{"after":TEXT,"before":TEXT,"task":LABEL}`, or `{"entries_differ":true,"task":LABEL}` where only lines, exits or waits differ

@@ -1,11 +1,11 @@
 -- The outcome of a job that runs up to a limit, as a JSON value. The members of an object are in the order of their keys.
 use Rattle.std.specs.Prelude.{ℕ, Option, Some, None, List, map, codes}
 use Rattle.serde_json.specs.Data.{Data, null, boolean, object, member, no_members}
-use Rattle.job_grammar.specs.Kinds.{number_of}
-use Rattle.job_grammar.specs.declared.fault.JobFault.{JobFault}
-use Rattle.exc_groups.specs.Exceptions.{Exc, cancelled}
-use Rattle.fault_text.specs.JobOutcomes.{JobOutcome, refused, stuck, ended}
-use Rattle.json_report.specs.Values.{integer, word, list_of, label_json, exc_json}
+use Rattle.job_reader.specs.Kinds.{number_of}
+use Rattle.job_reader.specs.declared.fault.JobFault.{JobFault}
+use Rattle.exceptions.specs.Exceptions.{Exc, cancelled}
+use Rattle.outcomes.specs.JobOutcomes.{JobOutcome, refused, stuck, ended}
+use Rattle.json_story.specs.Values.{integer, word, list_of, label_json, exc_json}
 
 -- how a job ends, in one word: without an exception, with one `Cancelled` outside any group, or with another exception
 abbrev pub end_word : Option Exc → List ℕ

@@ -1,10 +1,10 @@
 -- The outcomes of a job for each value of a number, as a JSON value.
 use Rattle.std.specs.Prelude.{ℕ, List, length, map, codes}
 use Rattle.serde_json.specs.Data.{Data, object, member, no_members}
-use Rattle.fault_text.specs.JobOutcomes.{JobOutcome, is_stuck, has_cut, is_refused}
-use Rattle.sweep_text.specs.Groups.{Value}
-use Rattle.sweep_text.specs.Sweeps.{count}
-use Rattle.json_report.specs.Values.{integer, list_of}
+use Rattle.outcomes.specs.JobOutcomes.{JobOutcome, is_stuck, has_cut, is_refused}
+use Rattle.outcomes.specs.Groups.{Value}
+use Rattle.outcomes.specs.Sweeps.{count}
+use Rattle.json_story.specs.Values.{integer, list_of}
 use Rattle.json_tables.specs.Results.{result_json, first_json}
 
 -- `{"result":RESULT,"value":N}`

@@ -1,17 +1,17 @@
 ghost use Rattle.std.specs.Prelude.{◌≡◌, ◌++◌, [], ◌∷◌, ◌||◌, not, List, IfOk, OnOk, length, map, take, codes};
 ghost use Rattle.serde_json.specs.View.{view};
-ghost use Rattle.fault_text.specs.Table as told;
-ghost use Rattle.fault_text.specs.Table.{counts_of, fault_text, printed, step_text};
-ghost use Rattle.fault_text.specs.Views.{job_outcome_held, line_held};
-ghost use Rattle.json_report.specs.Values.{document, text_json};
+ghost use Rattle.outcomes.specs.Table as told;
+ghost use Rattle.outcomes.specs.Table.{counts_of, fault_text, printed, step_text};
+ghost use Rattle.outcomes.specs.Views.{job_outcome_held, line_held};
+ghost use Rattle.json_story.specs.Values.{document, text_json};
 ghost use Rattle.json_tables.specs.Faults.{part_or_null, fault_line_json, fault_counts_json, faults_json};
 
 use crate::members::{place_members, with, with_word};
 use crate::results::{first_value, result_value};
 use crate::warnings::name_value;
-use fault_text::{Counts, JobOutcome, Line, Untried, push_part};
 use job_edits::{BlockPart, Fault, push_wait};
-use json_report::{document, text_value};
+use json_story::{document, text_value};
+use outcomes::{Counts, JobOutcome, Line, Untried, push_part};
 use serde_json::{Map, Value};
 use std::alloc::{AllocError, Global};
 

@@ -2,8 +2,8 @@
 //!
 //! The layer promises that `faults_json`, `sweep_json`, `races_json` and `lints_json` return the JSON text of a definition over
 //! the same lines that the text tables have (`specs/`). Bytes of a job text and of names are shown as in a report, so a backslash
-//! is doubled and a byte that is not printable ASCII is escaped. It uses `fault_text`, `sweep_text`, `race_text` and `job_lint`
-//! for the lines, and `json_report` for the values of labels, exceptions and bytes.
+//! is doubled and a byte that is not printable ASCII is escaped. It uses `outcomes`, `race_text` and `job_lint`
+//! for the lines, and `json_story` for the values of labels, exceptions and bytes.
 #![tactic(auto)]
 
 mod fault_lines;

@@ -1,11 +1,11 @@
 ghost use Rattle.std.specs.Prelude.{◌≡◌, IfOk, map, codes};
 ghost use Rattle.serde_json.specs.Data.{member, no_members, string, put as with_member};
 ghost use Rattle.serde_json.specs.View.{view, members_view};
-ghost use Rattle.exc_groups.specs.Exceptions.{Label};
-ghost use Rattle.json_report.specs.Values.{integer, label_json, list_of};
+ghost use Rattle.exceptions.specs.Exceptions.{Label};
+ghost use Rattle.json_story.specs.Values.{integer, label_json, list_of};
 
-use exc_groups::Label;
-use json_report::label_value;
+use exceptions::Label;
+use json_story::label_value;
 use serde_json::{Map, Value, put};
 use std::alloc::{AllocError, Global};
 

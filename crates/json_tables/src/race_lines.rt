@@ -1,19 +1,18 @@
 ghost use Rattle.std.specs.Prelude.{◌≡◌, ◌++◌, [], ◌∷◌, List, IfOk, OnOk, length, map, take, drop, codes, if◌then◌else◌};
 ghost use Rattle.serde_json.specs.View.{view};
-ghost use Rattle.race_rows.specs.Views.{difference_held};
+ghost use Rattle.race_text.specs.RowViews.{difference_held};
 ghost use Rattle.race_text.specs.Lines as told;
 ghost use Rattle.race_text.specs.Lines.{is_shown};
 ghost use Rattle.race_text.specs.Table.{hair_name, lines_that};
-ghost use Rattle.race_text.specs.Views.{found_held, line_held};
-ghost use Rattle.json_report.specs.Values.{document, label_json, list_of};
+ghost use Rattle.race_text.specs.LineViews.{found_held, line_held};
+ghost use Rattle.json_story.specs.Values.{document, label_json, list_of};
 ghost use Rattle.json_tables.specs.Races.{difference_json, differences_json, refusal_or_null, finer_json, moved_json, copies_json, race_line_json, race_counts_json, races_json};
 
 use crate::results::not_tried_value;
-use exc_groups::Label;
+use exceptions::Label;
 use job_edits::Hair;
-use json_report::{document, label_value, text_value};
-use race_rows::Difference;
-use race_text::{Found, Line, hairs_not_tried_in, races_in, step_of};
+use json_story::{document, label_value, text_value};
+use race_text::{Difference, Found, Line, hairs_not_tried_in, races_in, step_of};
 use serde_json::{Value, json};
 use std::alloc::{AllocError, Global};
 

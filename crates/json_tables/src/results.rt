@@ -1,16 +1,16 @@
 ghost use Rattle.std.specs.Prelude.{◌≡◌, ◌++◌, [], ◌∷◌, Some, IfOk, codes, map, take};
 ghost use Rattle.std.specs.Option.{option_map};
 ghost use Rattle.serde_json.specs.View.{view};
-ghost use Rattle.exc_groups.specs.Held.{exc_of};
-ghost use Rattle.fault_text.specs.JobOutcomes.{refused, stuck, ended};
-ghost use Rattle.fault_text.specs.Views.{job_outcome_held};
+ghost use Rattle.exceptions.specs.Held.{exc_of};
+ghost use Rattle.outcomes.specs.JobOutcomes.{refused, stuck, ended};
+ghost use Rattle.outcomes.specs.Views.{job_outcome_held};
 ghost use Rattle.json_tables.specs.Results.{end_word, exc_or_null, not_tried_json, result_json, first_json};
 
 use crate::members::{with, with_labels, with_word};
-use exc_groups::{Exc, Label};
-use fault_text::JobOutcome;
-use job_grammar::JobFault;
-use json_report::exc_value;
+use exceptions::{Exc, Label};
+use job_reader::JobFault;
+use json_story::exc_value;
+use outcomes::JobOutcome;
 use serde_json::{Map, Value, json};
 use std::alloc::{AllocError, Global};
 

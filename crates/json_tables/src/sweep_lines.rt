@@ -1,19 +1,18 @@
 ghost use Rattle.std.specs.Prelude.{◌≡◌, ◌++◌, [], ◌∷◌, IfOk, length, map, take, codes};
 ghost use Rattle.serde_json.specs.View.{view};
-ghost use Rattle.fault_text.specs.JobOutcomes.{is_stuck, has_cut, is_refused};
-ghost use Rattle.fault_text.specs.Views.{job_outcome_held};
-ghost use Rattle.sweep_text.specs.Sweeps.{count};
-ghost use Rattle.sweep_text.specs.Views.{value_held};
-ghost use Rattle.json_report.specs.Values.{document};
+ghost use Rattle.outcomes.specs.JobOutcomes.{is_stuck, has_cut, is_refused};
+ghost use Rattle.outcomes.specs.Views.{job_outcome_held};
+ghost use Rattle.outcomes.specs.Sweeps.{count};
+ghost use Rattle.outcomes.specs.SweepViews.{value_held};
+ghost use Rattle.json_story.specs.Values.{document};
 ghost use Rattle.json_tables.specs.Sweeps.{value_json, value_counts_json, sweep_json};
 
 use crate::members::with;
 use crate::results::{first_value, result_value};
-use fault_text::JobOutcome;
-use json_report::document;
+use json_story::document;
+use outcomes::{JobOutcome, Value as Swept};
 use serde_json::{Map, Value, json};
 use std::alloc::{AllocError, Global};
-use sweep_text::Value as Swept;
 
 /// Returns one JSON document with the outcome of a job as it is (`first`), its outcome for each value of a number in their order,
 /// including the ticks, and how many values are of each kind. The document is compact and ends with a newline. `limit` is the

@@ -1,14 +1,14 @@
 ghost use Rattle.std.specs.Prelude.{◌≡◌, ◌++◌, [], ◌∷◌, IfOk, length, map, take, codes};
 ghost use Rattle.serde_json.specs.View.{view};
 ghost use Rattle.job_lint.specs.Sentences.{sentence_of};
-ghost use Rattle.json_report.specs.Values.{document, text_json};
+ghost use Rattle.json_story.specs.Values.{document, text_json};
 ghost use Rattle.json_tables.specs.Lints.{kind_word, name_or_null, warning_json, warning_counts_json, lints_json};
 
 use crate::members::{with, with_word};
+use basics::{column_of, line_of};
 use job_lint::{Lint, Warning, sentence};
 use job_tree::Name;
-use json_report::{document, text_value};
-use places::{column_of, line_of};
+use json_story::{document, text_value};
 use serde_json::{Map, Value, json};
 use std::alloc::{AllocError, Global};
 

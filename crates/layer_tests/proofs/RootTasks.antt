@@ -4,9 +4,9 @@ use Rattle.std.specs.Prelude.{◌≤◌, All}
 use Rattle.std.specs.Option.{ForSome}
 use Rattle.std.specs.List.{last_or}
 use Rattle.std.proofs.lemmas.List.Elements.{All-nil}
-use Rattle.buffer_parts.specs.Lines.{bytes_of}
-use Rattle.buffer_parts.specs.Part.{buffer_of, range_of}
-use Rattle.buffer_parts.specs.declared.part.Part.{Part}
+use Rattle.input_lines.specs.Lines.{bytes_of}
+use Rattle.input_lines.specs.Part.{buffer_of, range_of}
+use Rattle.input_lines.specs.declared.part.Part.{Part}
 use Rattle.cancel_scopes.specs.Tree.{Stack, stack_of, outer_of, IsOpen}
 use Rattle.job_tree.specs.Tree.{Tree as Job}
 use Rattle.job_tree.specs.InRange.{AreInRange}

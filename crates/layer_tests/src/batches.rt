@@ -4,10 +4,9 @@ ghost use Rattle.std.specs.Prelude.{◌≡◌, ◌<◌, [], IfOk, OnOk, length};
 ghost use Rattle.batch_commit.specs.Entries.{AllPlaced, NonePlaced};
 
 use crate::fixtures::{push_bytes, push_number, same};
-use autojump_clock::TaskId;
 use batch_commit::{Call, Forward, Live, Pick, ReadyBatch, Reverse, Turn};
-use buffer_parts::Part;
-use line_kernels::{Answer, Kernel, Request};
+use clock::TaskId;
+use input_lines::{Answer, Kernel, Part, Request};
 use std::alloc::{AllocError, Global};
 use std::test::Fail;
 use task_machine::Wake;

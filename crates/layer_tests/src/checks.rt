@@ -1,8 +1,8 @@
-//! `job_checks`: names given twice, a `cancel` or `set` that no block of its name encloses, reserved names, and the
+//! `job_reader`: names given twice, a `cancel` or `set` that no block of its name encloses, reserved names, and the
 //! sizes of jobs.
 
 use crate::fixtures::{word, wrong};
-use job_checks::{given_twice, reserved_name, size_of, stray_use};
+use job_reader::{given_twice, reserved_name, size_of, stray_use};
 use job_syntax::Role;
 use job_tokens::{Shape, Token};
 use job_tree::{Body, Deadline, Handler, Name, Step};

@@ -1,13 +1,13 @@
-//! `claim_word`: each number of a batch is drawn once, by one thread or by two.
+//! `workers`: each number of a batch is drawn once, by one thread or by two.
 
 ghost use Rattle.std.specs.Prelude.{◌≡◌, false, All};
-ghost use Rattle.claim_word.specs.Claims.{IsPassOf, was_told};
+ghost use Rattle.workers.specs.Claims.{IsPassOf, was_told};
 
-use claim_word::{Claims, Pass};
 use std::alloc::Global;
 use std::test::Fail;
 use std::thread;
 use std::thread::Threads;
+use worker_threads::{Claims, Pass};
 
 // Whether two tickets draw two numbers in order, and nothing is left for the first then.
 fn draw_two(alloc: Global) -> Result<bool, Fail> {

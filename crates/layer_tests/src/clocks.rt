@@ -1,12 +1,12 @@
-//! `autojump_clock`: timers and cancellations move the clock, and ids of tasks keep their keys.
+//! `clock`: timers and cancellations move the clock, and ids of tasks keep their keys.
 //!
 //! What the calls require of ticks is tested when they run, so that a proof carries only the tasks'
 //! timers.
 
 ghost use Rattle.std.specs.Prelude.{◌≡◌, ℕ, None, Some, OnOk, IfOk};
-ghost use Rattle.autojump_clock.specs.Clock.{due_of, HasTimer, Updates};
+ghost use Rattle.clock.specs.Clock.{due_of, HasTimer, Updates};
 
-use autojump_clock::{Jump, MockClock, TaskId};
+use clock::{Jump, MockClock, TaskId};
 use std::alloc::Global;
 use std::test::Fail;
 

@@ -1,8 +1,7 @@
-//! `sleepers`: sleepers are found by the tick from which their scopes see a cancellation.
+//! `clock`: sleepers are found by the tick from which their scopes see a cancellation.
 
-use autojump_clock::TaskId;
 use cancel_scopes::{ScopeId, ScopeTree};
-use sleepers::Sleepers;
+use clock::{Sleepers, TaskId};
 use std::alloc::{AllocError, Global};
 use std::test::Fail;
 

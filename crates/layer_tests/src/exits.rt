@@ -2,7 +2,7 @@
 
 use crate::fixtures::{label, push_bytes, push_exc, raised_exc, same};
 use block_exits::{Kind, exc_after, handler_exc, left_with, outcome_after};
-use exc_groups::Exc;
+use exceptions::Exc;
 use std::alloc::{AllocError, Global};
 use std::test::Fail;
 

@@ -1,9 +1,9 @@
 //! What several tests need: names, labels, jobs and exceptions, and texts of the results of calls.
 
-use buffer_parts::Part;
-use exc_groups::{Exc, Label, Whose};
-use job_grammar::{Job, read_job};
+use exceptions::{Exc, Label, Whose};
+use input_lines::Part;
 use job_meaning::MAX_INPUT;
+use job_reader::{Job, read_job};
 use job_tree::Name;
 use std::alloc::{AllocError, Global};
 use std::test::Fail;

@@ -1,8 +1,8 @@
-//! `job_grammar`: which texts are jobs, with which fault and at which place others are refused, and the canonical texts
+//! `job_reader`: which texts are jobs, with which fault and at which place others are refused, and the canonical texts
 //! of jobs.
 
 use crate::fixtures::{job, push_bytes, push_digit, wrong};
-use job_grammar::{Format, Job, JobFault, JobKind, read_job, write_job};
+use job_reader::{Format, Job, JobFault, JobKind, read_job, write_job};
 use std::alloc::{AllocError, Global};
 use std::test::Fail;
 

@@ -1,7 +1,7 @@
-//! `exc_groups`: splits of exceptions and groups, copies, and the labels of what raised them.
+//! `exceptions`: splits of exceptions and groups, copies, and the labels of what raised them.
 
 use crate::fixtures::{label, push_bytes, push_exc, push_label, raised_exc, same, word};
-use exc_groups::{Exc, Label, Match, Parts, Whose, group, holds_cancelled, split};
+use exceptions::{Exc, Label, Match, Parts, Whose, group, holds_cancelled, split};
 use std::alloc::{AllocError, Global};
 use std::test::Fail;
 

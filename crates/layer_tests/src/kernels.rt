@@ -1,9 +1,8 @@
-//! `line_kernels`: the lines, the count or the missing line that each kernel answers on a whole
+//! `input_lines`: the lines, the count or the missing line that each kernel answers on a whole
 //! buffer.
 
 use crate::fixtures::{push_bytes, push_number, wrong};
-use buffer_parts::Part;
-use line_kernels::{Answer, Kernel, answer};
+use input_lines::{Answer, Kernel, Part, answer};
 use std::alloc::{AllocError, Global};
 use std::test::Fail;
 

@@ -45,4 +45,4 @@ mod ticks_and_rounds;
 #[cfg(test)]
 mod tokens;
 #[cfg(test)]
-mod workers;
+mod worker_threads;

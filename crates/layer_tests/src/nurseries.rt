@@ -5,9 +5,9 @@ ghost use Rattle.nursery_book.specs.Nursery.{is_settled};
 ghost use Rattle.nursery_book.specs.Book.{HasNursery};
 
 use crate::fixtures::{label, push_exc, raised_exc, same};
-use autojump_clock::TaskId;
 use cancel_scopes::{ScopeId, ScopeTree};
-use exc_groups::{Exc, Label};
+use clock::TaskId;
+use exceptions::{Exc, Label};
 use nursery_book::{NurseryBook, NurseryId};
 use std::alloc::{AllocError, Global};
 use std::test::Fail;

@@ -1,7 +1,7 @@
-//! `buffer_parts`: where cuts start, which parts join, and which lines a part has.
+//! `input_lines`: where cuts start, which parts join, and which lines a part has.
 
 use crate::fixtures::wrong;
-use buffer_parts::{Line, Part};
+use input_lines::{Line, Part};
 use std::alloc::{AllocError, Global};
 use std::test::Fail;
 

@@ -1,8 +1,8 @@
-//! `tick_queue`: the first tick with its key.
+//! `clock`: the first tick with its key.
 
+use clock::TickQueue;
 use std::alloc::{AllocError, Global};
 use std::test::Fail;
-use tick_queue::TickQueue;
 
 // A queue of three keys, about which nothing else is known here.
 fn three_keys(alloc: Global) -> Result<TickQueue, AllocError> {

@@ -7,9 +7,9 @@ ghost use Rattle.task_table.specs.Rows.{ChildrenAreApart};
 ghost use Rattle.task_table.specs.declared.rows.TaskRow.{TaskRow};
 
 use crate::fixtures::{job, push_bytes, push_number, root, same, word};
-use autojump_clock::TaskId;
-use exc_groups::Label;
-use job_grammar::Job;
+use clock::TaskId;
+use exceptions::Label;
+use job_reader::Job;
 use job_tree::Name;
 use std::alloc::{AllocError, Global};
 use std::test::Fail;

@@ -8,13 +8,12 @@ ghost use Rattle.task_machine.specs.declared.stop.Stop.TheVariants as stops;
 ghost use Rattle.task_machine.specs.declared.stop.Wake.TheVariants as wakes;
 
 use crate::fixtures::{job, label, push_bytes, push_exc, push_label, push_number, root, wrong};
-use autojump_clock::TaskId;
-use buffer_parts::Part;
 use cancel_scopes::ScopeId;
-use exc_groups::Label;
-use job_grammar::{Job, spelled_jobs_are_sound};
-use job_meaning::MAX_INPUT;
-use moments::Clock;
+use clock::TaskId;
+use exceptions::Label;
+use input_lines::Part;
+use job_meaning::{Clock, MAX_INPUT};
+use job_reader::{Job, spelled_jobs_are_sound};
 use std::alloc::{AllocError, Global};
 use std::test::Fail;
 use task_machine::{Entry, ScopeFrom, Stop, Task, Wake, World};

@@ -1,7 +1,7 @@
-//! `moments`: ticks of moments and moments of ticks, and when waits end, in both clocks.
+//! `job_meaning`: ticks of moments and moments of ticks, and when waits end, in both clocks.
 
+use job_meaning::{Clock, FAR, ROUNDS_IN_A_TICK};
 use job_tree::{Deadline, Format};
-use moments::{Clock, FAR, ROUNDS_IN_A_TICK};
 
 #[test]
 fn formats_1_and_2_are_counted_by_ticks_and_format_3_by_rounds(rt: HostRuntime) {

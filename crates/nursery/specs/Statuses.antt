@@ -1,21 +1,21 @@
 -- The exit status of the program.
 use Rattle.std.specs.Prelude.{◌≡◌, ◌⊎◌, ℕ, Bool, true, false, List, [], ◌∷◌}
-use Rattle.nursery_app.specs.declared.verdict.ServeFault.{ServeFault}
-use Rattle.nursery_app.specs.declared.verdict.ServeFault.TheVariants as faults
+use Rattle.job_answers.specs.declared.verdict.ServeFault.{ServeFault}
+use Rattle.job_answers.specs.declared.verdict.ServeFault.TheVariants as faults
 use Rattle.job_tree.specs.Tree.{Tree}
-use Rattle.format_app.specs.declared.verdict.FormatCheck.{FormatCheck}
-use Rattle.format_app.specs.Formats as formats
-use Rattle.format_app.specs.Scaled.{IsScaled, IsScaleFault}
-use Rattle.format_app.specs.declared.scaling.ScaleFault.{ScaleFault}
-use Rattle.format_app.specs.Statuses.{status_of as format_status_of, check_status_of as format_check_status_of}
-use Rattle.job_grammar.specs.declared.fault.JobFault.{JobFault}
-use Rattle.job_grammar.specs.Refusals.{IsRefused, Spells}
+use Rattle.commands.specs.declared.format_verdict.FormatCheck.{FormatCheck}
+use Rattle.commands.specs.Formats as formats
+use Rattle.commands.specs.Scaled.{IsScaled, IsScaleFault}
+use Rattle.commands.specs.declared.scaling.ScaleFault.{ScaleFault}
+use Rattle.commands.specs.FormatStatuses.{status_of as format_status_of, check_status_of as format_check_status_of}
+use Rattle.job_reader.specs.declared.fault.JobFault.{JobFault}
+use Rattle.job_reader.specs.Refusals.{IsRefused, Spells}
 use Rattle.job_tree.specs.declared.format.Format.{Format}
 use Rattle.job_tree.specs.Formats.{in_format}
 use Rattle.job_lint.specs.declared.warning.Warning.{Warning}
 use Rattle.job_lint.specs.Linted.{AreWarnings}
-use Rattle.table_app.specs.declared.form.Form.{Form}
-use Rattle.table_app.specs.declared.form.Form.TheVariants as forms
+use Rattle.commands.specs.declared.form.Form.{Form}
+use Rattle.commands.specs.declared.form.Form.TheVariants as forms
 use Rattle.feed_tests.specs.declared.stop.TestStop.{TestStop}
 use Rattle.feed_tests.specs.declared.stop.TestStop.TheVariants as tests
 use Rattle.nursery.specs.declared.stop.Stop.{Stop}

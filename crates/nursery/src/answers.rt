@@ -1,27 +1,28 @@
 ghost use Rattle.std.specs.Prelude.{◌≡◌, ◌≤◌, length, vec_len, IfOk};
 ghost use Rattle.std.specs.Option.{option_copied};
 ghost use Rattle.job_meaning.specs.declared.limits.TheConstants.{MAX_INPUT};
-ghost use Rattle.nursery_app.specs.Statuses.{status_of};
-ghost use Rattle.story_app.specs.Statuses.{story_status_of};
-ghost use Rattle.nursery_app.specs.Verdict.{IsVerdict};
-ghost use Rattle.story_app.specs.Stories as stories;
+ghost use Rattle.job_answers.specs.Statuses.{status_of};
+ghost use Rattle.job_answers.specs.StoryStatuses.{story_status_of};
+ghost use Rattle.job_answers.specs.Verdict.{IsVerdict};
+ghost use Rattle.job_answers.specs.Stories as stories;
 ghost use Rattle.nursery.specs.Statuses.{Tells};
 
 use crate::documents::{explain_as_json, run_as_json};
 use crate::sending::put_answer;
 use crate::sources::{read_both, read_feed};
 use crate::stop::Stop;
-use job_files::shown_name;
-use job_grammar::JobFault;
-use nursery_app::{Forward, MAX_INPUT, NoGate, Question, Settings, Verdict, WriteOut, send, serve};
-use nursery_cli::{DEFAULT_LIMIT, ExplainArgs, RunArgs};
-use places::split_feed;
+use basics::split_feed;
+use cli::{DEFAULT_LIMIT, ExplainArgs, RunArgs, shown_name};
+use job_answers::{
+    Forward, MAX_INPUT, NoGate, Question, Settings, StoryVerdict, Verdict, WriteOut, explain,
+    running_at_limit, send, serve,
+};
+use job_reader::JobFault;
 use refusal_text::refusal_message;
 use std::alloc::{AllocError, Global};
 use std::io::{self, IsTerminal};
 use std::rt::Files;
 use std::thread::Threads;
-use story_app::{StoryVerdict, explain, running_at_limit};
 
 /// How many of the tasks that have not ended at the limit are shown.
 const MAX_RUNNING: usize = 10;

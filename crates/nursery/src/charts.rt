@@ -1,16 +1,16 @@
 ghost use Rattle.std.specs.Prelude.{◌≤◌, length, IfOk};
 ghost use Rattle.job_meaning.specs.declared.limits.TheConstants.{MAX_INPUT};
-ghost use Rattle.nursery_app.specs.Statuses.{status_of};
-ghost use Rattle.chart_app.specs.Charts.{IsVerdict};
+ghost use Rattle.job_answers.specs.Statuses.{status_of};
+ghost use Rattle.commands.specs.Charts.{IsVerdict};
 ghost use Rattle.nursery.specs.Statuses.{Tells};
 
 use crate::answers::{conclude_run, word_of};
 use crate::sending::put_answer;
 use crate::sources::read_both;
 use crate::stop::Stop;
-use chart_app::{Form, chart};
-use nursery_app::{Forward, NoGate, Question};
-use nursery_cli::{ChartArgs, LEAST_WIDTH, MAX_WIDTH};
+use cli::{ChartArgs, LEAST_WIDTH, MAX_WIDTH};
+use commands::{ChartForm, chart};
+use job_answers::{Forward, NoGate, Question};
 use std::env;
 use std::rt::{Env, Files};
 use std::thread::Threads;
@@ -33,15 +33,15 @@ pub(crate) fn chart_job<R: Files + Env + Input + Print + Eprint + Threads + Sync
 }
 
 // Returns the form of a chart, with the requested width, or else the usual one.
-fn form_of<R: Env + AllocGlobal>(rt: &R, width: Option<usize>, svg: bool) -> Form {
+fn form_of<R: Env + AllocGlobal>(rt: &R, width: Option<usize>, svg: bool) -> ChartForm {
     if svg {
-        return Form::Svg {
+        return ChartForm::Svg {
             width: width.unwrap_or(USUAL_SVG_WIDTH),
         };
     }
     match width {
-        Some(width) => Form::Text { width },
-        None => Form::Text {
+        Some(width) => ChartForm::Text { width },
+        None => ChartForm::Text {
             width: terminal_width(rt),
         },
     }
@@ -63,7 +63,7 @@ fn chart_text<R: Print + Eprint + Threads + Sync + AllocGlobal>(
     rt: &R,
     job: &str,
     question: &Question<'_>,
-    form: Form,
+    form: ChartForm,
 ) -> Result<u8, Stop>
     requires { length question.now.input.now ≤ MAX_INPUT }
     ensures { IfOk result (Tells status_of (IsVerdict form question.now.text.now question.now.input.now question.now.settings.limit)) }

@@ -1,13 +1,13 @@
 ghost use Rattle.std.specs.Prelude.{IfOk};
-ghost use Rattle.nursery_app.specs.Checking.{IsAnswer, as_it_is};
-ghost use Rattle.nursery_app.specs.Statuses.{check_status_of};
+ghost use Rattle.job_answers.specs.Checking.{IsAnswer, as_it_is};
+ghost use Rattle.job_answers.specs.Statuses.{check_status_of};
 ghost use Rattle.nursery.specs.Statuses.{Tells};
 
 use crate::answers::tell_refusal;
 use crate::formats::print_formatted;
 use crate::sources::read_job_text;
 use crate::stop::Stop;
-use nursery_app::{CheckVerdict, WriteOut, check};
+use job_answers::{CheckVerdict, WriteOut, check};
 use std::io;
 use std::rt::Files;
 

@@ -1,19 +1,18 @@
 ghost use Rattle.std.specs.Prelude.{◌≡◌, ◌≤◌, length, IfOk};
 ghost use Rattle.std.specs.Option.{option_copied};
 ghost use Rattle.job_meaning.specs.declared.limits.TheConstants.{MAX_INPUT};
-ghost use Rattle.nursery_app.specs.Statuses.{status_of};
-ghost use Rattle.story_app.specs.Statuses.{story_status_of};
-ghost use Rattle.json_app.specs.Serving.{IsVerdict};
-ghost use Rattle.json_app.specs.Explaining.{IsStory};
+ghost use Rattle.job_answers.specs.Statuses.{status_of};
+ghost use Rattle.job_answers.specs.StoryStatuses.{story_status_of};
+ghost use Rattle.commands.specs.Serving.{IsVerdict};
+ghost use Rattle.commands.specs.Explaining.{IsStory};
 ghost use Rattle.nursery.specs.Statuses.{Tells, table_form};
 
 use crate::answers::{bytes_of, conclude_run, conclude_story};
 use crate::sending::put_answer;
 use crate::stop::Stop;
-use json_app::{report_document, story_document};
-use nursery_app::{Forward, NoGate, Question};
+use commands::{Form, report_document, story_document};
+use job_answers::{Forward, NoGate, Question};
 use std::thread::Threads;
-use table_app::Form;
 
 // Returns the form in which a table is written: a JSON document if that is asked for, and otherwise a text.
 pub(crate) fn table_form(json: bool) -> Form

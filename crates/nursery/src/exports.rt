@@ -1,8 +1,8 @@
 use crate::answers::tell_refusal;
 use crate::sources::read_job_text;
 use crate::stop::Stop;
-use job_grammar::{JobKind, read_job};
-use nursery_app::{WriteOut, refusal, send};
+use job_answers::{WriteOut, refusal, send};
+use job_reader::{JobKind, read_job};
 use std::alloc::{AllocError, Global};
 use std::io;
 use std::rt::Files;

@@ -1,8 +1,8 @@
 ghost use Rattle.std.specs.Prelude.{◌≡◌, ◌≤◌, length, IfOk};
 ghost use Rattle.job_meaning.specs.declared.limits.TheConstants.{MAX_INPUT};
-ghost use Rattle.fault_text.specs.Views.{options_held};
-ghost use Rattle.table_app.specs.Statuses.{faults_status_of};
-ghost use Rattle.table_app.specs.Faults.{IsVerdict};
+ghost use Rattle.outcomes.specs.Views.{options_held};
+ghost use Rattle.commands.specs.Statuses.{faults_status_of};
+ghost use Rattle.commands.specs.Faults.{IsVerdict};
 ghost use Rattle.nursery.specs.Statuses.{Tells, TellsRead, table_form};
 
 use crate::answers::{tell_refusal, word_of};
@@ -11,12 +11,12 @@ use crate::progress::Progress;
 use crate::sending::put_answer;
 use crate::sources::read_both;
 use crate::stop::Stop;
-use nursery_app::Question;
-use nursery_cli::FaultsArgs;
+use cli::FaultsArgs;
+use commands::{FaultsVerdict, Form, faults};
+use job_answers::Question;
 use std::rt::Files;
 use std::thread::Threads;
 use std::time::Clock;
-use table_app::{FaultsVerdict, Form, faults};
 
 // Writes the outcome of a job file over an input file, or over no input, with each fault of it, and returns the status. Progress
 // is shown if standard error is a terminal.

@@ -1,15 +1,14 @@
 ghost use Rattle.std.specs.Prelude.{◌≡◌, IfOk};
-ghost use Rattle.format_app.specs.Formats.{IsAnswer};
-ghost use Rattle.format_app.specs.Statuses.{status_of};
+ghost use Rattle.commands.specs.Formats.{IsAnswer};
+ghost use Rattle.commands.specs.FormatStatuses.{status_of};
 ghost use Rattle.nursery.specs.Statuses.{Tells, TellsFormatCheck};
 
 use crate::answers::tell_refusal;
 use crate::sending::put_answer;
 use crate::sources::{JobFile, print_held, read_job_file, read_job_text, with_held};
 use crate::stop::Stop;
-use format_app::{FormatCheck, FormatFault, FormatVerdict, check_format, format, format_text};
-use job_files::{ReplaceFault, Target, shown_name};
-use nursery_cli::FormatMode;
+use cli::{FormatMode, ReplaceFault, Target, shown_name};
+use commands::{FormatCheck, FormatFault, FormatVerdict, check_format, format, format_text};
 use refusal_text::pointed_message;
 use std::alloc::{AllocError, Global};
 use std::rt::Files;

@@ -1,7 +1,7 @@
 ghost use Rattle.std.specs.Prelude.{◌≡◌, IfOk};
-ghost use Rattle.job_grammar.specs.Refusals.{IsFair, IsRefused};
-ghost use Rattle.table_app.specs.Lints.{IsVerdict};
-ghost use Rattle.table_app.specs.Statuses.{lints_status_of};
+ghost use Rattle.job_reader.specs.Refusals.{IsFair, IsRefused};
+ghost use Rattle.commands.specs.Lints.{IsVerdict};
+ghost use Rattle.commands.specs.Statuses.{lints_status_of};
 ghost use Rattle.nursery.specs.Statuses.{Tells, TellsLints};
 
 use crate::answers::tell_refusal;
@@ -9,13 +9,13 @@ use crate::sending::put_answer;
 use crate::sources::read_job_text;
 use crate::stop::Stop;
 use crate::warnings::send_warnings;
-use job_files::shown_name;
-use job_grammar::{JobFault, JobKind};
+use cli::shown_name;
+use commands::{LintsVerdict, lints_json};
+use job_answers::{WriteOut, refusal, send};
 use job_lint::{Warning, lints};
-use nursery_app::{WriteOut, refusal, send};
+use job_reader::{JobFault, JobKind};
 use std::io;
 use std::rt::Files;
-use table_app::{LintsVerdict, lints_json};
 
 // Writes the probable mistakes in a job file, or the line of its refusal, and returns the status.
 pub(crate) fn lint_job<R: Files + Input + Print + Eprint + AllocGlobal>(

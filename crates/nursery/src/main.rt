@@ -3,7 +3,7 @@
 //! its outcome, `sweep` the outcome for each value of one of its numbers, `fmt` formats a job text, `check` writes a job's
 //! canonical text, `upgrade` that of the same job in a newer format. Without arguments it serves standard input: a job text, a line
 //! that is exactly `%input`, and the input. Its output goes to standard output, and what went wrong to standard error. The work
-//! is in `nursery_app`, `story_app`, `chart_app`, `json_app`, `table_app` and `format_app`.
+//! is in `job_answers`, `commands`.
 #![tactic(auto)]
 
 mod answers;
@@ -38,8 +38,8 @@ use crate::stop::Stop;
 use crate::sweep::sweep_job;
 use crate::texts::{show_completions, show_man_page};
 use crate::upgrades::upgrade_job;
+use cli::{Command, CommandFault, read_command};
 use feed_tests::test_paths;
-use nursery_cli::{Command, CommandFault, read_command};
 use std::env;
 use std::io::{self, IsTerminal};
 use std::process::ExitCode;

@@ -1,4 +1,4 @@
-use nursery_app::Gate;
+use job_answers::Gate;
 use std::sync::atomic::{AtomicU64, Ordering};
 use std::time::{Clock, Instant};
 

@@ -1,7 +1,7 @@
 ghost use Rattle.std.specs.Prelude.{◌≡◌, ◌≤◌, length, IfOk};
 ghost use Rattle.job_meaning.specs.declared.limits.TheConstants.{MAX_INPUT};
-ghost use Rattle.table_app.specs.Statuses.{races_status_of};
-ghost use Rattle.table_app.specs.Races.{IsVerdict};
+ghost use Rattle.commands.specs.Statuses.{races_status_of};
+ghost use Rattle.commands.specs.Races.{IsVerdict};
 ghost use Rattle.nursery.specs.Statuses.{Tells, TellsRead, table_form};
 
 use crate::answers::{tell_refusal, tell_running, word_of};
@@ -11,12 +11,12 @@ use crate::progress::Progress;
 use crate::sending::put_answer;
 use crate::sources::read_both;
 use crate::stop::Stop;
-use nursery_app::Question;
-use nursery_cli::RacesArgs;
+use cli::RacesArgs;
+use commands::{Form, RacesVerdict, races};
+use job_answers::Question;
 use std::rt::Files;
 use std::thread::Threads;
 use std::time::Clock;
-use table_app::{Form, RacesVerdict, races};
 
 // What is printed if a number of ticks is too large to be made finer.
 const NO_FINER_TICKS: &str =

@@ -1,7 +1,7 @@
 ghost use Rattle.std.specs.Prelude.{◌≡◌, IfOk};
 
 use crate::stop::Stop;
-use nursery_app::{Answer, WriteOut, send_answer};
+use job_answers::{Answer, WriteOut, send_answer};
 use std::io;
 
 // Writes an answer to standard output, and returns its verdict.

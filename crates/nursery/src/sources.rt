@@ -3,9 +3,9 @@ ghost use Rattle.job_meaning.specs.declared.limits.TheConstants.{MAX_INPUT};
 ghost use Rattle.nursery.specs.Reading.{HoldsInput};
 
 use crate::stop::Stop;
-use job_files::{read_reason, reason_line, shown_name};
-use nursery_app::{MAX_INPUT, Question, ReadFault, Settings, WriteOut, read_whole, send};
-use places::split_feed;
+use basics::split_feed;
+use cli::{read_reason, reason_line, shown_name};
+use job_answers::{MAX_INPUT, Question, ReadFault, Settings, WriteOut, read_whole, send};
 use std::alloc::{AllocError, Global};
 use std::fs;
 use std::io::{self, Read};

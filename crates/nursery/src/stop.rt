@@ -2,7 +2,7 @@ ghost use Rattle.std.specs.Prelude.{◌≡◌};
 ghost use Rattle.nursery.specs.Statuses.{status_of};
 
 use feed_tests::TestStop;
-use nursery_app::{SendFault, ServeFault};
+use job_answers::{SendFault, ServeFault};
 use std::alloc::AllocError;
 use thiserror::Error;
 

@@ -1,7 +1,7 @@
 ghost use Rattle.std.specs.Prelude.{◌≡◌, ◌≤◌, length, IfOk};
 ghost use Rattle.job_meaning.specs.declared.limits.TheConstants.{MAX_INPUT};
-ghost use Rattle.table_app.specs.Statuses.{sweep_status_of};
-ghost use Rattle.table_app.specs.Sweeps.{IsVerdict};
+ghost use Rattle.commands.specs.Statuses.{sweep_status_of};
+ghost use Rattle.commands.specs.Sweeps.{IsVerdict};
 ghost use Rattle.nursery.specs.Statuses.{Tells};
 
 use crate::answers::{tell_refusal, word_of};
@@ -10,18 +10,17 @@ use crate::progress::Progress;
 use crate::sending::put_answer;
 use crate::sources::read_both;
 use crate::stop::Stop;
+use cli::{SweepArgs, shown_name};
+use commands::{Form, SweepVerdict, sweep};
+use job_answers::Question;
 use job_edits::Target;
-use job_files::shown_name;
 use job_tree::Name;
-use nursery_app::Question;
-use nursery_cli::SweepArgs;
 use refusal_text::pointed_message;
 use std::alloc::{AllocError, Global};
 use std::rt::Files;
 use std::thread::Threads;
 use std::time::Clock;
-use sweep_app::Missing;
-use table_app::{Form, SweepVerdict, sweep};
+use trials::Missing;
 
 // Writes the outcome of a job file over an input file, or over no input, for each of these values of one of its numbers, and
 // returns the status. Progress is shown if standard error is a terminal.

@@ -1,7 +1,6 @@
 use crate::answers::show_help;
 use crate::stop::Stop;
-use cli_texts::{completions, man_page};
-use nursery_cli::Shell;
+use cli::{Shell, completions, man_page};
 
 // Writes the script that completes the program's words in a shell, and returns the status.
 pub(crate) fn show_completions<R: Print + AllocGlobal>(rt: &R, shell: Shell) -> Result<u8, Stop> {

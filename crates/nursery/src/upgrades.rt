@@ -1,8 +1,8 @@
 ghost use Rattle.std.specs.Prelude.{◌≡◌, IfOk, IsTrue, MatchResult};
 ghost use Rattle.job_tree.specs.Formats.{in_format, newer};
-ghost use Rattle.job_grammar.specs.Refusals.{IsFair};
-ghost use Rattle.nursery_app.specs.Checking.{IsAnswer};
-ghost use Rattle.nursery_app.specs.Statuses.{check_status_of};
+ghost use Rattle.job_reader.specs.Refusals.{IsFair};
+ghost use Rattle.job_answers.specs.Checking.{IsAnswer};
+ghost use Rattle.job_answers.specs.Statuses.{check_status_of};
 ghost use Rattle.nursery.specs.Statuses.{Tells, IsUpgrade, TellsUpgrade};
 
 use crate::answers::tell_refusal;
@@ -10,16 +10,16 @@ use crate::formats::print_formatted;
 use crate::lints::refuse;
 use crate::sources::{print_held, read_job_file};
 use crate::stop::Stop;
+use cli::DEFAULT_LIMIT;
+use commands::{Output, output_of};
 use expect_text::first_difference;
-use job_grammar::{Format, JobFault, read_job, write_job};
-use moments::Clock;
-use nursery_app::{CheckVerdict, Question, Settings, WriteOut, upgrade};
-use nursery_cli::DEFAULT_LIMIT;
+use job_answers::{CheckVerdict, Question, Settings, WriteOut, upgrade};
+use job_meaning::Clock;
+use job_reader::{Format, JobFault, read_job, write_job};
 use std::alloc::{AllocError, Global};
 use std::io;
 use std::rt::Files;
 use std::thread::Threads;
-use test_app::{Output, output_of};
 
 // Writes the formatted or the canonical text of the same job in a newer format, and returns the status. Standard error says whether its
 // report changes. The input that a feed holds follows as it is.

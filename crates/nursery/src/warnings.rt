@@ -5,8 +5,8 @@ ghost use Rattle.refusal_text.specs.Positions.{IsPosition};
 ghost use Rattle.nursery.specs.Warned.{said_at, warning_text, warnings_text};
 
 use crate::stop::Stop;
+use job_answers::{Out, send};
 use job_lint::{Warning, sentence};
-use nursery_app::{Out, send};
 use refusal_text::{Position, message_at};
 use std::alloc::{AllocError, Global};
 

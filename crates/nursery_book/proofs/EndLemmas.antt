@@ -3,9 +3,9 @@ use Rattle.std.proofs.Common.{◌≡◌, ℕ, zero, suc, ◌+◌, ◌≤◌, nat
 use Rattle.std.specs.Prelude.{option_to_list, slice_get, slice_set, length}
 use Rattle.std.specs.List.{list_all}
 use Rattle.std.proofs.lemmas.Bool.{ne_eqb}
-use Rattle.exc_groups.specs.Exceptions.{parts_of, part}
-use Rattle.exc_groups.specs.declared.exc.Exc as held
-use Rattle.exc_groups.specs.Held.{exc_of, excs_of}
+use Rattle.exceptions.specs.Exceptions.{parts_of, part}
+use Rattle.exceptions.specs.declared.exc.Exc as held
+use Rattle.exceptions.specs.Held.{exc_of, excs_of}
 use Rattle.nursery_book.specs.Nursery.{with_exc, excs_in}
 use Rattle.nursery_book.specs.Ends.{end_of, exc_held, excs_held, running_in}
 use Rattle.nursery_book.specs.declared.ending.MemberEnd.{MemberEnd}

@@ -1,8 +1,8 @@
 -- An encoding of the ends of a nursery's children, with which a contract can compare two lists of them.
 use Rattle.std.specs.Prelude.{List, refl}
 use Rattle.std.specs.Coded.{Coded, code_by, coded_list, coded_option}
-use Rattle.exc_groups.specs.Exceptions.{Exc, Excs, cancelled, no_parts, part}
-use Rattle.exc_groups.specs.ExcCode.{excs_code}
+use Rattle.exceptions.specs.Exceptions.{Exc, Excs, cancelled, no_parts, part}
+use Rattle.exceptions.specs.ExcCode.{excs_code}
 use Rattle.nursery_book.specs.Nursery.{End}
 
 -- the first of the parts

@@ -1,8 +1,8 @@
 -- The ends of members in the code, as contracts see them. No public clause cites this module.
 use Rattle.std.specs.Prelude.{ℕ, suc, Option, Some, None, List, [], ◌∷◌, filter_map}
 use Rattle.std.specs.Option.{option_map}
-use Rattle.exc_groups.specs.declared.exc.Exc.{Exc}
-use Rattle.exc_groups.specs.Held.{exc_of}
+use Rattle.exceptions.specs.declared.exc.Exc.{Exc}
+use Rattle.exceptions.specs.Held.{exc_of}
 use Rattle.nursery_book.specs.Nursery.{End}
 use Rattle.nursery_book.specs.declared.ending.MemberEnd.{MemberEnd}
 use Rattle.nursery_book.specs.declared.ending.MemberEnd.TheVariants.{Running, Ended}

@@ -1,7 +1,7 @@
 -- A nursery: its members, when it ends, and what it raises, as in Trio and PEP 654.
 use Rattle.std.specs.Prelude.{ℕ, ◌++◌, Bool, ◌&&◌, Option, Some, None, is_some, List, [], ◌∷◌, slice_set}
 use Rattle.std.specs.List.{list_all}
-use Rattle.exc_groups.specs.Exceptions.{Label, Exc, by_nursery, parts_of, group_of}
+use Rattle.exceptions.specs.Exceptions.{Label, Exc, by_nursery, parts_of, group_of}
 
 -- the end of a member: `None` while it runs, and then the exception with which it ended, or `Some None` without one
 abbrev pub End : Type 0

@@ -1,13 +1,13 @@
 ghost use Rattle.std.specs.Prelude.{◌≡◌, ℕ, true, Some, None, IsSome, IfOk, OnOk, OnErr, length, slice_get};
 ghost use Rattle.std.specs.Option.{option_map};
-ghost use Rattle.exc_groups.specs.Held.{exc_of};
+ghost use Rattle.exceptions.specs.Held.{exc_of};
 
 use crate::children::Children;
 use crate::ending::{MemberEnd, member_excs};
 use crate::nursery_id::{NurseryId, Place};
-use autojump_clock::TaskId;
 use cancel_scopes::ScopeId;
-use exc_groups::{Exc, Label, Whose, group};
+use clock::TaskId;
+use exceptions::{Exc, Label, Whose, group};
 use slab::Slab;
 use std::alloc::{AllocError, Global};
 

@@ -1,12 +1,12 @@
 ghost use Rattle.std.specs.Prelude.{◌≡◌, ◌≤◌, ◌+◌, ◌++◌, [], ◌∷◌, Some, None, IfOk, OnOk, OnErr, is_some, length, map, slice_get, slice_set, vec_capacity, vec_len};
 ghost use Rattle.std.specs.List.{list_all};
 ghost use Rattle.std.specs.Option.{option_map};
-ghost use Rattle.exc_groups.specs.Held.{exc_of};
+ghost use Rattle.exceptions.specs.Held.{exc_of};
 ghost use Rattle.nursery_book.specs.Ends.{end_of};
 
 use crate::ending::MemberEnd;
 use crate::nursery_id::Place;
-use exc_groups::Exc;
+use exceptions::Exc;
 use std::alloc::{AllocError, Global};
 use std::marker::Model;
 

@@ -1,10 +1,10 @@
 ghost use Rattle.std.specs.Prelude.{◌≡◌, ◌++◌, ◌+◌, ◌<◌, ◌≤◌, [], is_some, map, vec_len, vec_capacity, option_to_list};
-ghost use Rattle.exc_groups.specs.Held.{excs_of};
-ghost use Rattle.exc_groups.specs.Exceptions.{parts_of};
+ghost use Rattle.exceptions.specs.Held.{excs_of};
+ghost use Rattle.exceptions.specs.Exceptions.{parts_of};
 ghost use Rattle.nursery_book.specs.Nursery.{with_exc, excs_in};
 ghost use Rattle.nursery_book.specs.Ends.{end_of, exc_held};
 
-use exc_groups::Exc;
+use exceptions::Exc;
 
 /// Whether a member of a nursery runs, or how it ended.
 #[derive(Drop)]

@@ -6,7 +6,7 @@
 //! if no member raised.
 //!
 //! The layer promises that each call changes only the nursery that it names, and that the group is in that order whatever
-//! the order in which the members ended. It uses `exc_groups`, the ids of `cancel_scopes` and `autojump_clock`, and `slab`.
+//! the order in which the members ended. It uses `exceptions`, the ids of `cancel_scopes` and `clock`, and `slab`.
 #![tactic(auto)]
 
 mod book;

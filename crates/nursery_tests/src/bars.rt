@@ -1,10 +1,10 @@
-//! `chart_bars`: bars whose scope is cancelled by a limit or after it, and the ticks at which something happens.
+//! `chart`: bars whose scope is cancelled by a limit or after it, and the ticks at which something happens.
 
 use crate::fixtures::wrong;
 use crate::story_events::{froms_of, push_entry, push_start, walk};
-use chart_bars::{StoryIndex, all_ticks};
+use chart::{StoryIndex, all_ticks};
+use job_meaning::{Clock, ROUNDS_IN_A_TICK};
 use job_story::{Event, Froms};
-use moments::{Clock, ROUNDS_IN_A_TICK};
 use std::alloc::Global;
 use std::test::Fail;
 

@@ -7,13 +7,13 @@ ghost use Rattle.std.specs.Prelude.{◌≤◌, IfOk};
 ghost use Rattle.job_runner.specs.Shelves.{IsUnderway};
 
 use crate::fixtures::{LIMIT, TWO_LINES};
-use job_grammar::{Job, read_job};
+use input_lines::{Kernel, Request};
+use job_reader::{Job, read_job};
 use job_runner::{Entry, Forward, MAX_INPUT, NoGate, Phase, Run, RunFault, Runner};
-use line_kernels::{Kernel, Request};
-use scoped_workers::work;
 use std::alloc::{AllocError, Global};
 use std::test::Fail;
 use std::thread::Threads;
+use workers::work;
 
 // Returns the run of a job at its beginning.
 fn open_run<'a>(alloc: Global, job: &'a Job, input: &'a [u8]) -> Result<Runner<'a>, Fail>

@@ -9,11 +9,11 @@ ghost use Rattle.batch_commit.specs.Entries.{AllPlaced, NonePlaced};
 ghost use Rattle.nursery_book.specs.Nursery.{with_start, is_settled};
 ghost use Rattle.nursery_book.specs.Book.{HasNursery, Changes};
 
-use autojump_clock::TaskId;
 use batch_commit::{Call, Forward, Live, ReadyBatch};
 use cancel_scopes::{ScopeId, ScopeTree};
-use exc_groups::{Exc, Label};
-use job_grammar::Name;
+use clock::TaskId;
+use exceptions::{Exc, Label};
+use job_reader::Name;
 use nursery_book::{NurseryBook, NurseryId, Place};
 use std::alloc::{AllocError, Global};
 use std::test::Fail;

@@ -1,12 +1,11 @@
-//! `chart_text`: what happens in different rounds of a tick is shown in the column of the tick, and an event that is set as a `+`. The
+//! `chart`: what happens in different rounds of a tick is shown in the column of the tick, and an event that is set as a `+`. The
 //! expected charts are drawn by hand.
 
 use crate::fixtures::same;
 use crate::story_events::{froms_of, label, push_entry, push_event, push_start, walk, word};
-use chart_bars::StoryIndex;
-use chart_text::chart_text;
+use chart::{StoryIndex, chart_text};
+use job_meaning::{Clock, ROUNDS_IN_A_TICK};
 use job_story::{During, Event, Froms, Happening, Kind, What};
-use moments::{Clock, ROUNDS_IN_A_TICK};
 use std::alloc::Global;
 use std::test::Fail;
 

@@ -1,10 +1,10 @@
 //! The charts that `chart` writes of worked jobs: the same under each order of picks, by 1 and by 64 workers.
 
 use crate::fixtures::{LIMIT, call_again, same, same_answer};
-use chart_app::{Form, chart};
+use commands::{ChartForm, chart};
+use job_answers::{ServeFault, Verdict};
 use job_report::{MemOut, Out, Question, send_answer};
 use job_runner::{Forward, NoGate, Pick, Reverse, Settings};
-use nursery_app::{ServeFault, Verdict};
 use std::process::Abort;
 use std::test::Fail;
 use std::thread::Threads;
@@ -13,7 +13,7 @@ use std::thread::Threads;
 fn chart_into<R: Abort + Threads + Sync + AllocGlobal, P: Pick>(
     rt: &R,
     text: &[u8],
-    form: Form,
+    form: ChartForm,
     settings: Settings,
     picker: &mut P,
     out: &mut MemOut,
@@ -34,7 +34,7 @@ fn chart_into<R: Abort + Threads + Sync + AllocGlobal, P: Pick>(
 fn chart_again<R: Abort + Threads + Sync + AllocGlobal, P: Pick>(
     rt: &R,
     text: &[u8],
-    form: Form,
+    form: ChartForm,
     settings: Settings,
     picker: &mut P,
     out: &mut MemOut,
@@ -46,7 +46,7 @@ fn chart_again<R: Abort + Threads + Sync + AllocGlobal, P: Pick>(
 fn chart_of<R: Abort + Threads + Sync + AllocGlobal, P: Pick>(
     rt: &R,
     text: &[u8],
-    form: Form,
+    form: ChartForm,
     workers: usize,
     picker: &mut P,
 ) -> Result<(u8, MemOut), Fail> {
@@ -125,7 +125,13 @@ fn assert_chart<R: Abort + Threads + Sync + AllocGlobal, P: Pick>(
     picker: &mut P,
 ) -> Result<(), Fail> {
     let (text, width, status, expected) = *row;
-    let answer = chart_of(rt, text.as_bytes(), Form::Text { width }, workers, picker)?;
+    let answer = chart_of(
+        rt,
+        text.as_bytes(),
+        ChartForm::Text { width },
+        workers,
+        picker,
+    )?;
     same_answer(text, &answer, status, expected)
 }
 
@@ -145,7 +151,7 @@ fn is_between(bytes: &[u8], first: &[u8], last: &[u8]) -> bool {
 
 #[test]
 fn a_drawing_is_an_svg_document(rt: HostRuntime) -> Result<(), Fail> {
-    let form = Form::Svg { width: 80 };
+    let form = ChartForm::Svg { width: 80 };
     let (status, out) = chart_of(&rt, FAILS.as_bytes(), form, 1, &mut Forward)?;
     assert!(rt; status == 1);
     assert!(rt;
@@ -170,7 +176,7 @@ const SERVED_ARROWS: &str =
 
 #[test]
 fn an_event_that_is_set_has_arrows_to_the_waits(rt: HostRuntime) -> Result<(), Fail> {
-    let form = Form::Svg { width: 80 };
+    let form = ChartForm::Svg { width: 80 };
     let (status, out) = chart_of(&rt, READY.as_bytes(), form, 1, &mut Forward)?;
     assert!(rt; status == 0);
     let drawn = str::from_utf8(out.taken()).unwrap_or("?");
@@ -185,7 +191,7 @@ const FRONT: &[u8] = b"          ";
 fn a_writer_that_fails_has_the_beginning_of_a_chart(rt: HostRuntime) -> Result<(), Fail> {
     let settings = Settings::new(1, LIMIT).ok_or("settings")?;
     let mut out = MemOut::new(rt.alloc(), 10, 7, None)?;
-    let form = Form::Text { width: 80 };
+    let form = ChartForm::Text { width: 80 };
     let stopped = chart_again(
         &rt,
         FAILS.as_bytes(),

@@ -1,6 +1,6 @@
 //! The command line: what a line requests, what help shows, and how lines are refused.
 
-use nursery_cli::{Command, CommandFault, read_command};
+use cli::{Command, CommandFault, read_command};
 use std::alloc::{AllocError, Global};
 use std::test::Fail;
 

@@ -1,16 +1,16 @@
 //! What `faults` writes of worked jobs: the same by 1, 3 and 64 threads; and the lines of it that are denied.
 
 use crate::fixtures::{LIMIT, call_again, same, same_answer};
-use fault_text::{Deny, Options};
+use commands::{FaultsVerdict, Form, faults};
+use job_answers::ServeFault;
 use job_report::{MemOut, Out, Question, send_answer};
 use job_runner::{NoGate, Settings};
 use job_tree::Name;
-use nursery_app::ServeFault;
+use outcomes::{Deny, Options};
 use std::alloc::Global;
 use std::process::Abort;
 use std::test::Fail;
 use std::thread::Threads;
-use table_app::{FaultsVerdict, Form, faults};
 
 // What a build may deny, all of it.
 const ALL: Deny = Deny {

@@ -6,10 +6,10 @@ use job_edits::{
     Change, CopiedStart, Finer, Site, changed_text, copied_starts, finer_changes, hair_scope,
     shifted_changes, shifts, sites,
 };
-use job_grammar::format_of;
+use job_meaning::Clock;
+use job_reader::format_of;
 use job_tokens::{Token, lex};
 use job_tree::Name;
-use moments::Clock;
 use std::alloc::{AllocError, Global};
 use std::test::Fail;
 

@@ -1,9 +1,9 @@
 //! What the tests of this crate share: job texts, and serving them under each order of picks.
 
-use job_grammar::{Format, Job};
+use job_answers::{CheckVerdict, ServeFault, Verdict, check, serve, upgrade};
+use job_reader::{Format, Job};
 use job_report::{MemOut, Out};
 use job_runner::{Forward, Gate, MAX_INPUT, NoGate, Pick, Reverse, Run, Settings, Turn, run};
-use nursery_app::{CheckVerdict, ServeFault, Verdict, check, serve, upgrade};
 use std::alloc::{AllocError, Global};
 use std::process::Abort;
 use std::test::Fail;
@@ -114,7 +114,7 @@ pub(crate) fn serve_into<R: Abort + Threads + Sync + AllocGlobal, P: Pick, G: Ga
 macro_rules! call_again {
     ($rt:ident, $out:ident, $call:expr) => {
         match $call {
-            Err(nursery_app::ServeFault::NoMemory) => {
+            Err(job_answers::ServeFault::NoMemory) => {
                 assert!($rt; $out.taken().is_empty());
                 $call
             }

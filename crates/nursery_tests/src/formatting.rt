@@ -1,13 +1,13 @@
 //! The formatted texts of jobs: what `format_text` returns, and where `check_format` finds that a text differs.
 
 use crate::fixtures::{call_again, same, same_answer};
-use format_app::{
+use commands::{
     FormatCheck, FormatFault, FormatVerdict, ScaleFault, check_format, format, format_text,
     scaled_text,
 };
-use job_grammar::JobKind;
+use job_answers::ServeFault;
+use job_reader::JobKind;
 use job_report::{MemOut, Out, send_answer};
-use nursery_app::ServeFault;
 use std::alloc::{AllocError, Global};
 use std::process::Abort;
 use std::test::Fail;

@@ -1,7 +1,6 @@
 //! The sizes of jobs: of those that are read, and of a tree that is too large to be read.
 
-use job_checks::size_of;
-use job_grammar::{Body, Step, read_job};
+use job_reader::{Body, Step, read_job, size_of};
 use std::alloc::{AllocError, Global};
 use std::test::Fail;
 

@@ -1,15 +1,15 @@
 //! The JSON documents of `faults`, `sweep`, `races` and `lint`, of small jobs. The expected documents are worked out by hand.
 
 use crate::fixtures::{LIMIT, wrong};
-use fault_text::{Deny, Options};
+use commands::{Form, faults, lints_json, races, sweep};
 use job_edits::Target;
 use job_report::Question;
 use job_runner::{NoGate, Settings};
 use job_tree::Name;
+use outcomes::{Deny, Options};
 use std::process::Abort;
 use std::test::Fail;
 use std::thread::Threads;
-use table_app::{Form, faults, lints_json, races, sweep};
 
 const NO_DENY: Deny = Deny {
     stuck: false,

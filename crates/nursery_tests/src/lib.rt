@@ -1,6 +1,6 @@
-//! The tests of the crates `job_runner`, `job_report`, `job_lint`, `nursery_app`, `format_app`, `story_app`, `chart_app`, `sweep_app`,
-//! `table_app`, `expect_text`, `test_app`, `refusal_text` and `nursery_cli`, and of what charts and races are made of (`chart_bars`,
-//! `chart_text`, `job_edits`, `race_copies`), through what these make public.
+//! The tests of the crates `job_runner`, `job_report`, `job_lint`, `job_answers`, `commands`, `trials`,
+//! `commands`, `expect_text`, `refusal_text` and `cli`, and of what charts and races are made of (`chart`,
+//! `chart`, `job_edits`, `race_text`), through what these make public.
 //!
 //! They show what no clause says: that the reports of worked jobs, worked out by hand, are those of the definitions; the results for
 //! command lines and refused texts; the results when readers and writers fail; and, for the layers below too, that a call that was

@@ -1,7 +1,7 @@
 //! Worked jobs with the warnings that they have, each with twins that have none. The expected lines are worked out by hand.
 
-use job_grammar::{JobFault, JobKind};
 use job_lint::{Warning, lints, sentence};
+use job_reader::{JobFault, JobKind};
 use std::alloc::{AllocError, Global};
 use std::test::Fail;
 

@@ -1,11 +1,11 @@
-//! `race_copies`: copies of a task meet by the ticks of their events, in whichever rounds of these ticks they act.
+//! `race_text`: copies of a task meet by the ticks of their events, in whichever rounds of these ticks they act.
 
 use crate::fixtures::wrong;
 use crate::story_events::{label, walk, word};
-use exc_groups::Label;
+use exceptions::Label;
+use job_meaning::{Clock, ROUNDS_IN_A_TICK};
 use job_story::{Event, Happening, Range, What};
-use moments::{Clock, ROUNDS_IN_A_TICK};
-use race_copies::meeting_of;
+use race_text::meeting_of;
 use std::alloc::Global;
 use std::test::Fail;
 

@@ -4,7 +4,7 @@ ghost use Rattle.std.specs.Prelude.{◌<◌};
 
 use crate::fixtures::{HALVES, LIMIT, run_of, same, serve_into, wrong};
 use crate::nested_jobs::nested_job;
-use job_grammar::read_job;
+use job_reader::read_job;
 use job_report::{MemOut, Out};
 use job_runner::{
     Forward, Gate, NoGate, Outcome, Pick, Record, Reverse, ScopeFrom, Settings, Turn,

@@ -2,13 +2,13 @@
 //! written.
 
 use crate::fixtures::{LIMIT, call_again, same, same_answer};
+use commands::{Form, RacesVerdict, races};
+use job_answers::ServeFault;
 use job_report::{MemOut, Out, Question, send_answer};
 use job_runner::{NoGate, Settings};
-use nursery_app::ServeFault;
 use std::process::Abort;
 use std::test::Fail;
 use std::thread::Threads;
-use table_app::{Form, RacesVerdict, races};
 
 // Calls `races` over three lines with a writer that has not failed. Races are denied.
 fn races_into<R: Abort + Threads + Sync + AllocGlobal>(

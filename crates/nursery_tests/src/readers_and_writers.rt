@@ -2,10 +2,10 @@
 //! its mark.
 
 use crate::fixtures::{FORMAT_1, LIMIT, TWO_LINES, job_text, same, serve_again, wrong};
+use basics::split_feed;
+use job_answers::{ReadFault, ServeFault, read_whole};
 use job_report::{MemOut, Out, PutFault, SendFault, WriteOut, send};
 use job_runner::{Forward, MAX_INPUT, Settings};
-use nursery_app::{ReadFault, ServeFault, read_whole};
-use places::split_feed;
 use std::alloc::{AllocError, Global};
 use std::io::{self, ErrorKind, Read, Write};
 use std::process::Abort;

@@ -5,9 +5,9 @@ use crate::fixtures::{
     Asked, assert_answers, request_again, same, same_answer, text_answer, wrong,
 };
 use crate::refusal_texts::{EXPECTED, HELPED, Row, WRONG};
-use job_grammar::{Format, JobFault, JobKind, read_job};
+use job_answers::CheckVerdict;
+use job_reader::{Format, JobFault, JobKind, read_job};
 use job_report::MemOut;
-use nursery_app::CheckVerdict;
 use refusal_text::{Position, message_at, refusal_message};
 use std::alloc::{AllocError, Global};
 use std::process::Abort;

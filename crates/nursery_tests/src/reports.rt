@@ -5,10 +5,10 @@ use crate::fixtures::{
     job_text, run_of, same, serve_answer,
 };
 use crate::worked_jobs::{HANDLERS, NURSERIES, OF_FORMAT_2, PARTS, PLAIN, SCOPES};
-use job_grammar::read_job;
+use job_answers::{CheckVerdict, Verdict};
+use job_reader::read_job;
 use job_report::{Out, report};
 use job_runner::{Forward, NoGate};
-use nursery_app::{CheckVerdict, Verdict};
 use std::test::Fail;
 
 #[test]

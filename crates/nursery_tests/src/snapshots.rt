@@ -1,20 +1,19 @@
 //! What `nursery test` compares: the outputs of a feed, texts that differ, and expectations. The expected values are worked out by hand.
 
 use crate::fixtures::{LIMIT, wrong};
+use commands::{Form, Met, Output, given_names, meets, output_of, sweep_of};
 use expect_text::{
     ExpectLine, Expectation, LineFault, first_difference, first_match, is_without_demands,
     read_expectation,
 };
 use job_edits::Target;
-use job_grammar::Name;
+use job_reader::Name;
 use job_report::Question;
 use job_runner::Settings;
 use std::alloc::{AllocError, Global};
 use std::process::Abort;
 use std::test::Fail;
 use std::thread::Threads;
-use table_app::Form;
-use test_app::{Met, Output, given_names, meets, output_of, sweep_of};
 
 // Two texts, and the number of the first line that differs: 0 if none does.
 const TEXTS: &[(&[u8], &[u8], usize)] = &[

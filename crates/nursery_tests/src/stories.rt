@@ -1,13 +1,12 @@
 //! The stories that `explain` writes of worked jobs: the same under each order of picks, by 1 and by 64 workers.
 
 use crate::fixtures::{LIMIT, call_again, same, same_answer};
+use job_answers::{ServeFault, StoryVerdict, explain, running_at_limit};
 use job_report::{MemOut, Out, Question, send_answer};
 use job_runner::{Forward, NoGate, Pick, Reverse, Settings};
-use nursery_app::ServeFault;
 use std::process::Abort;
 use std::test::Fail;
 use std::thread::Threads;
-use story_app::{StoryVerdict, explain, running_at_limit};
 
 // Calls `explain` with a writer that has not failed.
 fn explain_into<R: Abort + Threads + Sync + AllocGlobal, P: Pick>(

@@ -3,7 +3,7 @@
 //! A story is kept in one vector, and each function adds one event to it: a proof is long where many values that own memory are
 //! kept side by side.
 
-use exc_groups::Label;
+use exceptions::Label;
 use job_story::{Event, Froms, Happening, Kind, Range, What};
 use job_tree::Name;
 use std::alloc::{AllocError, Global};

@@ -1,19 +1,19 @@
 //! What `sweep` writes of worked jobs: the same by 1, 3 and 64 threads; and why a text does not have the number that is meant.
 
 use crate::fixtures::{LIMIT, call_again, same, same_answer, wrong};
+use basics::place_at;
+use commands::{Form, SweepVerdict, sweep};
+use job_answers::ServeFault;
 use job_edits::Target;
 use job_report::{MemOut, Out, Question, send_answer};
 use job_runner::{NoGate, Settings};
 use job_tree::Name;
-use nursery_app::ServeFault;
-use places::place_at;
 use refusal_text::pointed_message;
 use std::alloc::{AllocError, Global};
 use std::process::Abort;
 use std::test::Fail;
 use std::thread::Threads;
-use sweep_app::Missing;
-use table_app::{Form, SweepVerdict, sweep};
+use trials::Missing;
 
 // Calls `sweep` with a writer that has not failed.
 fn sweep_into<R: Abort + Threads + Sync + AllocGlobal>(

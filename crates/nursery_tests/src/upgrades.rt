@@ -4,7 +4,7 @@
 use crate::fixtures::{Asked, FORMAT_1, Row, job_text, same, serve_answer, text_answer};
 use crate::nested_jobs::{nested_job, scopes_report};
 use crate::worked_jobs::{HANDLERS, NURSERIES, PARTS, PLAIN, SCOPES};
-use job_grammar::Format;
+use job_reader::Format;
 use job_report::{MemOut, Out};
 use job_runner::Forward;
 use std::process::Abort;

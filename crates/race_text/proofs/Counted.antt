@@ -4,7 +4,7 @@ use Rattle.std.proofs.lemmas.List.Recursion.{is_count_by}
 use Rattle.std.specs.Prelude.{Bool, true, false, ◌∷◌, count_by, map, if◌then◌else◌}
 use Rattle.race_text.specs.Lines as told
 use Rattle.race_text.specs.Table.{lines_that}
-use Rattle.race_text.specs.Views.{line_held}
+use Rattle.race_text.specs.LineViews.{line_held}
 use Rattle.race_text.specs.declared.line.Line.{Line}
 
 one_more : (b : Bool) (l : told.Line) (ls : List told.Line) → length (if b then l ∷ ls else ls) ≡ cond b (1 + length ls) (length ls)

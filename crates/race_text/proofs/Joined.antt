@@ -1,8 +1,8 @@
 -- What is appended for a line, piece by piece.
 use Rattle.std.proofs.Common.{◌≡◌, ℕ, List, ◌++◌, ap, ◌∙◌}
 use Rattle.std.specs.Prelude.{codes}
-use Rattle.fault_text.specs.Table.{left_text, right_text}
-use Rattle.fault_text.proofs.Joined.{two}
+use Rattle.outcomes.specs.Table.{left_text, right_text}
+use Rattle.outcomes.proofs.Joined.{two}
 use Rattle.race_text.specs.Lines.{Line}
 use Rattle.race_text.specs.Table.{place_text, step_text, hair_text, told_text, line_text}
 use Rattle.race_text.specs.declared.columns.Widths.{Widths}

@@ -4,7 +4,7 @@ use Rattle.std.proofs.lemmas.List.{drop_all}
 use Rattle.std.specs.Prelude.{[], map}
 use Rattle.race_text.specs.Lines.{is_shown}
 use Rattle.race_text.specs.Table.{lines_that, widths_of, lines_text, denied_text}
-use Rattle.race_text.specs.Views.{line_held}
+use Rattle.race_text.specs.LineViews.{line_held}
 use Rattle.race_text.specs.declared.columns.Widths.{Widths}
 use Rattle.race_text.specs.declared.line.Line.{Line}
 

@@ -1,13 +1,13 @@
 -- Worked tables, by computing.
 use Rattle.std.specs.Prelude.{◌≡◌, ℕ, Some, None, List, [], ◌∷◌, ◌++◌, codes, refl}
 use Rattle.std.specs.Fmt.{digits}
-use Rattle.exc_groups.specs.Exceptions.{Label}
-use Rattle.job_grammar.specs.declared.fault.JobFault.{JobFault}
-use Rattle.job_grammar.specs.declared.fault.JobKind.TheVariants.{TooLarge}
+use Rattle.exceptions.specs.Exceptions.{Label}
+use Rattle.job_reader.specs.declared.fault.JobFault.{JobFault}
+use Rattle.job_reader.specs.declared.fault.JobKind.TheVariants.{TooLarge}
 use Rattle.job_edits.specs.declared.site.Moment.{Moment}
 use Rattle.job_edits.specs.declared.site.Moment.TheVariants.{Sleep, After, Start}
 use Rattle.job_edits.specs.declared.shift.Hair.TheVariants.{Earlier, Later}
-use Rattle.race_rows.specs.Differences.{otherwise, inside}
+use Rattle.race_text.specs.Differences.{otherwise, inside}
 use Rattle.race_text.specs.Lines.{finer, moved, copies, not_tried, differs}
 use Rattle.race_text.specs.Table.{table_text}
 

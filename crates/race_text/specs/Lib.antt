@@ -1,4 +1,10 @@
+pub mod Same
+pub mod Differences
+pub mod Runs
+pub mod RowViews
+pub mod Copies
+pub mod CopyViews
 pub mod Lines
 pub mod Table
-pub mod Views
+pub mod LineViews
 pub mod Examples

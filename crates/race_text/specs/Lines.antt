@@ -1,12 +1,12 @@
 -- What the lines of the table say of a job with one of its places moved by a hair.
 use Rattle.std.specs.Prelude.{ℕ, zero, suc, Bool, true, false, Option, List, [], ◌∷◌, ◌++◌, length, codes, decimal}
-use Rattle.exc_groups.specs.Exceptions.{Label}
-use Rattle.job_grammar.specs.declared.fault.JobFault.{JobFault}
-use Rattle.exc_text.specs.Texts.{label_text}
+use Rattle.exceptions.specs.Exceptions.{Label}
+use Rattle.job_reader.specs.declared.fault.JobFault.{JobFault}
+use Rattle.exceptions.specs.Texts.{label_text}
 use Rattle.job_edits.specs.declared.site.Moment.{Moment}
 use Rattle.job_edits.specs.declared.shift.Hair.{Hair}
-use Rattle.race_rows.specs.Differences.{Difference, otherwise, inside}
-use Rattle.fault_text.specs.JobOutcomes.{not_tried_text}
+use Rattle.race_text.specs.Differences.{Difference, otherwise, inside}
+use Rattle.outcomes.specs.JobOutcomes.{not_tried_text}
 
 -- the differences between two runs; or one of the two texts is refused, so that nothing was compared
 pub data Found : Type 0 where

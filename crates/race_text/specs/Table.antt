@@ -1,10 +1,10 @@
 -- The table of the places of a job where a hair changes the outcome.
 use Rattle.std.specs.Prelude.{ℕ, ◌==◌, Bool, ◌&&◌, max, if◌then◌else◌, Option, Some, None, List, [], ◌∷◌, ◌++◌, length, codes, decimal}
-use Rattle.exc_text.specs.Texts.{label_text}
+use Rattle.exceptions.specs.Texts.{label_text}
 use Rattle.job_edits.specs.declared.shift.Hair.{Hair}
 use Rattle.job_edits.specs.declared.shift.Hair.TheVariants.{Earlier, Later}
 use Rattle.job_edits.specs.Sites.{moment_text}
-use Rattle.fault_text.specs.Table.{left_text, right_text, more_text}
+use Rattle.outcomes.specs.Table.{left_text, right_text, more_text}
 use Rattle.race_text.specs.declared.columns.Widths.{Widths}
 use Rattle.race_text.specs.Lines.{Line, finer, moved, copies, is_shown, is_race, is_not_tried, is_hair_not_tried, found_text}
 

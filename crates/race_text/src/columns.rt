@@ -1,9 +1,9 @@
 ghost use Rattle.std.specs.Prelude.{◌≡◌, ◌++◌, IfOk, OnOk, map};
 ghost use Rattle.race_text.specs.Table.{at_text, place_text, over_text, step_text, hair_name, hair_text};
-ghost use Rattle.race_text.specs.Views.{line_held};
+ghost use Rattle.race_text.specs.LineViews.{line_held};
 
 use crate::line::Line;
-use digits::push_number;
+use basics::push_number;
 use job_edits::{Hair, push_moment};
 use std::alloc::{AllocError, Global};
 

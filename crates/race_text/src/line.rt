@@ -1,12 +1,12 @@
 ghost use Rattle.std.specs.Prelude.{◌≡◌};
 ghost use Rattle.race_text.specs.Lines.{is_some_found, is_shown, is_race_found, is_race, is_not_tried_found, is_not_tried, is_hair_not_tried};
-ghost use Rattle.race_text.specs.Views.{found_held, line_held};
+ghost use Rattle.race_text.specs.LineViews.{found_held, line_held};
 
-use exc_groups::Label;
+use crate::Difference;
+use exceptions::Label;
 use job_edits::{Hair, Moment};
-use job_grammar::JobFault;
+use job_reader::JobFault;
 use job_tree::Name;
-use race_rows::Difference;
 
 /// The result of running a changed job text, compared with another one.
 #[derive(Drop)]

@@ -1,12 +1,12 @@
 ghost use Rattle.std.specs.Prelude.{◌≡◌, ◌++◌, IfOk, OnOk, length, map};
 ghost use Rattle.race_text.specs.Lines.{is_shown, is_race, is_not_tried, is_hair_not_tried};
 ghost use Rattle.race_text.specs.Table.{lines_that, widths_of, line_text, lines_text, races_text, counts_text, table_text, denied_text};
-ghost use Rattle.race_text.specs.Views.{line_held};
+ghost use Rattle.race_text.specs.LineViews.{line_held};
 
 use crate::columns::{Widths, hair_of, place_of, step_of};
 use crate::line::Line;
 use crate::told::push_told;
-use fault_text::{push_count, push_left, push_more, push_right};
+use outcomes::{push_count, push_left, push_more, push_right};
 use std::alloc::{AllocError, Global};
 
 /// Returns the text of the table: each line that is shown, in their order, how many hairs there are, how many lines are races, and

@@ -1,14 +1,14 @@
 ghost use Rattle.std.specs.Prelude.{◌≡◌, ◌++◌, OnOk, map};
-ghost use Rattle.race_rows.specs.Views.{difference_held};
+ghost use Rattle.race_text.specs.RowViews.{difference_held};
 ghost use Rattle.race_text.specs.Lines.{difference_text, more_differences, differences_text, found_text};
 ghost use Rattle.race_text.specs.Table.{told_text};
-ghost use Rattle.race_text.specs.Views.{found_held, line_held};
+ghost use Rattle.race_text.specs.LineViews.{found_held, line_held};
 
+use crate::Difference;
 use crate::line::{Found, Line};
-use digits::push_number;
-use exc_text::push_label;
-use fault_text::{push_count, push_not_tried};
-use race_rows::Difference;
+use basics::push_number;
+use exceptions::push_label;
+use outcomes::{push_count, push_not_tried};
 use std::alloc::AllocError;
 
 // How many differences are shown after the first one.

@@ -1,6 +1,6 @@
 -- The line and the column of a place, counted on from those of a place that is not after it.
 use Rattle.std.proofs.Common.{◌≡◌, ℕ, suc, ◌+◌, ◌-◌, ◌≤◌, ◌==◌, if◌then◌else◌, Bool, true, false, List, [], ◌∷◌, ◌++◌, length, take, drop, min, refl, ap, sym, ◌∙◌, take-add, length-take, arith}
-use Rattle.places.specs.Places.{line_from, column_from, line_of, column_of}
+use Rattle.basics.specs.Places.{line_from, column_from, line_of, column_of}
 use Rattle.refusal_text.specs.Explaining.{most_before}
 use Rattle.refusal_text.proofs.Told.{cut_front, cut_back}
 

@@ -6,7 +6,7 @@ use Rattle.job_tree.specs.declared.format.Format.{Format}
 use Rattle.job_tree.specs.Tree.{Tree, Steps}
 use Rattle.job_tree.specs.Names.{size_of}
 use Rattle.job_tokens.specs.Lexing.{Gives}
-use Rattle.job_checks.specs.Uses.{Use, uses_of}
+use Rattle.job_reader.specs.Uses.{Use, uses_of}
 use Rattle.refusal_text.specs.declared.hinting.Hint.TheVariants as hint
 use Rattle.refusal_text.specs.Hinting.{size_hint}
 use Rattle.refusal_text.specs.Scopes.{around_stray, enclosing_names, names_held, or_names}

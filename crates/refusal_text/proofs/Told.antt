@@ -9,8 +9,8 @@ use Rattle.job_tokens.specs.declared.token.Shape.{Shape}
 use Rattle.job_syntax.specs.declared.role.Role.{Role}
 use Rattle.job_syntax.specs.Syntax.{fault_at, roles_at, whole_job}
 use Rattle.job_syntax.specs.declared.nonterminal.Nonterminal.{Nonterminal}
-use Rattle.job_grammar.specs.Refusals.{HasTokens, format_of}
-use Rattle.places.specs.Places.{column_of}
+use Rattle.job_reader.specs.Refusals.{HasTokens, format_of}
+use Rattle.basics.specs.Places.{column_of}
 use Rattle.refusal_text.specs.declared.hinting.Hint.{Hint}
 use Rattle.refusal_text.specs.Expecting.{expected_nonterminal, IsExpected}
 use Rattle.refusal_text.specs.Scanning.{shape_at, last_before}

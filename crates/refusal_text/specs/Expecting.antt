@@ -5,9 +5,9 @@ use Rattle.job_tokens.specs.declared.token.Token.{Token}
 use Rattle.job_syntax.specs.declared.nonterminal.Nonterminal.{Nonterminal}
 use Rattle.job_syntax.specs.Nonterminals.{Rest, next}
 use Rattle.job_syntax.specs.Syntax.{whole_job}
-use Rattle.job_grammar.specs.declared.fault.JobKind.{JobKind}
-use Rattle.job_grammar.specs.declared.fault.JobKind.TheVariants as kind
-use Rattle.job_grammar.specs.Refusals.{HasTokens, format_of}
+use Rattle.job_reader.specs.declared.fault.JobKind.{JobKind}
+use Rattle.job_reader.specs.declared.fault.JobKind.TheVariants as kind
+use Rattle.job_reader.specs.Refusals.{HasTokens, format_of}
 
 -- the nonterminal for which a token cannot be read; otherwise what the rest says
 abbrev pub or_nonterminal : Rest → Nonterminal → (List Nonterminal → Option Nonterminal) → Option Nonterminal

@@ -2,8 +2,8 @@
 use Rattle.std.specs.Prelude.{◌≡◌, ℕ, ◌-◌, ◌==◌, ◌&&◌, ◌||◌, Bool, true, false, min, nat_le, if◌then◌else◌, List, [], ◌∷◌, ◌++◌, length, take, drop, map, replicate, Option, Some, None, codes, decimal, slice_get}
 use Rattle.std.specs.List.{before_first}
 use Rattle.job_syntax.specs.declared.nonterminal.Nonterminal.{Nonterminal}
-use Rattle.job_grammar.specs.declared.fault.JobFault.{JobFault}
-use Rattle.places.specs.Places.{line_of, column_of}
+use Rattle.job_reader.specs.declared.fault.JobFault.{JobFault}
+use Rattle.basics.specs.Places.{line_of, column_of}
 use Rattle.job_syntax.specs.Keywords.{spelling_of}
 use Rattle.refusal_text.specs.declared.hinting.Hint.{Hint}
 use Rattle.refusal_text.specs.declared.hinting.Hint.TheVariants as hint

@@ -14,9 +14,9 @@ use Rattle.job_syntax.specs.declared.role.Role.{Role}
 use Rattle.job_syntax.specs.Reading.{job_at}
 use Rattle.job_syntax.specs.Nonterminals.{◌>>=◌}
 use Rattle.job_syntax.specs.Syntax.{fault_at, roles_at, whole_job}
-use Rattle.job_grammar.specs.declared.fault.JobKind.{JobKind}
-use Rattle.job_grammar.specs.declared.fault.JobKind.TheVariants as kind
-use Rattle.job_grammar.specs.Refusals.{HasTokens, format_of}
+use Rattle.job_reader.specs.declared.fault.JobKind.{JobKind}
+use Rattle.job_reader.specs.declared.fault.JobKind.TheVariants as kind
+use Rattle.job_reader.specs.Refusals.{HasTokens, format_of}
 use Rattle.job_hints.specs.declared.advice.Advice.{Advice}
 use Rattle.job_hints.specs.declared.advice.Advice.TheVariants as advice
 use Rattle.job_hints.specs.declared.block.BlockAdvice.TheVariants as block

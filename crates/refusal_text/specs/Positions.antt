@@ -1,6 +1,6 @@
 -- A place in a job text, with its line and its column.
 use Rattle.std.specs.Prelude.{◌≡◌, ℕ, List}
-use Rattle.places.specs.Places.{line_of, column_of}
+use Rattle.basics.specs.Places.{line_of, column_of}
 use Rattle.refusal_text.specs.declared.position.Position.{Position}
 
 -- the line and the column are those of the place in the text

@@ -8,11 +8,11 @@ use Rattle.job_tokens.specs.Shapes.{shapes_of}
 use Rattle.job_syntax.specs.declared.keyword.Keyword.{Keyword}
 use Rattle.job_syntax.specs.declared.keyword.Keyword.TheVariants as word
 use Rattle.job_syntax.specs.Reading.{job_at}
-use Rattle.job_checks.specs.Given.{is_among}
-use Rattle.job_checks.specs.Uses.{Use, uses_of}
-use Rattle.job_grammar.specs.declared.fault.JobKind.{JobKind}
-use Rattle.job_grammar.specs.declared.fault.JobKind.TheVariants as kind
-use Rattle.job_grammar.specs.Refusals.{HasTokens, format_of}
+use Rattle.job_reader.specs.Given.{is_among}
+use Rattle.job_reader.specs.Uses.{Use, uses_of}
+use Rattle.job_reader.specs.declared.fault.JobKind.{JobKind}
+use Rattle.job_reader.specs.declared.fault.JobKind.TheVariants as kind
+use Rattle.job_reader.specs.Refusals.{HasTokens, format_of}
 use Rattle.job_hints.specs.ByGrammar.{keyword_in, if_keyword}
 use Rattle.refusal_text.specs.Scanning.{last_before}
 use Rattle.refusal_text.specs.declared.scopes.Around.{Around, Nothing, Inside'}

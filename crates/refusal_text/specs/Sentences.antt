@@ -3,8 +3,8 @@ use Rattle.std.specs.Prelude.{ℕ, Bool, true, false, ◌==◌, nat_lt, if◌the
 use Rattle.job_tree.specs.Words.{is_digit, is_letter}
 use Rattle.job_syntax.specs.declared.nonterminal.Nonterminal.{Nonterminal}
 use Rattle.job_syntax.specs.declared.nonterminal.Nonterminal.TheVariants as nonterminal
-use Rattle.job_grammar.specs.declared.fault.JobKind.{JobKind}
-use Rattle.job_grammar.specs.declared.fault.JobKind.TheVariants.{TooLong, NotAscii, Version, Token, Number, Syntax, Depth, Twice, NotEnclosing, Reserved, TooLarge, NoMemory}
+use Rattle.job_reader.specs.declared.fault.JobKind.{JobKind}
+use Rattle.job_reader.specs.declared.fault.JobKind.TheVariants.{TooLong, NotAscii, Version, Token, Number, Syntax, Depth, Twice, NotEnclosing, Reserved, TooLarge, NoMemory}
 
 abbrev pub token_sentence : Option ℕ → List ℕ
 token_sentence None = codes "a word, a number, a string or one of `{`, `}` and `;` was expected"

@@ -2,7 +2,7 @@ ghost use Rattle.std.specs.Prelude.{◌≡◌, IfOk};
 ghost use Rattle.job_syntax.specs.Syntax.{whole_job};
 ghost use Rattle.refusal_text.specs.Expecting.{expected_nonterminal};
 
-use job_grammar::Format;
+use job_reader::Format;
 use job_syntax::Nonterminal;
 use job_tokens::Token;
 use std::alloc::{AllocError, Global};

@@ -5,17 +5,16 @@ ghost use Rattle.refusal_text.specs.Explaining.{Tells, pointed_message, heading,
 ghost use Rattle.job_syntax.specs.Keywords.{spelling_of};
 ghost use Rattle.refusal_text.specs.Positions.{IsPosition};
 ghost use Rattle.refusal_text.specs.Scopes.{names_held};
-ghost use Rattle.places.specs.Places.{line_of, column_of};
+ghost use Rattle.basics.specs.Places.{line_of, column_of};
 
 use crate::findings::{Findings, findings_of};
 use crate::hinting::Hint;
 use crate::position::Position;
 use crate::sentences::sentence_of;
-use digits::push_str_number;
-use job_grammar::JobFault;
+use basics::{column_of, line_of, push_str_number};
+use job_reader::JobFault;
 use job_syntax::Keyword;
 use job_tree::Name;
-use places::{column_of, line_of};
 use std::alloc::{AllocError, Global};
 
 // The maximum number of bytes of a line that are shown before a place, and from that place on.

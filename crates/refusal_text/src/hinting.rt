@@ -7,11 +7,11 @@ ghost use Rattle.job_syntax.specs.Syntax.{whole_job};
 
 use crate::lexed_text::LexedText;
 use crate::scanning::{first_given_place, innermost_open_block, is_started, last_before, shape_at};
-use job_grammar::Format;
 use job_hints::{
     Advice, BlockAdvice, has_order_mark, keyword_in, lexical_advice, near_keyword, number_advice,
     syntax_advice,
 };
+use job_reader::Format;
 use job_syntax::{Keyword, Nonterminal, Role, check_grammar};
 use job_tokens::{Shape, Token};
 use std::alloc::{AllocError, Global};

@@ -1,7 +1,7 @@
 ghost use Rattle.std.specs.Prelude.{◌≡◌, IfOk};
-ghost use Rattle.job_grammar.specs.Refusals.{HasTokens, format_of};
+ghost use Rattle.job_reader.specs.Refusals.{HasTokens, format_of};
 
-use job_grammar::{FIRST_LINE_LENGTH, Format, format_of};
+use job_reader::{FIRST_LINE_LENGTH, Format, format_of};
 use job_tokens::{Lexed, Token, lex};
 use std::alloc::{AllocError, Global};
 

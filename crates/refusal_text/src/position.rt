@@ -1,8 +1,8 @@
 ghost use Rattle.std.specs.Prelude.{◌≡◌, ◌≤◌};
-ghost use Rattle.places.specs.Places.{line_from, column_from};
+ghost use Rattle.basics.specs.Places.{line_from, column_from};
 ghost use Rattle.refusal_text.specs.Positions.{IsPosition};
 
-use places::{column_of, line_of};
+use basics::{column_of, line_of};
 
 /// A place in a job text, with its line and its column. The line and the column of a later place are counted on from here, so that
 /// the places of many messages, in the order of the text, are found in one pass over the text.

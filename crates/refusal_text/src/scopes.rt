@@ -3,8 +3,8 @@ ghost use Rattle.job_tree.specs.declared.format.Format.{Format};
 ghost use Rattle.job_tree.specs.Blocks.{step_of, steps_of, handled_of, cleaned_of};
 ghost use Rattle.job_tokens.specs.Shapes.{shapes_of};
 ghost use Rattle.job_syntax.specs.Reading.{job_at};
-ghost use Rattle.job_checks.specs.Given.{is_among};
-ghost use Rattle.job_checks.specs.Uses.{Use, uses_of, uses_in, handled_uses, cleaned_uses};
+ghost use Rattle.job_reader.specs.Given.{is_among};
+ghost use Rattle.job_reader.specs.Uses.{Use, uses_of, uses_in, handled_uses, cleaned_uses};
 ghost use Rattle.job_hints.specs.ByGrammar.{keyword_in, if_keyword};
 ghost use Rattle.refusal_text.specs.Scopes.{around_stray, enclosing_names, uses_event, names_around, names_held, or_names};
 

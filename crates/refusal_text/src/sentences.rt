@@ -1,7 +1,7 @@
 ghost use Rattle.std.specs.Prelude.{◌≡◌};
 ghost use Rattle.refusal_text.specs.Sentences.{sentence_of, stray_sentence, byte_sentence, token_sentence, expected_sentence};
 
-use job_grammar::JobKind;
+use job_reader::JobKind;
 use job_syntax::Nonterminal;
 
 // Returns the sentence for a refusal of this kind at a place with this byte (`None` at the end of the text), where the grammar

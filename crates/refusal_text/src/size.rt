@@ -3,7 +3,7 @@ ghost use Rattle.refusal_text.specs.Hinting.{IsSizeHint};
 
 use crate::hinting::Hint;
 use crate::lexed_text::LexedText;
-use job_checks::size_of;
+use job_reader::size_of;
 use job_syntax::job_at;
 use std::alloc::{AllocError, Global};
 

@@ -5,7 +5,7 @@ use Rattle.std.specs.Prelude.{nat_le, nat_lt}
 use Rattle.std.specs.Option.{option_map}
 use Rattle.std.proofs.lemmas.Bool.{le-leb, cases_eq}
 use Rattle.std.proofs.lemmas.Bool.Decides.{leb_tells}
-use Rattle.exc_groups.specs.Exceptions.{Label}
+use Rattle.exceptions.specs.Exceptions.{Label}
 use Rattle.cancel_scopes.specs.Sight.{Tick, earlier, before, is_reached, sight}
 use Rattle.cancel_scopes.specs.Tree.{Stack, Tree, is_changed, after_cancel}
 use Rattle.job_meaning.specs.Rest.{Event}

@@ -1,7 +1,7 @@
 -- A scope that has its label before and after a turn keeps its stack but for froms, and an event stays as it is or is set.
 use Rattle.std.proofs.Common.{◌≡◌, ◌≢◌, ◌⊎◌, inl, inr, ℕ, Some, List, refl, ap, sym, ◌∙◌, subst}
 use Rattle.std.specs.Option.{option_map}
-use Rattle.exc_groups.specs.Exceptions.{Label}
+use Rattle.exceptions.specs.Exceptions.{Label}
 use Rattle.cancel_scopes.specs.Tree.{Stack, Tree, stack_of, after_cancel}
 use Rattle.job_meaning.specs.Rest.{Event}
 use Rattle.job_meaning.specs.Log.{Table}

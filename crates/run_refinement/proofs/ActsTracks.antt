@@ -4,7 +4,7 @@ use Rattle.std.proofs.lemmas.List.{map-append}
 use Rattle.std.proofs.lemmas.List.Elements.{All-nil, All-cons, All-head, All-tail, All-append}
 use Rattle.std.specs.Prelude.{All, slice_get, slice_set}
 use Rattle.std.specs.Option.{option_map}
-use Rattle.exc_groups.specs.Exceptions.{Label}
+use Rattle.exceptions.specs.Exceptions.{Label}
 use Rattle.cancel_scopes.specs.Sight.{Tick, earlier, next}
 use Rattle.cancel_scopes.specs.Tree.{Stack, Tree, stack_of, own_from, own_label, after_cancel, outer_of}
 use Rattle.job_meaning.specs.Log.{Table, same_label}

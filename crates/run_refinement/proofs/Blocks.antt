@@ -3,7 +3,7 @@
 use Rattle.std.proofs.Common.{◌≡◌, ◌⊎◌, inl, inr, ◌&&◌, Bool, true, false, ℕ, zero, suc, ◌+◌, ◌*◌, ◌<◌, ◌≤◌, max, Option, Some, None, List, [], ◌∷◌, length, refl, ap, sym, ◌∙◌, subst, arith}
 use Rattle.std.specs.Prelude.{is_some, slice_get}
 use Rattle.std.specs.List.{list_all}
-use Rattle.exc_groups.specs.Exceptions.{Exc}
+use Rattle.exceptions.specs.Exceptions.{Exc}
 use Rattle.cancel_scopes.specs.Tree.{outer_of}
 use Rattle.nursery_book.specs.Nursery.{End, Nursery, is_settled}
 use Rattle.nursery_book.specs.Book.{nursery_at, HasNursery}
@@ -13,7 +13,8 @@ use Rattle.job_tree.specs.Names.{GivesNamesOnce, size_of}
 use Rattle.job_tree.specs.Starting.{StartsInNurseries}
 use Rattle.cancel_scopes.specs.Sight.{sight}
 use Rattle.job_meaning.specs.Log.{Table}
-use Rattle.job_meaning.specs.Moments.{Clock, clock_of, tick_of, a_round_after, wakes_at, Now}
+use Rattle.job_meaning.specs.Moments.{clock_of, tick_of, a_round_after, wakes_at, Now}
+use Rattle.job_meaning.specs.declared.clock.Clock.{Clock}
 use Rattle.job_meaning.specs.Walk.{Here, latest}
 use Rattle.job_meaning.specs.Before.{upto}
 use Rattle.job_meaning.specs.Follow.{IsSettled}

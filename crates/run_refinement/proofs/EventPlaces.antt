@@ -1,11 +1,11 @@
 -- The event for which a task waits is set when the definitions say so.
 use Rattle.std.proofs.Common.{◌≡◌, inl, inr, ℕ, Bool, true, false, ◌&&◌, Option, Some, None, List, [], ◌∷◌, refl, ap, sym, ◌∙◌}
 use Rattle.std.specs.Str.{bytes_eq}
-use Rattle.exc_groups.specs.Exceptions.{Label}
+use Rattle.exceptions.specs.Exceptions.{Label}
 use Rattle.cancel_scopes.specs.Sight.{Tick, Level}
 use Rattle.cancel_scopes.specs.Tree.{Stack}
 use Rattle.job_meaning.specs.Log.{Table}
-use Rattle.job_meaning.specs.Moments.{Clock}
+use Rattle.job_meaning.specs.declared.clock.Clock.{Clock}
 use Rattle.job_meaning.specs.Walk.{Levels, label_if, level_if, event_on, set_moment}
 use Rattle.job_meaning.specs.Rest.{Frame, Stopped, to_begin, asking, asleep, waiting_for, giving_up, awaiting, at_end}
 use Rattle.turn_semantics.specs.Midway.{Place, label_among, level_on, stack_at}

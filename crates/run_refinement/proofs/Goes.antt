@@ -7,7 +7,7 @@ use Rattle.std.specs.List.{slice_get}
 use Rattle.cancel_scopes.specs.Sight.{seen}
 use Rattle.job_tree.specs.Tree.{Tree as Job}
 use Rattle.job_meaning.specs.Log.{Table}
-use Rattle.exc_groups.specs.Exceptions.{Exc, Label}
+use Rattle.exceptions.specs.Exceptions.{Exc, Label}
 use Rattle.job_meaning.specs.Moments.{a_round_after, Now}
 use Rattle.job_meaning.specs.Rest.{Stopped, to_begin, asking, asleep, waiting_for, giving_up, awaiting}
 use Rattle.turn_semantics.specs.Midway.{Begun, Move, stack_at}

@@ -2,16 +2,16 @@
 use Rattle.std.proofs.Common.{◌≡◌, ◌⊎◌, inl, inr, ◌&&◌, Bool, true, false, ℕ, zero, suc, ◌<◌, ◌≤◌, max, Option, Some, None, List, [], ◌∷◌, ◌++◌, map, length, refl, ap, sym, ◌∙◌, subst, arith}
 use Rattle.std.specs.Prelude.{IsSome, is_some, slice_get, MatchOption}
 use Rattle.std.specs.List.{list_all}
-use Rattle.buffer_parts.specs.Lines.{Span}
-use Rattle.buffer_parts.specs.Part.{buffer_of, range_of, span_of}
-use Rattle.buffer_parts.specs.declared.part.Part.{Part}
-use Rattle.line_kernels.specs.Answers.{AreLinesAt, IsAnswer}
-use Rattle.line_kernels.specs.Kernels.{needed_in}
-use Rattle.line_kernels.specs.declared.answers.Answer as held
-use Rattle.line_kernels.specs.declared.answers.Answer.TheVariants as answers
-use Rattle.line_kernels.specs.declared.kernel.Kernel.{Kernel}
-use Rattle.line_kernels.specs.declared.kernel.Kernel.TheVariants.{Find, Head, Longest, Need, Count}
-use Rattle.exc_groups.specs.Exceptions.{Label, Exc, by_nursery, parts_of, group_of}
+use Rattle.input_lines.specs.Lines.{Span}
+use Rattle.input_lines.specs.Part.{buffer_of, range_of, span_of}
+use Rattle.input_lines.specs.declared.part.Part.{Part}
+use Rattle.input_lines.specs.Answers.{AreLinesAt, IsAnswer}
+use Rattle.input_lines.specs.Kernels.{needed_in}
+use Rattle.input_lines.specs.declared.answers.Answer as held
+use Rattle.input_lines.specs.declared.answers.Answer.TheVariants as answers
+use Rattle.input_lines.specs.declared.kernel.Kernel.{Kernel}
+use Rattle.input_lines.specs.declared.kernel.Kernel.TheVariants.{Find, Head, Longest, Need, Count}
+use Rattle.exceptions.specs.Exceptions.{Label, Exc, by_nursery, parts_of, group_of}
 use Rattle.cancel_scopes.specs.Sight.{seen}
 use Rattle.cancel_scopes.specs.Tree.{Stack, outer_of}
 use Rattle.nursery_book.specs.Nursery.{End, Nursery, is_settled, excs_in}
@@ -22,7 +22,8 @@ use Rattle.job_tree.specs.Tree.{Tree as Job}
 use Rattle.job_tree.specs.Names.{GivesNamesOnce}
 use Rattle.job_tree.specs.Starting.{StartsInNurseries}
 use Rattle.job_meaning.specs.Log.{Member, Table}
-use Rattle.job_meaning.specs.Moments.{Clock, a_round_after, wakes_at, Now, only_at}
+use Rattle.job_meaning.specs.Moments.{a_round_after, wakes_at, Now, only_at}
+use Rattle.job_meaning.specs.declared.clock.Clock.{Clock}
 use Rattle.job_meaning.specs.Walk.{Here, with_exc, excs_of, latest}
 use Rattle.job_meaning.specs.Asking as ask
 use Rattle.job_meaning.specs.Follow.{IsSettled}

@@ -4,8 +4,8 @@ use Rattle.std.proofs.Common.{◌≡◌, ◌≢◌, ◌⊎◌, inl, inr, true, f
 use Rattle.std.proofs.lemmas.Bool.{cases_lt}
 use Rattle.std.specs.Prelude.{is_some, slice_get}
 use Rattle.std.specs.List.{list_all}
-use Rattle.buffer_parts.specs.declared.part.Part.{Part}
-use Rattle.exc_groups.specs.Exceptions.{Exc}
+use Rattle.input_lines.specs.declared.part.Part.{Part}
+use Rattle.exceptions.specs.Exceptions.{Exc}
 use Rattle.cancel_scopes.specs.Sight.{seen}
 use Rattle.cancel_scopes.specs.Tree.{outer_of}
 use Rattle.nursery_book.specs.Nursery.{End, Nursery, is_settled}
@@ -15,7 +15,8 @@ use Rattle.job_tree.specs.Tree.{Tree as Job}
 use Rattle.job_tree.specs.Names.{GivesNamesOnce}
 use Rattle.job_tree.specs.Starting.{StartsInNurseries}
 use Rattle.job_meaning.specs.Log.{Table}
-use Rattle.job_meaning.specs.Moments.{Clock, a_round_after, wakes_at}
+use Rattle.job_meaning.specs.Moments.{a_round_after, wakes_at}
+use Rattle.job_meaning.specs.declared.clock.Clock.{Clock}
 use Rattle.job_meaning.specs.Follow.{IsSettled}
 use Rattle.job_meaning.specs.Rest as rest
 use Rattle.job_meaning.proofs.Clips.{seen_near}

@@ -5,11 +5,12 @@ use Rattle.std.specs.Prelude.{IsSome, slice_get, slice_set}
 use Rattle.std.specs.Option.{option_map}
 use Rattle.std.proofs.lemmas.List.Elements.{All-nil}
 use Rattle.cancel_scopes.specs.Tree.{IsOpen}
-use Rattle.exc_groups.specs.Exceptions.{Label, Exc}
+use Rattle.exceptions.specs.Exceptions.{Label, Exc}
 use Rattle.job_tree.specs.Tree.{Tree as Job}
 use Rattle.job_meaning.specs.Log.{Table}
 use Rattle.job_meaning.specs.Meaning.{From, froms_by}
-use Rattle.job_meaning.specs.Moments.{Clock, tick_of}
+use Rattle.job_meaning.specs.Moments.{tick_of}
+use Rattle.job_meaning.specs.declared.clock.Clock.{Clock}
 use Rattle.job_meaning.specs.Rest as rest
 use Rattle.nursery_book.specs.Nursery.{End, Nursery, with_child}
 use Rattle.nursery_book.specs.Book.{nursery_at, HasNursery}

@@ -5,15 +5,15 @@ use Rattle.std.proofs.lemmas.List.{map-append}
 use Rattle.std.proofs.lemmas.List.Elements.{All-append}
 use Rattle.std.specs.Prelude.{All, slice_get}
 use Rattle.std.specs.Option.{option_map, unwrap_or}
-use Rattle.exc_groups.specs.Exceptions.{Label}
-use Rattle.buffer_parts.specs.Part.{buffer_of}
+use Rattle.exceptions.specs.Exceptions.{Label}
+use Rattle.input_lines.specs.Part.{buffer_of}
 use Rattle.cancel_scopes.specs.Tree.{Stack, stack_of, outer_of, IsOpen}
 use Rattle.nursery_book.specs.Nursery.{Nursery}
 use Rattle.nursery_book.specs.Book.{nursery_at}
 use Rattle.nursery_book.specs.declared.book.NurseryBook.{NurseryBook}
 use Rattle.job_tree.specs.Tree.{Tree as Job}
 use Rattle.job_meaning.specs.Log.{Table}
-use Rattle.job_meaning.specs.Moments.{Clock}
+use Rattle.job_meaning.specs.declared.clock.Clock.{Clock}
 use Rattle.job_meaning.specs.Walk.{Here}
 use Rattle.job_meaning.specs.Shown.{Shown}
 use Rattle.job_meaning.specs.Rest as rest

@@ -3,7 +3,7 @@ use Rattle.std.proofs.Common.{◌≡◌, ℕ, zero, suc, Option, Some, None, Lis
 use Rattle.std.specs.Prelude.{slice_get, IsSome}
 use Rattle.std.specs.List.{last_or}
 use Rattle.std.specs.Option.{ForSome, unwrap_or}
-use Rattle.exc_groups.specs.Exceptions.{Label}
+use Rattle.exceptions.specs.Exceptions.{Label}
 use Rattle.cancel_scopes.specs.Tree.{Stack, Tree, stack_of, outer_of, own_label, IsOpen, IsOwn, IsChain}
 use Rattle.job_meaning.specs.Log.{Table}
 use Rattle.job_meaning.specs.Rest.{Event}

@@ -6,9 +6,9 @@ use Rattle.cancel_scopes.specs.Tree.{outer_of, IsOpen}
 use Rattle.nursery_book.specs.Nursery.{End, Nursery}
 use Rattle.nursery_book.specs.Book.{nursery_at, HasNursery}
 use Rattle.job_tree.specs.Tree.{Tree as Job}
-use Rattle.exc_groups.specs.Exceptions.{Exc}
+use Rattle.exceptions.specs.Exceptions.{Exc}
 use Rattle.job_meaning.specs.Log.{Table}
-use Rattle.job_meaning.specs.Moments.{Clock}
+use Rattle.job_meaning.specs.declared.clock.Clock.{Clock}
 use Rattle.job_meaning.specs.Rest as rest
 use Rattle.task_machine.specs.States.{state_of}
 use Rattle.task_machine.specs.declared.entry.ScopeFrom.{ScopeFrom}

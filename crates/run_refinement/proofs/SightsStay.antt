@@ -1,7 +1,7 @@
 -- How a turn leaves the effective deadlines (`sight`) of other tasks' scopes: each is what it was, or its scope is
 -- marked as changed.
 use Rattle.std.proofs.Common.{◌≡◌, ◌≢◌, ℕ, ◌<◌, Option, Some, None, List, [], ◌∷◌, refl, ap, sym, ◌∙◌, subst}
-use Rattle.exc_groups.specs.Exceptions.{Label}
+use Rattle.exceptions.specs.Exceptions.{Label}
 use Rattle.cancel_scopes.specs.Sight.{Tick}
 use Rattle.cancel_scopes.specs.Tree.{Stack, Tree, stack_of, outer_of, own_label, IsOwn}
 use Rattle.job_tree.specs.Tree.{Tree as Job}

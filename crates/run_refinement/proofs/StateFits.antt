@@ -6,7 +6,7 @@ use Rattle.std.proofs.lemmas.List.{length-take, length-drop}
 use Rattle.std.proofs.lemmas.List.Elements.{All-head, All-tail}
 use Rattle.std.proofs.Common.{◌≡◌, ◌≢◌, ◌⊎◌, inl, inr, ◌==◌, nat_lt, Bool, true, false, ℕ, zero, suc, ◌-◌, ◌<◌, ◌≤◌, min, drop, Option, Some, None, List, [], ◌∷◌, ◌++◌, length, append_assoc, refl, ap, sym, ◌∙◌, subst, arith}
 use Rattle.std.specs.Prelude.{All, IsSome, slice_get, slice_range}
-use Rattle.buffer_parts.specs.Part.{buffer_of, range_of}
+use Rattle.input_lines.specs.Part.{buffer_of, range_of}
 use Rattle.job_meaning.specs.Walk.{Here}
 use Rattle.std.specs.Option.{ForSome, unwrap_or, option_map}
 use Rattle.std.specs.List.{last_or}

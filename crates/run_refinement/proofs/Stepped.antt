@@ -1,17 +1,19 @@
 -- The tasks of the program after a turn of the code: they are those of the run after it, and what the stop
 -- says of the task is true.
 use Rattle.std.proofs.Common.{◌≡◌, ◌≢◌, ℕ, zero, suc, ◌+◌, ◌<◌, min, max, Bool, Option, Some, None, List, ◌++◌, length, refl, ap, sym, ◌∙◌, subst, arith}
-use Rattle.exc_groups.specs.Exceptions.{Exc}
-use Rattle.buffer_parts.specs.declared.part.Part.{Part}
+use Rattle.exceptions.specs.Exceptions.{Exc}
+use Rattle.input_lines.specs.declared.part.Part.{Part}
 use Rattle.cancel_scopes.specs.Sight.{seen}
-use Rattle.line_kernels.specs.declared.kernel.Kernel.{Kernel}
+use Rattle.input_lines.specs.declared.kernel.Kernel.{Kernel}
 use Rattle.cancel_scopes.specs.Tree.{outer_of}
 use Rattle.job_tree.specs.Tree.{Tree as Job}
 use Rattle.job_tree.specs.Names.{GivesNamesOnce}
 use Rattle.job_tree.specs.Starting.{StartsInNurseries}
 use Rattle.job_meaning.specs.Follow.{IsSettled}
 use Rattle.job_meaning.specs.Log.{Table}
-use Rattle.job_meaning.specs.Moments.{Clock, by_ticks, by_rounds, tick_of, start_of, far, wakes_at}
+use Rattle.job_meaning.specs.Moments.{tick_of, start_of, far, wakes_at}
+use Rattle.job_meaning.specs.declared.clock.Clock.{Clock}
+use Rattle.job_meaning.specs.declared.clock.Clock.TheVariants.{ByTicks as by_ticks, ByRounds as by_rounds}
 use Rattle.job_meaning.specs.Walk.{Here}
 use Rattle.job_meaning.specs.Rest.{Stopped, asleep, waiting_for, giving_up, awaiting, at_end}
 use Rattle.nursery_book.specs.Book.{HasNursery}

@@ -5,7 +5,8 @@ use Rattle.job_tree.specs.Tree.{Tree as Job}
 use Rattle.job_tree.specs.Names.{GivesNamesOnce}
 use Rattle.job_tree.specs.Starting.{StartsInNurseries}
 use Rattle.job_meaning.specs.Log.{Table}
-use Rattle.job_meaning.specs.Moments.{Clock, a_round_after, Now, only_at}
+use Rattle.job_meaning.specs.Moments.{a_round_after, Now, only_at}
+use Rattle.job_meaning.specs.declared.clock.Clock.{Clock}
 use Rattle.job_meaning.specs.Walk.{Here}
 use Rattle.job_meaning.specs.Follow.{IsSettled}
 use Rattle.job_meaning.specs.Rest as rest

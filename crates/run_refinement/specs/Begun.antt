@@ -1,6 +1,6 @@
 -- How a run begins: a world in which nothing has happened, and the root, which has not begun the job's steps.
 use Rattle.std.specs.Prelude.{◌≡◌, ℕ, suc, List, [], ◌∷◌, Some, None, length}
-use Rattle.buffer_parts.specs.Part.{buffer_of, range_of}
+use Rattle.input_lines.specs.Part.{buffer_of, range_of}
 use Rattle.cancel_scopes.specs.Tree.{stack_of}
 use Rattle.job_tree.specs.Tree.{Tree as Job}
 use Rattle.job_meaning.specs.Moments.{clock_of}

@@ -1,6 +1,6 @@
 -- The laws of the tasks of the program. They are the contract of a function that does nothing.
 use Rattle.std.specs.Prelude.{◌≡◌, ℕ, ◌+◌, ◌*◌, ◌≤◌, Option, Some, None, IsSome, List, [], ◌∷◌, length}
-use Rattle.exc_groups.specs.Exceptions.{Exc}
+use Rattle.exceptions.specs.Exceptions.{Exc}
 use Rattle.job_tree.specs.Tree.{Tree as Job}
 use Rattle.job_tree.specs.InRange.{IsInRange}
 use Rattle.job_tree.specs.Names.{GivesNamesOnce, size_of}

@@ -1,6 +1,6 @@
 -- The end of a task is recorded: in its nursery, if it has one, and what is left of it is kept.
 use Rattle.std.specs.Prelude.{◌≡◌, ◌≢◌, ℕ, Option, Some, None}
-use Rattle.exc_groups.specs.Exceptions.{Exc}
+use Rattle.exceptions.specs.Exceptions.{Exc}
 use Rattle.nursery_book.specs.Nursery.{with_child}
 use Rattle.nursery_book.specs.Book.{Changes}
 use Rattle.nursery_book.specs.declared.book.NurseryBook.{NurseryBook}

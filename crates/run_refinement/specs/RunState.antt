@@ -1,6 +1,6 @@
 -- The tasks of the program as the code holds them, and their relation to a run of the definitions.
 use Rattle.std.specs.Prelude.{◌≡◌, ◌≢◌, ◌⊎◌, true, ℕ, suc, ◌<◌, ◌≤◌, Option, Some, None, List, [], ◌∷◌, All, map, length, slice_get}
-use Rattle.exc_groups.specs.Exceptions.{Label, Exc}
+use Rattle.exceptions.specs.Exceptions.{Label, Exc}
 use Rattle.cancel_scopes.specs.Sight.{Tick}
 use Rattle.cancel_scopes.specs.Tree.{Stack, stack_of, IsOpen}
 use Rattle.nursery_book.specs.Nursery.{End, Nursery}
@@ -10,7 +10,8 @@ use Rattle.task_machine.specs.declared.stop.TaskState.{TaskState}
 use Rattle.task_machine.specs.declared.stop.TaskState.TheVariants.{ToBegin, Asked, Awaits}
 use Rattle.job_tree.specs.Tree.{Tree as Job}
 use Rattle.job_meaning.specs.Log.{Table}
-use Rattle.job_meaning.specs.Moments.{Clock, clock_of, tick_of, Now, only_at}
+use Rattle.job_meaning.specs.Moments.{clock_of, tick_of, Now, only_at}
+use Rattle.job_meaning.specs.declared.clock.Clock.{Clock}
 use Rattle.job_meaning.specs.Meaning.{froms_by}
 use Rattle.job_meaning.specs.Rest as rest
 use Rattle.job_meaning.specs.declared.limits.TheConstants.{MAX_INPUT}

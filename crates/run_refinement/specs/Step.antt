@@ -1,14 +1,16 @@
 -- A turn of one task of the program, as the code has it, without the definitions; and what its stop says.
 use Rattle.std.specs.Prelude.{◌≡◌, ◌≢◌, ℕ, suc, ◌+◌, ◌<◌, ◌≤◌, ◌^◌, Bool, false, Some, List, [], ◌++◌, length, slice_get}
 use Rattle.std.specs.Option.{option_map}
-use Rattle.exc_groups.specs.Held.{exc_of}
+use Rattle.exceptions.specs.Held.{exc_of}
 use Rattle.cancel_scopes.specs.Sight.{Tick, seen}
 use Rattle.cancel_scopes.specs.Tree.{outer_of}
-use Rattle.line_kernels.specs.declared.request.Request.{Request}
+use Rattle.input_lines.specs.declared.request.Request.{Request}
 use Rattle.nursery_book.specs.Book.{HasNursery}
 use Rattle.job_tree.specs.Tree.{Tree as Job}
 use Rattle.job_meaning.specs.Log.{Table}
-use Rattle.job_meaning.specs.Moments.{Clock, by_ticks, by_rounds, tick_of, a_round_after, wakes_at}
+use Rattle.job_meaning.specs.Moments.{tick_of, a_round_after, wakes_at}
+use Rattle.job_meaning.specs.declared.clock.Clock.{Clock}
+use Rattle.job_meaning.specs.declared.clock.Clock.TheVariants.{ByTicks as by_ticks, ByRounds as by_rounds}
 use Rattle.job_meaning.specs.Rest as rest
 use Rattle.interleavings.specs.Interleaving.{Started}
 use Rattle.task_machine.specs.States.{state_of}

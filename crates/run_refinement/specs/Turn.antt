@@ -1,6 +1,6 @@
 -- What is said of a turn of one task of the program: the labels that it enters, the children that it begins, and how it stops.
 use Rattle.std.specs.Prelude.{◌≡◌, ◌⊎◌, ℕ, zero, suc, ◌+◌, ◌==◌, Bool, true, false, nat_lt, Option, Some, None, List, [], ◌∷◌}
-use Rattle.exc_groups.specs.Exceptions.{Label}
+use Rattle.exceptions.specs.Exceptions.{Label}
 use Rattle.cancel_scopes.specs.Tree.{Tree, IsOwn, IsChain, IsApart}
 use Rattle.job_meaning.specs.Log.{Table}
 use Rattle.job_meaning.specs.Moments.{only_at}

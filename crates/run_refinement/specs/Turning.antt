@@ -4,7 +4,7 @@ use Rattle.nursery_book.specs.Nursery.{is_settled}
 use Rattle.nursery_book.specs.Book.{HasNursery}
 use Rattle.job_tree.specs.Tree.{Tree as Job}
 use Rattle.job_meaning.specs.Log.{Table}
-use Rattle.exc_groups.specs.Exceptions.{Label}
+use Rattle.exceptions.specs.Exceptions.{Label}
 use Rattle.job_meaning.specs.Moments.{tick_of, a_round_after}
 use Rattle.job_meaning.specs.Rest as rest
 use Rattle.turn_semantics.specs.Midway.{Begun, Move}

@@ -1,9 +1,9 @@
 -- What propagates where a cancellation was caught, and how a task ends, written piece by piece.
 use Rattle.std.proofs.Common.{◌≡◌, ℕ, List, ◌++◌, ap, ◌∙◌, append_assoc}
 use Rattle.std.specs.Prelude.{true, false, Option, Some, None, is_none, codes}
-use Rattle.exc_groups.specs.Exceptions.{Exc}
+use Rattle.exceptions.specs.Exceptions.{Exc}
 use Rattle.job_story.specs.Sentences.{caught_text}
-use Rattle.exc_text.specs.Texts.{exc_text}
+use Rattle.exceptions.specs.Texts.{exc_text}
 
 -- where nothing is left, a `TooSlow` is raised
 pub caught_raises : (left : Option Exc) (e : Exc) (old mid new : List ℕ) → is_none left ≡ true → mid ≡ old ++ codes ", raises " →

@@ -3,8 +3,8 @@ use Rattle.std.specs.Prelude.{List, map}
 use Rattle.job_meaning.specs.Log.{Table}
 use Rattle.job_story.specs.Events as told
 use Rattle.job_story.specs.Froms.{table_in}
-use Rattle.moments.specs.declared.clock.Clock.{Clock}
-use Rattle.story_causes.specs.Seen.{event_in}
+use Rattle.job_meaning.specs.declared.clock.Clock.{Clock}
+use Rattle.story_index.specs.Seen.{event_in}
 use Rattle.story_text.specs.declared.known.Known.{Known}
 
 -- how its moments count

@@ -2,16 +2,16 @@ ghost use Rattle.std.specs.Prelude.{◌≡◌, map};
 ghost use Rattle.std.specs.Option.{option_map};
 ghost use Rattle.job_story.specs.Causes.{entering_of, cause_of};
 ghost use Rattle.job_story.specs.Froms.{table_in};
-ghost use Rattle.story_causes.specs.Found.{entering_in_code, cause_in_code};
-ghost use Rattle.story_causes.specs.Knows.{Knows};
-ghost use Rattle.story_causes.specs.Seen.{event_in};
+ghost use Rattle.story_index.specs.Found.{entering_in_code, cause_in_code};
+ghost use Rattle.story_index.specs.Knows.{Knows};
+ghost use Rattle.story_index.specs.Seen.{event_in};
 ghost use Rattle.story_text.specs.Told.{clock_in, events_in, froms_in};
 
 use crate::known::Known;
-use exc_groups::Label;
+use exceptions::Label;
+use job_meaning::Clock;
 use job_story::{Event, Froms};
-use moments::Clock;
-use story_causes::{Cause, Causes, Entering};
+use story_index::{Cause, Causes, Entering};
 
 impl<'k, 'e> Known<'k, 'e> {
     /// Puts together the clock of a story's moments, its events in order, the table of cancellations, and the index of both. The

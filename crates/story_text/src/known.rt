@@ -1,11 +1,11 @@
 ghost use Rattle.std.specs.Prelude.{map};
 ghost use Rattle.job_story.specs.Froms.{table_in};
-ghost use Rattle.story_causes.specs.Knows.{Knows};
-ghost use Rattle.story_causes.specs.Seen.{event_in};
+ghost use Rattle.story_index.specs.Knows.{Knows};
+ghost use Rattle.story_index.specs.Seen.{event_in};
 
+use job_meaning::Clock;
 use job_story::{Event, Froms};
-use moments::Clock;
-use story_causes::Causes;
+use story_index::Causes;
 
 /// What is needed to write the sentences of a story: the clock of its moments, its events in order, the table with the moments
 /// from which its scopes and nurseries are cancelled, and the events of the job set, and the index of both.

@@ -1,9 +1,8 @@
 ghost use Rattle.std.specs.Prelude.{◌≡◌, ◌++◌, [], ◌∷◌, OnOk, decimal, codes, replicate};
 ghost use Rattle.job_story.specs.Sentences.{padded_text};
-ghost use Rattle.exc_text.specs.Texts.{label_text};
+ghost use Rattle.exceptions.specs.Texts.{label_text};
 
-use exc_groups::Label;
-use exc_text::push_label;
+use exceptions::{Label, push_label};
 use std::alloc::AllocError;
 
 // Appends a label, and spaces up to a width.

@@ -3,7 +3,7 @@
 //! The layer promises that `in_order` sorts events into the order of a story, that `kept_text` returns the text of selected
 //! events, and that `kept_text_to` returns that of a story up to a limit, with what each task is doing that has not ended by
 //! then. The texts are definitions of `job_story` (`specs/Sentences.antt`, `specs/Limit.antt`). It uses the events of
-//! `job_story`, and `story_causes` for how each scope was entered and why it is cancelled.
+//! `job_story`, and `story_index` for how each scope was entered and why it is cancelled.
 #![tactic(auto)]
 
 mod answers;

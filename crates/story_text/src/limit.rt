@@ -1,25 +1,25 @@
 ghost use Rattle.std.specs.Prelude.{◌≡◌, ◌++◌, ◌&&◌, not, [], ◌∷◌, List, IfOk, OnOk, map, codes, decimal};
-ghost use Rattle.exc_groups.specs.Exceptions as tree;
+ghost use Rattle.exceptions.specs.Exceptions as tree;
 ghost use Rattle.job_story.specs.Froms.{table_in};
 ghost use Rattle.job_story.specs.Held.{happening_of, what_of};
 ghost use Rattle.job_story.specs.Events as told;
 ghost use Rattle.job_story.specs.Limit.{has_ended, start_if, is_start, running_in, unset_text, doing_text, last_event, last_text, running_text, kept_text_to};
 ghost use Rattle.job_story.specs.Sentences.{label_width};
 ghost use Rattle.story_text.specs.Told.{clock_in, events_in, froms_in};
-ghost use Rattle.story_causes.specs.Tasks.{sorted_in, walked_in};
-ghost use Rattle.story_causes.specs.Lasts.{seen_last};
-ghost use Rattle.story_causes.specs.Seen.{event_in};
+ghost use Rattle.story_index.specs.Tasks.{sorted_in, walked_in};
+ghost use Rattle.story_index.specs.Lasts.{seen_last};
+ghost use Rattle.story_index.specs.Seen.{event_in};
 
 use crate::known::Known;
 use crate::label::push_padded;
 use crate::lines::{label_width, push_lines};
 use crate::sentences::{push_since, push_until, push_waiting};
-use digits::push_number;
-use exc_groups::Label;
+use basics::push_number;
+use exceptions::Label;
+use job_meaning::Clock;
 use job_story::{Event, Froms, Happening, What};
-use moments::Clock;
 use std::alloc::{AllocError, Global};
-use story_causes::Tasks;
+use story_index::Tasks;
 
 /// Returns the text of selected events of a story up to a limit. The events are given in order (`sorted`) and in the order of the
 /// walk (`walked`), and `known` has all events up to the limit. After the story come a line for the limit, and a line for each

@@ -2,16 +2,16 @@ ghost use Rattle.std.specs.Prelude.{◌≡◌, ◌++◌, [], None, IfOk, OnOk, m
 ghost use Rattle.job_story.specs.Held.{event_of};
 ghost use Rattle.job_story.specs.Sentences.{label_width, tick_text, line_text, lines_text, kept_text};
 ghost use Rattle.story_text.specs.Told.{clock_in, events_in, froms_in};
-ghost use Rattle.story_causes.specs.Seen.{event_in};
+ghost use Rattle.story_index.specs.Seen.{event_in};
 
 use crate::known::Known;
 use crate::label::push_padded;
 use crate::sentences::push_what;
 use crate::ticks::is_tick;
-use digits::push_number;
-use exc_text::push_label;
+use basics::push_number;
+use exceptions::push_label;
+use job_meaning::Clock;
 use job_story::Event;
-use moments::Clock;
 use std::alloc::{AllocError, Global};
 
 /// Returns the text of selected events of a story, in order: a line for each tick in which one happens, and a line for each

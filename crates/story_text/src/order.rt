@@ -1,6 +1,6 @@
 ghost use Rattle.std.specs.Prelude.{◌≡◌, IfOk, OnOk, map};
 ghost use Rattle.job_story.specs.Events.{in_order as ordered};
-ghost use Rattle.story_causes.specs.Seen.{event_in};
+ghost use Rattle.story_index.specs.Seen.{event_in};
 
 use job_story::Event;
 use std::alloc::{AllocError, Global};

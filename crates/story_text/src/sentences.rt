@@ -1,26 +1,25 @@
 ghost use Rattle.std.specs.Prelude.{◌≡◌, ◌++◌, [], Some, None, OnOk, codes, decimal};
 ghost use Rattle.std.specs.Option.{option_map};
-ghost use Rattle.exc_groups.specs.Held.{exc_of};
-ghost use Rattle.exc_groups.specs.Split.{is_cancelled, drop};
+ghost use Rattle.exceptions.specs.Held.{exc_of};
+ghost use Rattle.exceptions.specs.Split.{is_cancelled, drop};
 ghost use Rattle.block_exits.specs.Held.{kind_of};
 ghost use Rattle.job_story.specs.Held.{unboxed_exc, during_of, happening_of, what_of};
 ghost use Rattle.job_story.specs.Sentences.{kind_text, with_exc, entering_text, until_text, during_text, cleanup_text, cause_text, entered_text, count_text, caught_text, leaving_text, from_text, sign_text, cancel_text, set_text, cancelled_text, happening_text, home_text, what_text};
-ghost use Rattle.exc_text.specs.Texts.{label_text, exc_text, end_text};
-ghost use Rattle.moments.specs.Moments.{tick_of};
-ghost use Rattle.moments.specs.declared.clock.Clock.{Clock};
-ghost use Rattle.story_causes.specs.Found.{entering_in_code, cause_in_code};
+ghost use Rattle.exceptions.specs.Texts.{label_text, exc_text, end_text};
+ghost use Rattle.job_meaning.specs.Clocks.{tick_of};
+ghost use Rattle.job_meaning.specs.declared.clock.Clock.{Clock};
+ghost use Rattle.story_index.specs.Found.{entering_in_code, cause_in_code};
 ghost use Rattle.story_text.specs.Told.{clock_in, events_in, froms_in};
 
 use crate::known::Known;
 use crate::ticks::next_from;
-use digits::push_number;
-use exc_groups::{Exc, Label};
-use exc_text::{push_exc, push_label, push_raised};
+use basics::push_number;
+use exceptions::{Exc, Label, push_exc, push_label, push_raised};
+use job_meaning::Clock;
 use job_story::{During, Event, Happening, Kind, What};
 use job_tree::Name;
-use moments::Clock;
 use std::alloc::AllocError;
-use story_causes::{Cause, Entering, is_cancellation};
+use story_index::{Cause, Entering, is_cancellation};
 
 // Appends the sentence of an event.
 pub(crate) fn push_what(

@@ -3,7 +3,7 @@ ghost use Rattle.job_story.specs.Tell.{is_from};
 ghost use Rattle.story_text.specs.Told.{froms_in};
 
 use crate::known::Known;
-use exc_groups::Label;
+use exceptions::Label;
 
 // Returns whether `from` is this tick. `None` is never.
 pub(crate) fn is_tick(from: Option<u64>, tick: u64) -> bool

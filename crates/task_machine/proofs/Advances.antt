@@ -3,10 +3,10 @@ use Rattle.std.proofs.Common.{◌≡◌, ℕ, zero, suc, ◌<◌, Bool, true, fa
 use Rattle.std.proofs.lemmas.List.{append-nil}
 use Rattle.std.specs.Global.{Box}
 use Rattle.std.specs.Option.{option_map, option_copied}
-use Rattle.exc_groups.specs.declared.exc.Exc as held
-use Rattle.exc_groups.specs.Held.{exc_of}
-use Rattle.exc_groups.specs.Exceptions.{Exc}
-use Rattle.exc_groups.specs.Split.{named, keep, drop}
+use Rattle.exceptions.specs.declared.exc.Exc as held
+use Rattle.exceptions.specs.Held.{exc_of}
+use Rattle.exceptions.specs.Exceptions.{Exc}
+use Rattle.exceptions.specs.Split.{named, keep, drop}
 use Rattle.job_tree.specs.Tree as tree
 use Rattle.job_tree.specs.Blocks.{steps_of, handled_of, cleaned_of}
 use Rattle.job_tree.specs.declared.step.Step.{Step}

@@ -2,7 +2,7 @@
 use Rattle.std.proofs.Common.{◌≡◌, ℕ, Bool, true, false, Option, Some, None, List, [], ◌∷◌, ◌++◌, refl, ap, sym, ◌∙◌, subst}
 use Rattle.cancel_scopes.specs.Sight.{Tick}
 use Rattle.cancel_scopes.specs.Tree.{IsChain}
-use Rattle.exc_groups.specs.Exceptions.{Label}
+use Rattle.exceptions.specs.Exceptions.{Label}
 use Rattle.job_tree.specs.Tree as tree
 use Rattle.job_tree.specs.InRange.{AreInRange}
 use Rattle.job_tree.specs.Blocks.{steps_of, step_of as step_in, handled_of, cleaned_of}

@@ -4,7 +4,7 @@ use Rattle.std.proofs.lemmas.List.{append-nil}
 use Rattle.std.proofs.lemmas.List.Elements.{All-head, All-tail}
 use Rattle.std.specs.Prelude.{IsSome}
 use Rattle.std.specs.Option.{IsSomeAnd}
-use Rattle.buffer_parts.specs.declared.part.Part.{Part}
+use Rattle.input_lines.specs.declared.part.Part.{Part}
 use Rattle.cancel_scopes.specs.Tree.{Tree}
 use Rattle.job_tree.specs.declared.step.Step.{Step}
 use Rattle.nursery_book.specs.Nursery.{Nursery as Members}

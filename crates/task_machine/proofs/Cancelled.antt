@@ -1,10 +1,11 @@
 -- What a task has cancelled itself in a moment, after a move; and that a move that waits for no nursery ends none.
 use Rattle.std.proofs.Common.{◌≡◌, ℕ, zero, suc, ◌+◌, Option, Some, None, List, [], ◌∷◌, ◌++◌, refl, ap, sym, ◌∙◌}
-use Rattle.exc_groups.specs.Exceptions.{Label}
-use Rattle.job_meaning.specs.Moments.{Clock, by_ticks, by_rounds}
+use Rattle.exceptions.specs.Exceptions.{Label}
+use Rattle.job_meaning.specs.declared.clock.Clock.{Clock}
+use Rattle.job_meaning.specs.declared.clock.Clock.TheVariants.{ByTicks as by_ticks, ByRounds as by_rounds}
 use Rattle.job_meaning.specs.Walk.{Here, with_own, label_over}
 use Rattle.job_meaning.specs.Rest.{Event, starts, starts_over, Stopped, to_begin, asking, asleep, waiting_for, giving_up, awaiting, at_end}
-use Rattle.buffer_parts.specs.Lines.{Span}
+use Rattle.input_lines.specs.Lines.{Span}
 use Rattle.nursery_book.specs.declared.book.NurseryBook.{NurseryBook}
 use Rattle.turn_semantics.specs.Midway.{own_after}
 use Rattle.turn_semantics.specs.Steps.{signs_to}

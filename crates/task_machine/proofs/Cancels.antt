@@ -2,11 +2,12 @@
 use Rattle.std.proofs.Common.{◌≡◌, inl, inr, ℕ, Bool, true, false, ◌&&◌, Option, Some, None, List, [], ◌∷◌, ◌++◌, append_assoc, refl, ap, sym, ◌∙◌, subst}
 use Rattle.std.specs.Prelude.{IsSome}
 use Rattle.std.specs.Option.{option_map, unwrap_or}
-use Rattle.exc_groups.specs.Exceptions.{Label}
+use Rattle.exceptions.specs.Exceptions.{Label}
 use Rattle.cancel_scopes.specs.Sight.{Tick, Level}
 use Rattle.cancel_scopes.specs.Tree.{Stack, Tree, stack_of, IsOpen, outer_of, IsChain, after_cancel}
 use Rattle.job_meaning.specs.Log.{Table}
-use Rattle.job_meaning.specs.Moments.{Clock, by_ticks, by_rounds}
+use Rattle.job_meaning.specs.declared.clock.Clock.{Clock}
+use Rattle.job_meaning.specs.declared.clock.Clock.TheVariants.{ByTicks as by_ticks, ByRounds as by_rounds}
 use Rattle.job_meaning.specs.Walk.{with_own}
 use Rattle.turn_semantics.specs.Midway.{Place, label_among}
 use Rattle.turn_semantics.specs.Names.{names_at, OwnNames}

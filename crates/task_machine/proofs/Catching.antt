@@ -3,8 +3,8 @@ use Rattle.std.proofs.Common.{◌≡◌, ℕ, Bool, true, false, not, ◌&&◌, 
 use Rattle.std.proofs.lemmas.Bool.Decides.{nat_tests}
 use Rattle.std.specs.Option.{ForSome, unwrap_or}
 use Rattle.std.specs.List.{list_any}
-use Rattle.exc_groups.specs.Exceptions.{Label}
-use Rattle.exc_groups.specs.Labels.{same_label, same_label_equiv}
+use Rattle.exceptions.specs.Exceptions.{Label}
+use Rattle.exceptions.specs.Labels.{same_label, same_label_equiv}
 use Rattle.cancel_scopes.specs.Sight.{Tick, Level, earlier, is_reached, seen, sight}
 use Rattle.cancel_scopes.specs.Tree.{Stack, Tree, stack_of, outer_of, outer_levels, own_from, own_shield, IsOpen, IsOwn}
 use Rattle.cancel_scopes.specs.Tree as scopes

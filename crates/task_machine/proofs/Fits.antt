@@ -4,7 +4,7 @@ use Rattle.std.proofs.lemmas.List.Elements.{All-head}
 use Rattle.std.specs.Prelude.{All, IsSome}
 use Rattle.std.specs.Option.{ForSome, unwrap_or}
 use Rattle.std.specs.List.{last_or}
-use Rattle.buffer_parts.specs.declared.part.Part.{Part}
+use Rattle.input_lines.specs.declared.part.Part.{Part}
 use Rattle.cancel_scopes.specs.Sight.{Level}
 use Rattle.cancel_scopes.specs.Tree.{Stack, Tree, stack_of, outer_of, own_label, IsOpen, IsOwn, IsChain, IsApart, IsInnermost, OthersKeep}
 use Rattle.nursery_book.specs.declared.book.NurseryBook.{NurseryBook}

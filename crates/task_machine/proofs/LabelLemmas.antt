@@ -1,6 +1,6 @@
 -- Indices of labels and of events.
 use Rattle.std.proofs.Common.{◌≡◌, ℕ, zero, suc, List, [], ◌∷◌, ◌++◌, Option, None, refl}
-use Rattle.exc_groups.specs.Exceptions.{Label}
+use Rattle.exceptions.specs.Exceptions.{Label}
 use Rattle.task_machine.specs.Labels.{label_in, event_in}
 use Rattle.task_machine.specs.declared.events.EventState.{EventState}
 

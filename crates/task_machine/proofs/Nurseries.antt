@@ -5,7 +5,7 @@ use Rattle.std.proofs.lemmas.List.{append-nil}
 use Rattle.std.proofs.lemmas.List.Elements.{All-nil}
 use Rattle.std.proofs.lemmas.Option.{same_Some}
 use Rattle.std.specs.Option.{IsSomeAnd}
-use Rattle.exc_groups.specs.Exceptions.{Exc}
+use Rattle.exceptions.specs.Exceptions.{Exc}
 use Rattle.nursery_book.specs.Nursery.{End, Nursery as Members, with_body}
 use Rattle.nursery_book.specs.Book.{nursery_at, HasNursery, Updates, Changes}
 use Rattle.nursery_book.specs.declared.book.NurseryBook.{NurseryBook}

@@ -5,7 +5,7 @@ use Rattle.std.proofs.lemmas.List.Elements.{All-nil, All-cons}
 use Rattle.std.specs.Prelude.{IsSome, is_some}
 use Rattle.std.specs.Option.{IsSomeAnd}
 use Rattle.std.specs.List.{last_or, list_all}
-use Rattle.buffer_parts.specs.declared.part.Part.{Part}
+use Rattle.input_lines.specs.declared.part.Part.{Part}
 use Rattle.cancel_scopes.specs.Tree.{Stack, Tree, stack_of, IsOwn, IsChain, IsApart, IsInnermost, OthersKeep}
 use Rattle.nursery_book.specs.Nursery.{End, Nursery as Members, is_settled}
 use Rattle.nursery_book.specs.Book.{nursery_at, HasNursery, Updates}

@@ -2,10 +2,10 @@
 use Rattle.std.proofs.Common.{◌≡◌, ℕ, zero, suc, ◌+◌, Option, Some, None, List, [], ◌∷◌, ◌++◌, length, length-append, append_assoc, refl, ap, sym, ◌∙◌, subst, arith}
 use Rattle.std.proofs.lemmas.List.{append-nil}
 use Rattle.std.specs.Option.{IsSomeAnd}
-use Rattle.buffer_parts.specs.Part.{buffer_of, range_of}
-use Rattle.buffer_parts.specs.Cuts.{cut_of}
-use Rattle.buffer_parts.specs.declared.part.Part.{Part}
-use Rattle.exc_groups.specs.Exceptions.{Label}
+use Rattle.input_lines.specs.Part.{buffer_of, range_of}
+use Rattle.input_lines.specs.Cuts.{cut_of}
+use Rattle.input_lines.specs.declared.part.Part.{Part}
+use Rattle.exceptions.specs.Exceptions.{Label}
 use Rattle.job_tree.specs.Tree.{Steps}
 use Rattle.nursery_book.specs.Nursery.{End, Nursery, with_start}
 use Rattle.nursery_book.specs.Book.{nursery_at, HasNursery, Updates, Changes}

@@ -1,8 +1,8 @@
 -- What a wake says of a nursery that was waited for, where the move of a stop stops, and tasks without blocks.
 use Rattle.std.proofs.Common.{◌≡◌, true, ℕ, Option, Some, None, List, [], ◌∷◌, refl, subst}
-use Rattle.buffer_parts.specs.declared.part.Part.{Part}
+use Rattle.input_lines.specs.declared.part.Part.{Part}
 use Rattle.job_tree.specs.Tree.{Steps}
-use Rattle.job_meaning.specs.Moments.{Clock}
+use Rattle.job_meaning.specs.declared.clock.Clock.{Clock}
 use Rattle.job_meaning.specs.Rest.{Stopped}
 use Rattle.job_meaning.specs.Rest as rest
 use Rattle.nursery_book.specs.Nursery.{is_settled}

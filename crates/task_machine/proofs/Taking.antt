@@ -4,18 +4,19 @@ use Rattle.std.proofs.lemmas.List.{append-nil, map-append}
 use Rattle.std.proofs.lemmas.List.Elements.{All-nil, All-append}
 use Rattle.std.specs.Option.{IsSomeAnd, option_map}
 use Rattle.std.specs.List.{slice_get}
-use Rattle.buffer_parts.specs.Part.{buffer_of}
-use Rattle.buffer_parts.specs.declared.part.Part.{Part}
-use Rattle.exc_groups.specs.declared.exc.Exc as held
-use Rattle.exc_groups.specs.Held.{exc_of}
-use Rattle.exc_groups.specs.Exceptions.{Exc}
+use Rattle.input_lines.specs.Part.{buffer_of}
+use Rattle.input_lines.specs.declared.part.Part.{Part}
+use Rattle.exceptions.specs.declared.exc.Exc as held
+use Rattle.exceptions.specs.Held.{exc_of}
+use Rattle.exceptions.specs.Exceptions.{Exc}
 use Rattle.nursery_book.specs.Nursery.{End, Nursery}
 use Rattle.nursery_book.specs.Book.{nursery_at, HasNursery}
 use Rattle.nursery_book.specs.declared.book.NurseryBook.{NurseryBook}
 use Rattle.job_meaning.specs.Log.{Table}
 use Rattle.job_meaning.specs.Shown.{shown_at}
-use Rattle.exc_groups.specs.Exceptions.{Label}
-use Rattle.job_meaning.specs.Moments.{Clock, tick_of, a_round_after, Now}
+use Rattle.exceptions.specs.Exceptions.{Label}
+use Rattle.job_meaning.specs.Moments.{tick_of, a_round_after, Now}
+use Rattle.job_meaning.specs.declared.clock.Clock.{Clock}
 use Rattle.job_meaning.specs.Walk.{Here}
 use Rattle.job_meaning.specs.Rest as rest
 use Rattle.job_meaning.specs.Rest.{Event, noted, signs, enters, starts, Stopped}

@@ -14,12 +14,12 @@ use Rattle.job_tree.specs.InRange.{AreInRange, IsInRangeHandler, IsInRangeCleanu
 use Rattle.job_tree.specs.Starting.{StartsIn, HandlerStarts, CleanupStarts}
 use Rattle.job_tree.specs.Tree.{Steps}
 use Rattle.job_tree.specs.Tree as tree
-use Rattle.exc_groups.specs.Split.{named, keep, drop}
+use Rattle.exceptions.specs.Split.{named, keep, drop}
 use Rattle.turn_semantics.specs.Midway.{Place, Move}
 use Rattle.turn_semantics.specs.Steps.{onward, begins_passes, step_pass, handler_if, step_try}
 use Rattle.turn_semantics.specs.Bound.{turn_length, frames_length}
 use Rattle.turn_semantics.specs.Placed.{in_body}
-use Rattle.exc_groups.specs.Exceptions.{Label, Exc}
+use Rattle.exceptions.specs.Exceptions.{Label, Exc}
 use Rattle.nursery_book.specs.Nursery.{End, Nursery as Members, with_body}
 use Rattle.nursery_book.specs.Book.{nursery_at, HasNursery, Updates, Changes}
 use Rattle.nursery_book.specs.declared.book.NurseryBook.{NurseryBook}

@@ -5,17 +5,19 @@ use Rattle.std.proofs.lemmas.List.{append-nil}
 use Rattle.std.proofs.lemmas.List.Elements.{All-nil}
 use Rattle.std.proofs.lemmas.Option.{same_Some}
 use Rattle.std.specs.Option.{IsSomeAnd, option_map}
-use Rattle.buffer_parts.specs.Part.{buffer_of}
+use Rattle.input_lines.specs.Part.{buffer_of}
 use Rattle.cancel_scopes.specs.Sight.{catches}
 use Rattle.cancel_scopes.specs.Tree.{Tree, IsChain}
-use Rattle.exc_groups.specs.declared.exc.Exc as held
-use Rattle.exc_groups.specs.Held.{exc_of}
-use Rattle.exc_groups.specs.Exceptions.{Label, Exc}
+use Rattle.exceptions.specs.declared.exc.Exc as held
+use Rattle.exceptions.specs.Held.{exc_of}
+use Rattle.exceptions.specs.Exceptions.{Label, Exc}
 use Rattle.nursery_book.specs.Nursery.{Nursery as Members, with_body}
 use Rattle.nursery_book.specs.Book.{nursery_at, Updates, Changes}
 use Rattle.nursery_book.specs.declared.book.NurseryBook.{NurseryBook}
 use Rattle.job_meaning.specs.Log.{Table}
-use Rattle.job_meaning.specs.Moments.{Clock, by_ticks, by_rounds, a_round_after}
+use Rattle.job_meaning.specs.Moments.{a_round_after}
+use Rattle.job_meaning.specs.declared.clock.Clock.{Clock}
+use Rattle.job_meaning.specs.declared.clock.Clock.TheVariants.{ByTicks as by_ticks, ByRounds as by_rounds}
 use Rattle.job_meaning.specs.Walk.{left_with, from_for, stack_for}
 use Rattle.job_meaning.specs.Walk as meaning
 use Rattle.job_meaning.specs.Rest as rest

@@ -6,7 +6,7 @@ use Rattle.std.proofs.lemmas.List.{append-nil}
 use Rattle.std.proofs.lemmas.Option.{none-some}
 use Rattle.std.specs.Option.{IsSomeAnd}
 use Rattle.std.specs.List.{slice_get}
-use Rattle.buffer_parts.specs.Part.{buffer_of}
+use Rattle.input_lines.specs.Part.{buffer_of}
 use Rattle.cancel_scopes.specs.Sight.{Tick}
 use Rattle.job_tree.specs.Tree as tree
 use Rattle.job_meaning.specs.Log.{Table}

@@ -9,16 +9,17 @@ use Rattle.std.specs.Prelude.{All}
 use Rattle.std.specs.Borrow.{Bor}
 use Rattle.std.specs.Option.{IsSomeAnd, option_map}
 use Rattle.std.specs.List.{slice_get}
-use Rattle.buffer_parts.specs.Lines.{Range}
-use Rattle.buffer_parts.specs.Part.{buffer_of, range_of}
-use Rattle.buffer_parts.specs.Cuts.{cut_of}
-use Rattle.exc_groups.specs.Exceptions.{Label}
+use Rattle.input_lines.specs.Lines.{Range}
+use Rattle.input_lines.specs.Part.{buffer_of, range_of}
+use Rattle.input_lines.specs.Cuts.{cut_of}
+use Rattle.exceptions.specs.Exceptions.{Label}
 use Rattle.job_tree.specs.Tree as tree
 use Rattle.job_tree.specs.Blocks.{steps_of}
 use Rattle.job_tree.specs.InRange.{AreInRange}
 use Rattle.job_tree.specs.declared.step.Step.{Step}
 use Rattle.job_meaning.specs.Log.{Table}
-use Rattle.job_meaning.specs.Moments.{Clock, a_round_after}
+use Rattle.job_meaning.specs.Moments.{a_round_after}
+use Rattle.job_meaning.specs.declared.clock.Clock.{Clock}
 use Rattle.job_meaning.specs.Walk.{Here, here_in, label_here, label_over}
 use Rattle.job_meaning.specs.Rest as rest
 use Rattle.job_meaning.specs.Rest.{Event, starts, starts_over, consecutive, Stopped}

@@ -4,16 +4,17 @@ use Rattle.std.proofs.lemmas.List.{append-nil}
 use Rattle.std.proofs.lemmas.List.Elements.{All-nil, All-cons, All-head, All-tail}
 use Rattle.std.specs.Prelude.{All}
 use Rattle.std.specs.Option.{option_map}
-use Rattle.buffer_parts.specs.Lines.{Span, text_of}
-use Rattle.buffer_parts.specs.Part.{buffer_of, span_of, IsLineOf}
-use Rattle.buffer_parts.specs.declared.line.Line.{Line}
-use Rattle.exc_groups.specs.declared.exc.Exc as held
-use Rattle.exc_groups.specs.Held.{exc_of}
+use Rattle.input_lines.specs.Lines.{Span, text_of}
+use Rattle.input_lines.specs.Part.{buffer_of, span_of, IsLineOf}
+use Rattle.input_lines.specs.declared.line.Line.{Line}
+use Rattle.exceptions.specs.declared.exc.Exc as held
+use Rattle.exceptions.specs.Held.{exc_of}
 use Rattle.cancel_scopes.specs.Sight.{Level}
-use Rattle.exc_groups.specs.Exceptions.{Label, Exc}
-use Rattle.line_kernels.specs.Answers.{AreLinesAt}
+use Rattle.exceptions.specs.Exceptions.{Label, Exc}
+use Rattle.input_lines.specs.Answers.{AreLinesAt}
 use Rattle.job_meaning.specs.Log.{Table, waited}
-use Rattle.job_meaning.specs.Moments.{Clock, tick_of}
+use Rattle.job_meaning.specs.Moments.{tick_of}
+use Rattle.job_meaning.specs.declared.clock.Clock.{Clock}
 use Rattle.job_meaning.specs.Walk as meaning
 use Rattle.job_meaning.specs.Rest as rest
 use Rattle.job_meaning.specs.Rest.{Stopped, awaiting}

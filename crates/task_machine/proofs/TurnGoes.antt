@@ -1,9 +1,9 @@
 -- A turn continues by one step more.
 use Rattle.std.proofs.Common.{◌≡◌, ℕ, zero, suc, ◌+◌, Option, None, List, length, sym, subst}
 use Rattle.std.specs.Option.{option_map}
-use Rattle.exc_groups.specs.Exceptions.{Label, Exc}
-use Rattle.exc_groups.specs.Held.{exc_of}
-use Rattle.exc_groups.specs.declared.exc.Exc as held
+use Rattle.exceptions.specs.Exceptions.{Label, Exc}
+use Rattle.exceptions.specs.Held.{exc_of}
+use Rattle.exceptions.specs.declared.exc.Exc as held
 use Rattle.job_meaning.specs.Log.{Table}
 use Rattle.job_meaning.specs.Moments.{Now}
 use Rattle.job_meaning.specs.Walk.{Here}

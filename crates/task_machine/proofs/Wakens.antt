@@ -1,14 +1,14 @@
 -- What the code does first for a task that wakes, as the definitions' wake: one lemma for each way.
 use Rattle.std.proofs.Common.{◌≡◌, ℕ, suc, Bool, true, false, Option, Some, None, List, ◌++◌, map, refl, ap, sym, ◌∙◌, subst}
 use Rattle.std.specs.Option.{option_map}
-use Rattle.buffer_parts.specs.Lines.{Span}
-use Rattle.buffer_parts.specs.Part.{buffer_of}
-use Rattle.buffer_parts.specs.declared.line.Line.{Line}
-use Rattle.exc_groups.specs.declared.exc.Exc as held
-use Rattle.exc_groups.specs.Held.{exc_of}
-use Rattle.exc_groups.specs.Exceptions.{Label, Exc, cancelled, raised}
-use Rattle.line_kernels.specs.Answers.{AreLinesAt}
-use Rattle.line_kernels.specs.declared.kernel.Kernel.{Kernel}
+use Rattle.input_lines.specs.Lines.{Span}
+use Rattle.input_lines.specs.Part.{buffer_of}
+use Rattle.input_lines.specs.declared.line.Line.{Line}
+use Rattle.exceptions.specs.declared.exc.Exc as held
+use Rattle.exceptions.specs.Held.{exc_of}
+use Rattle.exceptions.specs.Exceptions.{Label, Exc, cancelled, raised}
+use Rattle.input_lines.specs.Answers.{AreLinesAt}
+use Rattle.input_lines.specs.declared.kernel.Kernel.{Kernel}
 use Rattle.job_meaning.specs.Log.{Table}
 use Rattle.job_meaning.specs.Moments.{tick_of}
 use Rattle.job_meaning.specs.Walk.{event_on, pace_ticks}

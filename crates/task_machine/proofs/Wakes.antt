@@ -2,21 +2,21 @@
 use Rattle.std.proofs.Common.{◌≡◌, ◌≤◌, ℕ, zero, suc, ◌+◌, ◌-◌, ◌/◌, Option, Some, None, List, [], ◌∷◌, map, length, refl, ap, sym, arith}
 use Rattle.std.specs.Prelude.{MatchOption}
 use Rattle.std.specs.Option.{IsSomeAnd}
-use Rattle.buffer_parts.specs.declared.line.Line.{Line}
-use Rattle.exc_groups.specs.Exceptions.{Exc}
+use Rattle.input_lines.specs.declared.line.Line.{Line}
+use Rattle.exceptions.specs.Exceptions.{Exc}
 use Rattle.nursery_book.specs.Nursery.{Nursery, raised_by}
 use Rattle.job_meaning.specs.Walk.{pace_ticks}
 use Rattle.task_machine.specs.Waking.{raised_in}
-use Rattle.buffer_parts.specs.Lines.{Range, Span, bytes_of}
-use Rattle.buffer_parts.specs.Part.{buffer_of, range_of, span_of}
-use Rattle.buffer_parts.specs.declared.part.Part.{Part}
-use Rattle.buffer_parts.proofs.JoinLemmas.{length-lines_from}
+use Rattle.input_lines.specs.Lines.{Range, Span, bytes_of}
+use Rattle.input_lines.specs.Part.{buffer_of, range_of, span_of}
+use Rattle.input_lines.specs.declared.part.Part.{Part}
+use Rattle.input_lines.proofs.JoinLemmas.{length-lines_from}
 use Rattle.job_meaning.specs.declared.limits.TheConstants.{MAX_INPUT}
-use Rattle.line_kernels.specs.Answers.{AreLinesAt, IsAnswer}
-use Rattle.line_kernels.specs.Kernels.{needed_in, count_in}
-use Rattle.line_kernels.specs.declared.answers.Answer.TheVariants as answers
-use Rattle.line_kernels.specs.declared.kernel.Kernel.{Kernel}
-use Rattle.line_kernels.specs.declared.kernel.Kernel.TheVariants.{Find, Head, Longest, Need, Count}
+use Rattle.input_lines.specs.Answers.{AreLinesAt, IsAnswer}
+use Rattle.input_lines.specs.Kernels.{needed_in, count_in}
+use Rattle.input_lines.specs.declared.answers.Answer.TheVariants as answers
+use Rattle.input_lines.specs.declared.kernel.Kernel.{Kernel}
+use Rattle.input_lines.specs.declared.kernel.Kernel.TheVariants.{Find, Head, Longest, Need, Count}
 
 -- a part has no more lines than bytes
 count_le : (input : List ℕ) (r : Range) → count_in input r ≤ length (bytes_of input r)

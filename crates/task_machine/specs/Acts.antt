@@ -1,7 +1,7 @@
 -- What a task does to scopes: what it and its world hold of them, and how that changes as events are made.
 use Rattle.std.specs.Prelude.{◌≡◌, ℕ, Bool, true, false, ◌||◌, Option, Some, None, List, [], ◌∷◌, ◌++◌, length, slice_get, slice_set}
 use Rattle.std.specs.Option.{ForSome, option_map}
-use Rattle.exc_groups.specs.Exceptions.{Label, Exc}
+use Rattle.exceptions.specs.Exceptions.{Label, Exc}
 use Rattle.cancel_scopes.specs.Sight.{Tick, Level, before, earlier, next, sight}
 use Rattle.cancel_scopes.specs.Tree.{Stack, Tree, stack_of, outer_of, own_from, after_cancel, is_changed, OthersKeep, SameMarks, OtherMarksKeep, IsInnermost, IsOpen}
 use Rattle.job_meaning.specs.Log as log

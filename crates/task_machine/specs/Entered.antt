@@ -5,7 +5,7 @@ use Rattle.job_tree.specs.Blocks.{steps_of}
 use Rattle.nursery_book.specs.Nursery.{new_nursery}
 use Rattle.nursery_book.specs.Book.{nursery_at}
 use Rattle.nursery_book.specs.Book as book
-use Rattle.exc_groups.specs.Exceptions.{Label}
+use Rattle.exceptions.specs.Exceptions.{Label}
 use Rattle.cancel_scopes.specs.Sight.{Tick}
 use Rattle.job_meaning.specs.Log.{Table}
 use Rattle.job_meaning.specs.Walk.{with_own}

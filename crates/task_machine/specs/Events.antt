@@ -1,7 +1,8 @@
 -- How long a task waits for an event.
 use Rattle.std.specs.Prelude.{ℕ, ◌≤◌, ◌^◌, Bool, false, not, ◌&&◌, ◌==◌, Option, Some, None, max, nat_le, nat_lt}
 use Rattle.cancel_scopes.specs.Sight.{Tick}
-use Rattle.job_meaning.specs.Moments.{Clock, a_round_after}
+use Rattle.job_meaning.specs.Moments.{a_round_after}
+use Rattle.job_meaning.specs.declared.clock.Clock.{Clock}
 use Rattle.job_meaning.specs.Walk.{set_moment}
 use Rattle.turn_semantics.specs.Wakes.{is_checkpoint}
 use Rattle.task_machine.specs.declared.stop.TaskState.{TaskState}

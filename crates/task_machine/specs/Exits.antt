@@ -1,7 +1,7 @@
 -- Leaving a block, and the cancellation by a task or body that fails.
 use Rattle.std.specs.Prelude.{◌≡◌, false, List, [], ◌∷◌, ◌++◌, Option}
-use Rattle.buffer_parts.specs.Part.{buffer_of}
-use Rattle.exc_groups.specs.Exceptions.{Exc}
+use Rattle.input_lines.specs.Part.{buffer_of}
+use Rattle.exceptions.specs.Exceptions.{Exc}
 use Rattle.cancel_scopes.specs.Sight.{catches}
 use Rattle.job_meaning.specs.Log.{Table}
 use Rattle.job_meaning.specs.Moments.{tick_of}

@@ -7,9 +7,9 @@ use Rattle.job_tree.specs.Tree as tree
 use Rattle.turn_semantics.specs.Placed.{in_body}
 use Rattle.job_tree.specs.declared.limits.TheConstants.{MAX_PASSES}
 use Rattle.job_tree.specs.InRange.{AreInRange, IsInRangeHandler, IsInRangeCleanup}
-use Rattle.buffer_parts.specs.Lines.{bytes_of}
-use Rattle.buffer_parts.specs.Part.{buffer_of, range_of}
-use Rattle.buffer_parts.specs.declared.part.Part.{Part}
+use Rattle.input_lines.specs.Lines.{bytes_of}
+use Rattle.input_lines.specs.Part.{buffer_of, range_of}
+use Rattle.input_lines.specs.declared.part.Part.{Part}
 use Rattle.cancel_scopes.specs.Tree.{Stack, Tree, stack_of, IsOpen}
 use Rattle.nursery_book.specs.Nursery.{End, Nursery as Members}
 use Rattle.nursery_book.specs.Book.{HasNursery}

@@ -2,9 +2,9 @@
 use Rattle.std.specs.Prelude.{Option, Some, None}
 use Rattle.std.specs.Option.{option_map}
 use Rattle.std.specs.Global.{Box}
-use Rattle.exc_groups.specs.Exceptions.{Exc}
-use Rattle.exc_groups.specs.Held.{exc_of}
-use Rattle.exc_groups.specs.declared.exc.Exc.{Exc as HeldExc}
+use Rattle.exceptions.specs.Exceptions.{Exc}
+use Rattle.exceptions.specs.Held.{exc_of}
+use Rattle.exceptions.specs.declared.exc.Exc.{Exc as HeldExc}
 use Rattle.task_machine.specs.Frames.{unboxed_exc}
 
 abbrev pub rest_of : Option (Box HeldExc) → Option Exc

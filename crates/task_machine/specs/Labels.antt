@@ -5,7 +5,7 @@ use Rattle.std.specs.Str.{bytes_eq}
 use Rattle.cancel_scopes.specs.Sight.{Tick, earlier}
 use Rattle.cancel_scopes.specs.Tree.{Stack}
 use Rattle.job_meaning.specs.Walk.{is_among}
-use Rattle.exc_groups.specs.Exceptions.{Label}
+use Rattle.exceptions.specs.Exceptions.{Label}
 use Rattle.task_machine.specs.declared.events.EventState.{EventState}
 
 -- which label each key has, if it has one

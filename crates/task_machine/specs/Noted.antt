@@ -1,7 +1,8 @@
 -- What clauses state about what tasks note.
 use Rattle.std.specs.Prelude.{◌≡◌, ℕ, List, [], ◌∷◌, map, All}
-use Rattle.buffer_parts.specs.Part.{span_of, line_text, IsLineOf}
-use Rattle.job_meaning.specs.Moments.{Clock, tick_of}
+use Rattle.input_lines.specs.Part.{span_of, line_text, IsLineOf}
+use Rattle.job_meaning.specs.Moments.{tick_of}
+use Rattle.job_meaning.specs.declared.clock.Clock.{Clock}
 use Rattle.job_meaning.specs.Meaning.{From}
 use Rattle.job_meaning.specs.Rest.{Event, noted, signs, enters, starts}
 use Rattle.job_meaning.specs.Shown.{Shown, line_shown, scope_shown, nursery_shown, wait_shown, shown_at}

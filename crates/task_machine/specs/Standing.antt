@@ -1,16 +1,17 @@
 -- The state of a task between two moves, and what a move of the code does to it.
 use Rattle.std.specs.Prelude.{◌≡◌, ◌≤◌, ◌⊎◌, ℕ, List, [], ◌∷◌, ◌++◌, Option, Some, None, All, length, slice_get}
 use Rattle.std.specs.Borrow.{Bor}
-use Rattle.buffer_parts.specs.Part.{buffer_of, range_of}
+use Rattle.input_lines.specs.Part.{buffer_of, range_of}
 use Rattle.cancel_scopes.specs.Tree.{Tree, IsOpen}
 use Rattle.nursery_book.specs.Nursery.{End, Nursery}
 use Rattle.nursery_book.specs.Book.{nursery_at, HasNursery}
 use Rattle.nursery_book.specs.declared.book.NurseryBook.{NurseryBook}
-use Rattle.exc_groups.specs.Exceptions.{Exc}
+use Rattle.exceptions.specs.Exceptions.{Exc}
 use Rattle.job_tree.specs.declared.step.Step as held
 use Rattle.job_tree.specs.InRange.{AreInRange}
 use Rattle.job_meaning.specs.Log.{Table}
-use Rattle.job_meaning.specs.Moments.{Clock, a_round_after, Now, only_at}
+use Rattle.job_meaning.specs.Moments.{a_round_after, Now, only_at}
+use Rattle.job_meaning.specs.declared.clock.Clock.{Clock}
 use Rattle.job_meaning.specs.Walk.{Here}
 use Rattle.job_meaning.specs.Rest as rest
 use Rattle.job_meaning.specs.Rest.{Stopped}

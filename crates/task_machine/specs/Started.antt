@@ -1,10 +1,10 @@
 -- Children that a task starts.
 use Rattle.std.specs.Prelude.{◌≡◌, ℕ, zero, suc, ◌+◌, Option, List, [], ◌∷◌, ◌++◌, Some, None, length}
-use Rattle.buffer_parts.specs.Lines.{Range}
-use Rattle.buffer_parts.specs.Part.{buffer_of, range_of}
-use Rattle.buffer_parts.specs.Cuts.{cut_of}
-use Rattle.buffer_parts.specs.declared.part.Part.{Part}
-use Rattle.exc_groups.specs.Exceptions.{Label}
+use Rattle.input_lines.specs.Lines.{Range}
+use Rattle.input_lines.specs.Part.{buffer_of, range_of}
+use Rattle.input_lines.specs.Cuts.{cut_of}
+use Rattle.input_lines.specs.declared.part.Part.{Part}
+use Rattle.exceptions.specs.Exceptions.{Label}
 use Rattle.job_tree.specs.Tree.{Steps}
 use Rattle.job_meaning.specs.Moments.{a_round_after}
 use Rattle.job_meaning.specs.Rest.{steps_left}

@@ -1,16 +1,17 @@
 -- How the code stops, compared to a move of the definitions.
 use Rattle.std.specs.Prelude.{◌≡◌, ℕ, suc, List, Option, Some, None}
 use Rattle.std.specs.Option.{option_map}
-use Rattle.exc_groups.specs.Held.{exc_of}
-use Rattle.buffer_parts.specs.declared.part.Part.{Part}
-use Rattle.line_kernels.specs.declared.kernel.Kernel.{Kernel}
-use Rattle.line_kernels.specs.declared.kernel.Kernel.TheVariants.{Find, Head, Longest, Need, Count}
+use Rattle.exceptions.specs.Held.{exc_of}
+use Rattle.input_lines.specs.declared.part.Part.{Part}
+use Rattle.input_lines.specs.declared.kernel.Kernel.{Kernel}
+use Rattle.input_lines.specs.declared.kernel.Kernel.TheVariants.{Find, Head, Longest, Need, Count}
 use Rattle.nursery_book.specs.declared.book.NurseryBook.{NurseryBook}
 use Rattle.nursery_book.specs.Book.{HasNursery}
-use Rattle.job_meaning.specs.Moments.{Clock, wakes_at}
+use Rattle.job_meaning.specs.Moments.{wakes_at}
+use Rattle.job_meaning.specs.declared.clock.Clock.{Clock}
 use Rattle.job_meaning.specs.Asking as ask
 use Rattle.job_meaning.specs.Rest.{Stopped, to_begin, asking, asleep, waiting_for, giving_up, awaiting, at_end}
-use Rattle.exc_groups.specs.Exceptions.{Label}
+use Rattle.exceptions.specs.Exceptions.{Label}
 use Rattle.job_meaning.specs.Rest.{Event}
 use Rattle.turn_semantics.specs.Midway.{Move, own_after}
 use Rattle.task_machine.specs.declared.stop.Stop.{Stop}

@@ -1,6 +1,6 @@
 -- Which tasks wait for the nurseries that are in the book after a move, and what a turn leaves as it was.
 use Rattle.std.specs.Prelude.{◌≡◌, ◌⊎◌, ℕ, Some}
-use Rattle.exc_groups.specs.Exceptions.{Label}
+use Rattle.exceptions.specs.Exceptions.{Label}
 use Rattle.nursery_book.specs.Book.{nursery_at, HasNursery}
 use Rattle.nursery_book.specs.Nursery.{Nursery}
 use Rattle.nursery_book.specs.declared.book.NurseryBook.{NurseryBook}

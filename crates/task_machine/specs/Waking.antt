@@ -1,12 +1,12 @@
 -- How a task that stopped continues, in the code.
 use Rattle.std.specs.Prelude.{◌≡◌, ◌≤◌, ◌^◌, true, Option, Some, None, map}
-use Rattle.buffer_parts.specs.Part.{span_of}
-use Rattle.buffer_parts.specs.declared.part.Part.{Part}
+use Rattle.input_lines.specs.Part.{span_of}
+use Rattle.input_lines.specs.declared.part.Part.{Part}
 use Rattle.job_tree.specs.declared.limits.TheConstants.{MAX_PACE}
-use Rattle.line_kernels.specs.Answers.{IsAnswer}
-use Rattle.line_kernels.specs.declared.answers.Answer as held
-use Rattle.line_kernels.specs.declared.answers.Answer.TheVariants as answers
-use Rattle.exc_groups.specs.Exceptions.{Exc}
+use Rattle.input_lines.specs.Answers.{IsAnswer}
+use Rattle.input_lines.specs.declared.answers.Answer as held
+use Rattle.input_lines.specs.declared.answers.Answer.TheVariants as answers
+use Rattle.exceptions.specs.Exceptions.{Exc}
 use Rattle.nursery_book.specs.Nursery.{Nursery, is_settled, raised_by}
 use Rattle.nursery_book.specs.Book.{nursery_at, HasNursery}
 use Rattle.nursery_book.specs.declared.book.NurseryBook.{NurseryBook}

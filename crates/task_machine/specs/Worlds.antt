@@ -1,7 +1,7 @@
 -- What clauses state about a world.
 use Rattle.std.specs.Prelude.{◌≡◌, ℕ, List, [], ◌∷◌, ◌++◌, Option, Some, None}
 use Rattle.std.specs.Global.{Box}
-use Rattle.exc_groups.specs.Exceptions.{Label}
+use Rattle.exceptions.specs.Exceptions.{Label}
 use Rattle.cancel_scopes.specs.Sight.{Tick}
 use Rattle.task_machine.specs.Labels.{label_in, event_in}
 use Rattle.task_machine.specs.declared.entry.Entry.{Entry}

@@ -6,7 +6,7 @@ ghost use Rattle.task_machine.specs.Noted.{entry_of, IsSlice};
 
 use crate::entry::Entry;
 use block_exits::Kind;
-use exc_groups::Label;
+use exceptions::Label;
 use std::alloc::{AllocError, Global};
 
 // Returns the entry of a scope or nursery that was left.

@@ -1,7 +1,7 @@
 ghost use Rattle.std.specs.Prelude.{◌≡◌, IfOk};
 ghost use Rattle.task_machine.specs.Frames.{unboxed_exc};
 
-use exc_groups::Exc;
+use exceptions::Exc;
 use std::alloc::{AllocError, Global};
 
 /// Boxes an exception, if there is one, so that a field for an optional exception that is rarely present takes little space.

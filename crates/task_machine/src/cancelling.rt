@@ -11,8 +11,8 @@ ghost use Rattle.task_machine.specs.States.{state_of};
 use crate::task::Task;
 use crate::world::World;
 use cancel_scopes::{ScopeId, stacks_are_chains};
+use job_meaning::Clock;
 use job_tree::Name;
-use moments::Clock;
 use std::alloc::AllocError;
 
 impl<'a> Task<'a> {

@@ -7,15 +7,15 @@ ghost use Rattle.task_machine.specs.Entered.{EntersAt, EntersBlock, EntersNurser
 ghost use Rattle.task_machine.specs.States.{state_of};
 ghost use Rattle.task_machine.specs.declared.frame.Frame.TheVariants.{Event, Scope};
 ghost use Rattle.job_tree.specs.InRange.{IsInRangeDeadline};
-ghost use Rattle.moments.specs.Moments.{due};
+ghost use Rattle.job_meaning.specs.Clocks.{due};
 
 use crate::entry::ScopeFrom;
 use crate::frame::Frame;
 use crate::task::{Own, Task};
 use crate::world::World;
-use autojump_clock::TaskId;
 use cancel_scopes::{ScopeId, stacks_are_chains};
-use exc_groups::Label;
+use clock::TaskId;
+use exceptions::Label;
 use job_tree::{Body, Deadline, Name};
 use std::alloc::AllocError;
 

@@ -1,6 +1,6 @@
 //! What tasks leave: what a task noted, and from which moment a scope was cancelled.
-use buffer_parts::Line;
-use exc_groups::Label;
+use exceptions::Label;
+use input_lines::Line;
 
 /// What a task noted for the report. Entries are in the order in which it noted them.
 #[derive(Drop)]

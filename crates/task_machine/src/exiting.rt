@@ -1,7 +1,7 @@
 ghost use Rattle.std.specs.Prelude.{◌≡◌, ◌+◌, ◌<◌, ◌^◌, IsSome, IfOk, OnOk, length};
 ghost use Rattle.std.specs.Option.{ForSome, option_map};
 ghost use Rattle.std.specs.List.{All};
-ghost use Rattle.exc_groups.specs.Held.{exc_of};
+ghost use Rattle.exceptions.specs.Held.{exc_of};
 ghost use Rattle.cancel_scopes.specs.Tree.{IsOpen, IsInnermost};
 ghost use Rattle.nursery_book.specs.Nursery.{with_body};
 ghost use Rattle.nursery_book.specs.Book.{HasNursery, Changes};
@@ -23,7 +23,7 @@ use crate::task::Task;
 use crate::world::World;
 use block_exits::{Kind, exc_after, left_with};
 use cancel_scopes::stacks_are_chains;
-use exc_groups::Exc;
+use exceptions::Exc;
 use nursery_book::NurseryId;
 use std::alloc::AllocError;
 

@@ -1,4 +1,4 @@
-use exc_groups::Exc;
+use exceptions::Exc;
 use job_tree::{Body, Handler, Step};
 use nursery_book::NurseryId;
 

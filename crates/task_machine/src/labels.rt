@@ -1,7 +1,7 @@
 ghost use Rattle.std.specs.Prelude.{◌≡◌, ℕ, ◌<◌, Some, None, IsSome, OnOk, vec_len};
 ghost use Rattle.task_machine.specs.Labels.{label_in, Updates};
 
-use exc_groups::Label;
+use exceptions::Label;
 use std::alloc::AllocError;
 
 // Sets the label of the key. Every other key keeps its own.

@@ -11,7 +11,7 @@ ghost use Rattle.task_machine.specs.States.{state_of};
 use crate::task::Task;
 use crate::world::World;
 use cancel_scopes::stacks_are_chains;
-use exc_groups::Label;
+use exceptions::Label;
 
 // A scope or event that was left: its label, and whether it catches a cancellation that leaves it, which an event never does.
 #[derive(Drop)]

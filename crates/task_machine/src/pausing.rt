@@ -1,6 +1,6 @@
 ghost use Rattle.std.specs.Prelude.{◌≡◌, ◌≤◌, ℕ, ◌^◌, List, Some, None, IfOk};
 ghost use Rattle.std.specs.Option.{ForSome};
-ghost use Rattle.exc_groups.specs.Exceptions.{raised};
+ghost use Rattle.exceptions.specs.Exceptions.{raised};
 ghost use Rattle.cancel_scopes.specs.Tree.{IsOpen, outer_of};
 ghost use Rattle.nursery_book.specs.declared.book.NurseryBook.{NurseryBook as Book};
 ghost use Rattle.job_meaning.specs.Log.{Table};
@@ -16,16 +16,16 @@ ghost use Rattle.task_machine.specs.Stops.{Numbers, MovesAs, kernel_in, purpose_
 ghost use Rattle.task_machine.specs.declared.stop.Moved.TheVariants.{Stops};
 ghost use Rattle.task_machine.specs.declared.stop.Stop.TheVariants.{Sleep};
 ghost use Rattle.task_machine.specs.declared.stop.TaskState.TheVariants.{Asleep};
-ghost use Rattle.moments.specs.declared.clock.Clock.{Clock};
-ghost use Rattle.moments.specs.Moments.{tick_of, wakes_at};
+ghost use Rattle.job_meaning.specs.declared.clock.Clock.{Clock};
+ghost use Rattle.job_meaning.specs.Clocks.{tick_of, wakes_at};
 
 use crate::stop::{Moved, Purpose, Stop, TaskState};
 use crate::task::Task;
 use crate::world::World;
-use exc_groups::Exc;
+use exceptions::Exc;
+use input_lines::{Kernel, Request};
+use job_meaning::Clock;
 use job_tree::Name;
-use line_kernels::{Kernel, Request};
-use moments::Clock;
 use std::alloc::AllocError;
 
 impl<'a> Task<'a> {

@@ -1,6 +1,6 @@
 ghost use Rattle.std.specs.Prelude.{◌≡◌, ◌+◌, ◌≤◌, List, [], ◌∷◌, None, OnOk, IfOk};
 ghost use Rattle.std.specs.Option.{option_map};
-ghost use Rattle.exc_groups.specs.Held.{exc_of};
+ghost use Rattle.exceptions.specs.Held.{exc_of};
 ghost use Rattle.job_tree.specs.declared.limits.TheConstants.{MAX_PASSES};
 ghost use Rattle.turn_semantics.specs.Midway.{Place};
 ghost use Rattle.turn_semantics.specs.Steps.{onward, begins_passes, step_pass};
@@ -11,7 +11,7 @@ ghost use Rattle.task_machine.specs.Stops.{Numbers};
 
 use crate::frame::Frame;
 use crate::task::Task;
-use exc_groups::{Exc, Label};
+use exceptions::{Exc, Label};
 use job_tree::{Body, Name};
 use std::alloc::AllocError;
 

@@ -14,11 +14,11 @@ ghost use Rattle.task_machine.specs.Waking.{IsInRangeTaskState};
 use crate::stop::{Moved, Purpose};
 use crate::task::Task;
 use crate::world::World;
-use autojump_clock::TaskId;
 use cancel_scopes::stacks_are_chains;
+use clock::TaskId;
+use input_lines::Kernel;
+use job_meaning::FAR;
 use job_tree::Step;
-use line_kernels::Kernel;
-use moments::FAR;
 use std::alloc::AllocError;
 
 impl<'a> Task<'a> {

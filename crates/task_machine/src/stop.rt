@@ -1,7 +1,7 @@
 use cancel_scopes::ScopeId;
-use exc_groups::Exc;
+use exceptions::Exc;
+use input_lines::{Answer, Kernel, Request};
 use job_tree::Name;
-use line_kernels::{Answer, Kernel, Request};
 use nursery_book::NurseryId;
 
 /// Why a task continues: the argument of `Task::turn`. It must fit the last `Stop` of the task.

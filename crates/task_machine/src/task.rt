@@ -1,6 +1,6 @@
 ghost use Rattle.std.specs.Prelude.{◌≡◌, ℕ, ◌≤◌, ◌++◌, List, [], ◌∷◌, None, IfOk, OnOk, length};
-ghost use Rattle.buffer_parts.specs.Lines.{bytes_of};
-ghost use Rattle.buffer_parts.specs.Part.{buffer_of, range_of};
+ghost use Rattle.input_lines.specs.Lines.{bytes_of};
+ghost use Rattle.input_lines.specs.Part.{buffer_of, range_of};
 ghost use Rattle.job_meaning.specs.declared.limits.TheConstants.{MAX_INPUT};
 ghost use Rattle.job_meaning.specs.Rest.{steps_left};
 ghost use Rattle.task_machine.specs.Fitting.{blocks_of, block_in};
@@ -11,10 +11,10 @@ ghost use Rattle.task_machine.specs.declared.stop.TaskState.TheVariants.{ToBegin
 use crate::entry::{Entry, ScopeFrom};
 use crate::frame::Frame;
 use crate::stop::TaskState;
-use buffer_parts::Part;
 use cancel_scopes::ScopeId;
-use exc_groups::Label;
-use job_grammar::Job;
+use exceptions::Label;
+use input_lines::Part;
+use job_reader::Job;
 use nursery_book::{NurseryId, Place};
 use smallvec::SmallVec;
 use std::alloc::{AllocError, Global};

@@ -1,13 +1,13 @@
 ghost use Rattle.std.specs.Prelude.{◌≡◌, ◌∷◌, List, OnOk, IfOk};
 ghost use Rattle.std.specs.Option.{option_map, option_copied};
 ghost use Rattle.job_tree.specs.Blocks.{handled_of, cleaned_of};
-ghost use Rattle.exc_groups.specs.Held.{exc_of};
+ghost use Rattle.exceptions.specs.Held.{exc_of};
 ghost use Rattle.job_meaning.specs.Rest.{steps_left, in_try};
 ghost use Rattle.job_meaning.specs.Walk.{handler_exc as raised_in_handler};
 ghost use Rattle.job_tree.specs.Tree.{unhandled};
 ghost use Rattle.turn_semantics.specs.Midway.{Place};
 ghost use Rattle.turn_semantics.specs.Steps.{onward, step_try};
-ghost use Rattle.exc_groups.specs.Split.{keep, drop, named};
+ghost use Rattle.exceptions.specs.Split.{keep, drop, named};
 ghost use Rattle.task_machine.specs.Handling.{rest_of, rest_if};
 ghost use Rattle.task_machine.specs.Fitting.{blocks_of};
 ghost use Rattle.task_machine.specs.Frames.{frames_of, unboxed_exc};
@@ -17,7 +17,7 @@ use crate::boxing::{box_exc, unbox_exc};
 use crate::frame::Frame;
 use crate::task::Task;
 use block_exits::handler_exc;
-use exc_groups::{Exc, Match, split};
+use exceptions::{Exc, Match, split};
 use job_tree::{Body, Handler, Name};
 use std::alloc::{AllocError, Global};
 

@@ -1,6 +1,6 @@
 ghost use Rattle.std.specs.Prelude.{◌≡◌, ℕ, ◌<◌, ◌≤◌, ◌^◌, ◌++◌, [], ◌∷◌, List, None, IfOk, OnOk};
 ghost use Rattle.std.specs.Option.{option_map};
-ghost use Rattle.exc_groups.specs.Held.{exc_of};
+ghost use Rattle.exceptions.specs.Held.{exc_of};
 ghost use Rattle.turn_semantics.specs.Bound.{frames_length};
 ghost use Rattle.task_machine.specs.declared.frame.Frame.TheVariants.{Steps};
 ghost use Rattle.task_machine.specs.Fitting.{Fits, waits_of};
@@ -16,10 +16,10 @@ use crate::frame::Frame;
 use crate::stop::{Moved, Stop, Wake};
 use crate::task::Task;
 use crate::world::World;
-use autojump_clock::TaskId;
 use block_exits::{Kind, outcome_after};
 use cancel_scopes::stacks_are_chains;
-use exc_groups::Exc;
+use clock::TaskId;
+use exceptions::Exc;
 use job_tree::Step;
 use std::alloc::AllocError;
 

@@ -22,8 +22,8 @@ use crate::stop::{Moved, Stop, TaskState};
 use crate::task::Task;
 use crate::world::World;
 use cancel_scopes::ScopeId;
+use job_meaning::Clock;
 use job_tree::Name;
-use moments::Clock;
 use std::alloc::AllocError;
 
 impl<'a> Task<'a> {

@@ -1,11 +1,11 @@
 ghost use Rattle.std.specs.Prelude.{◌≡◌, ◌+◌, ◌<◌, ◌≤◌, ◌^◌, ◌++◌, true, None, Some, IfOk, OnOk, length, map};
 ghost use Rattle.std.specs.Option.{ForSome};
-ghost use Rattle.buffer_parts.specs.Lines.{bytes_of};
-ghost use Rattle.buffer_parts.specs.Part.{buffer_of, range_of};
+ghost use Rattle.input_lines.specs.Lines.{bytes_of};
+ghost use Rattle.input_lines.specs.Part.{buffer_of, range_of};
 ghost use Rattle.cancel_scopes.specs.Tree.{IsOpen};
 ghost use Rattle.job_meaning.specs.declared.limits.TheConstants.{MAX_INPUT};
 ghost use Rattle.task_machine.specs.declared.stop.Wake.TheVariants as wakes;
-ghost use Rattle.line_kernels.specs.declared.kernel.Kernel.{Kernel};
+ghost use Rattle.input_lines.specs.declared.kernel.Kernel.{Kernel};
 ghost use Rattle.job_meaning.specs.Asking.{missing, counted};
 ghost use Rattle.task_machine.specs.declared.stop.TaskState.TheVariants.{Asked};
 ghost use Rattle.turn_semantics.specs.Wakes.{has_answer, sees, settles};
@@ -21,10 +21,9 @@ use crate::stop::{Moved, Purpose, Stop, TaskState, Wake};
 use crate::task::Task;
 use crate::world::World;
 use block_exits::Kind;
-use buffer_parts::Line;
 use cancel_scopes::stacks_are_chains;
-use exc_groups::Exc;
-use line_kernels::Answer;
+use exceptions::Exc;
+use input_lines::{Answer, Line};
 use std::alloc::AllocError;
 
 impl<'a> Task<'a> {

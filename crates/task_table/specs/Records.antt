@@ -1,6 +1,6 @@
 -- What clauses state about the records of a run.
 use Rattle.std.specs.Prelude.{ℕ, List, map, All}
-use Rattle.exc_groups.specs.Held.{exc_of}
+use Rattle.exceptions.specs.Held.{exc_of}
 use Rattle.job_meaning.specs.Shown.{Ending, well, by_cancellation, with_exception, Row}
 use Rattle.task_machine.specs.Noted.{entry_of, IsSlice}
 use Rattle.task_table.specs.declared.record.Outcome.{Outcome}

@@ -2,7 +2,7 @@
 use Rattle.std.specs.Prelude.{◌≡◌, ◌<◌, ◌≤◌, ◌==◌, ℕ, Option, Some, None, List, [], ◌∷◌, map, length, All, slice_get, slice_set}
 use Rattle.std.specs.List.{sum_by, count_by}
 use Rattle.std.specs.Option.{option_map}
-use Rattle.exc_groups.specs.Held.{exc_of}
+use Rattle.exceptions.specs.Held.{exc_of}
 use Rattle.job_meaning.specs.Shown.{as_shown, row_of, ending_of}
 use Rattle.interleavings.specs.Rows as interleaving
 use Rattle.task_table.specs.declared.record.Record.{Record}

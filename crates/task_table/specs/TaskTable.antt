@@ -2,8 +2,8 @@
 -- ever started.
 use Rattle.std.specs.Prelude.{◌≡◌, ◌≢◌, ℕ, ◌+◌, ◌<◌, Option, Some, None, List, [], ◌∷◌, ◌++◌, length, slice_get}
 use Rattle.std.specs.Option.{option_map}
-use Rattle.exc_groups.specs.Held.{exc_of}
-use Rattle.exc_groups.specs.declared.exc.Exc as held
+use Rattle.exceptions.specs.Held.{exc_of}
+use Rattle.exceptions.specs.declared.exc.Exc as held
 use Rattle.batch_commit.specs.declared.live.Live.{Live}
 use Rattle.batch_commit.specs.Live.{live_at}
 use Rattle.task_machine.specs.States.{state_of}

@@ -1,5 +1,5 @@
 //! What a report contains for a task.
-use exc_groups::{Exc, Label};
+use exceptions::{Exc, Label};
 use task_machine::Entry;
 
 /// How a task ended.

@@ -1,15 +1,15 @@
 //! The rows of a run's tasks, and their records when all tasks have ended.
 ghost use Rattle.std.specs.Prelude.{◌≡◌, ◌<◌, ◌++◌, ℕ, Some, None, [], List, All, IsSome, IfOk, OnOk, length, map, reverse, slice_get, slice_set, vec_len};
 ghost use Rattle.std.specs.Option.{option_map};
-ghost use Rattle.exc_groups.specs.Held.{exc_of};
+ghost use Rattle.exceptions.specs.Held.{exc_of};
 ghost use Rattle.job_meaning.specs.Shown.{ending_of};
 ghost use Rattle.interleavings.specs.Rows as interleaving;
 ghost use Rattle.task_table.specs.Records.{ending_in};
 ghost use Rattle.task_table.specs.Rows.{AreShown, ChildrenAreApart, ShowRecords, IsRecordOf, IsTakenOut};
 
 use crate::record::{Outcome, Record};
-use autojump_clock::TaskId;
-use exc_groups::{Exc, Label};
+use clock::TaskId;
+use exceptions::{Exc, Label};
 use std::alloc::{AllocError, Global};
 use std::mem;
 use task_machine::{Entry, ScopeFrom, unbox_exc};

@@ -8,10 +8,10 @@ ghost use Rattle.task_table.specs.Rows.{IsNewRow};
 ghost use Rattle.task_table.specs.TaskTable.{running_at, task_count, row_at, gone_of, id_of, parent_of, IsTaskTable, HasRoot, Starts, MayTurn, HasTurn, Ends};
 
 use crate::rows::{Ended, TaskRow};
-use autojump_clock::TaskId;
 use batch_commit::Live;
 use cancel_scopes::ScopeId;
-use exc_groups::Exc;
+use clock::TaskId;
+use exceptions::Exc;
 use nursery_book::{NurseryId, Place};
 use std::alloc::{AllocError, Global};
 use task_machine::{Stop, Task, Wake, World, box_exc};

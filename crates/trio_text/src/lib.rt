@@ -3,7 +3,7 @@
 //! The contract of `program` says what the whole text is: the lines of each step, in order, in the functions of the tasks, and
 //! what comes before and after them. Names that differ in the job differ in the program, and are none of its other names
 //! (`laws.rt`). That these lines mean what the steps mean is tested, not proved (`tests/random/trio_export.py`). The crate uses
-//! `job_grammar` for the job.
+//! `job_reader` for the job.
 #![tactic(auto)]
 
 mod helpers;

@@ -18,7 +18,7 @@ use crate::names::push_name;
 use crate::pieces::begin;
 use crate::place::deeper;
 use crate::statements::push_call;
-use digits::push_number;
+use basics::push_number;
 use job_tree::{Deadline, Name};
 use std::alloc::AllocError;
 

@@ -7,7 +7,7 @@ use crate::names::{push_class, push_handled, push_name};
 use crate::pieces::{begin, push_if, push_line, push_text};
 use crate::place::deeper;
 use crate::words::Words;
-use digits::push_number;
+use basics::push_number;
 use job_tree::{Name, Step, Text};
 use std::alloc::AllocError;
 

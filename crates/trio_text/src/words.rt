@@ -20,7 +20,7 @@ ghost use Rattle.trio_text.specs.Uses.{
 
 use crate::names::is_too_slow;
 use indexmap::IndexSet;
-use job_grammar::Job;
+use job_reader::Job;
 use job_tree::{Body, Handler, Name, Step};
 use std::alloc::{AllocError, Global};
 

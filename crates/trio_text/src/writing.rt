@@ -12,7 +12,7 @@ use crate::steps::push_steps;
 use crate::texts::{HARNESS, HEADER};
 use crate::uses::{Uses, uses_of};
 use crate::words::Words;
-use job_grammar::Job;
+use job_reader::Job;
 use job_tree::Name;
 use std::alloc::{AllocError, Global};
 

@@ -1,10 +1,12 @@
 -- What a table and the froms of the world show alike, where they agree.
 use Rattle.std.proofs.Common.{◌≡◌, ℕ, suc, ◌+◌, Bool, true, false, ◌&&◌, not, Option, Some, None, List, [], ◌∷◌, refl, ap, sym, ◌∙◌, arith}
 use Rattle.std.specs.Str.{bytes_eq}
-use Rattle.exc_groups.specs.Exceptions.{Label, cancelled}
+use Rattle.exceptions.specs.Exceptions.{Label, cancelled}
 use Rattle.cancel_scopes.specs.Sight.{Tick, Level, is_reached, sight, seen, catches}
 use Rattle.job_meaning.specs.Log.{Result, Table, same_label}
-use Rattle.job_meaning.specs.Moments.{Clock, by_ticks, only_at}
+use Rattle.job_meaning.specs.Moments.{only_at}
+use Rattle.job_meaning.specs.declared.clock.Clock.{Clock}
+use Rattle.job_meaning.specs.declared.clock.Clock.TheVariants.{ByTicks as by_ticks}
 use Rattle.job_meaning.specs.Walk.{Levels, Stack, from_for, stack_for, wait_by_sight, sleep_result, pace_result, raised_at, done_at, label_on, label_if, event_on, level_if, home_of}
 use Rattle.job_meaning.specs.Before.{upto, Near}
 use Rattle.job_meaning.proofs.Clips.{upto_most, upto_earlier, seen_near}

@@ -1,11 +1,13 @@
 -- The arms of a turn that make a test, each as one lemma over plain variables: for code that does a step by its own tests.
 use Rattle.std.proofs.Common.{◌≡◌, ℕ, suc, Bool, true, false, Option, Some, None, List, ◌∷◌, refl, ap, subst}
 use Rattle.job_tree.specs.Tree.{sleep, Steps, step, except, Cleaned, unhandled}
-use Rattle.exc_groups.specs.Exceptions.{Exc, cancelled}
-use Rattle.exc_groups.specs.Split.{named, keep, drop}
+use Rattle.exceptions.specs.Exceptions.{Exc, cancelled}
+use Rattle.exceptions.specs.Split.{named, keep, drop}
 use Rattle.cancel_scopes.specs.Sight.{seen}
 use Rattle.job_meaning.specs.Log.{Table}
-use Rattle.job_meaning.specs.Moments.{Clock, by_ticks, by_rounds, Now}
+use Rattle.job_meaning.specs.Moments.{Now}
+use Rattle.job_meaning.specs.declared.clock.Clock.{Clock}
+use Rattle.job_meaning.specs.declared.clock.Clock.TheVariants.{ByTicks as by_ticks, ByRounds as by_rounds}
 use Rattle.job_meaning.specs.Walk.{Here}
 use Rattle.job_meaning.specs.Rest.{Frame, steps_left, in_try, in_handler, asleep}
 use Rattle.turn_semantics.specs.Midway.{Place, stack_at, Midway, Move}

@@ -3,14 +3,16 @@ use Rattle.std.proofs.Common.{◌≡◌, ℕ, zero, suc, ◌+◌, ◌-◌, ◌<�
 use Rattle.std.proofs.lemmas.Bool.Decides.{nat_tests}
 use Rattle.job_tree.specs.Tree.{Step, sleep, checkpoint, forever, pace, find, head, longest, need, raise, cancel, set_event, wait_for, scope, nursery, event, start, repeat, attempt, Steps, stop, step, Handled, unhandled, except, Cleaned, uncleaned, finally}
 use Rattle.job_tree.specs.Starting.{StartsIn, StartsAt}
-use Rattle.buffer_parts.specs.Lines.{Span}
-use Rattle.buffer_parts.specs.Cuts.{cut_of}
-use Rattle.line_kernels.specs.Kernels.{needed_in}
-use Rattle.exc_groups.specs.Exceptions.{Label, Exc, cancelled}
-use Rattle.exc_groups.specs.Split.{named, keep, drop}
+use Rattle.input_lines.specs.Lines.{Span}
+use Rattle.input_lines.specs.Cuts.{cut_of}
+use Rattle.input_lines.specs.Kernels.{needed_in}
+use Rattle.exceptions.specs.Exceptions.{Label, Exc, cancelled}
+use Rattle.exceptions.specs.Split.{named, keep, drop}
 use Rattle.cancel_scopes.specs.Sight.{Level, seen}
 use Rattle.job_meaning.specs.Log.{Log, Member, Result, Table}
-use Rattle.job_meaning.specs.Moments.{Clock, by_ticks, by_rounds, tick_of, a_round_after, Now, only_at, far}
+use Rattle.job_meaning.specs.Moments.{tick_of, a_round_after, Now, only_at, far}
+use Rattle.job_meaning.specs.declared.clock.Clock.{Clock}
+use Rattle.job_meaning.specs.declared.clock.Clock.TheVariants.{ByTicks as by_ticks, ByRounds as by_rounds}
 use Rattle.job_meaning.specs.Walk.{Mode, by_table, Here, walk, walk_step, and_then, then_if, in_sequence, now_of, in_pass, passes, child, label_on, event_on, event_wait, cancel_result, set_result, sign_of, sign_if, home_of, with_sign, here_in, label_here, label_over, Kind, a_scope, left_with, done_at, need_result, raise_result, raised_at, with_own}
 use Rattle.job_meaning.specs.Rest.{Event, starts, starts_over, consecutive, fill, ChildOutcomes, told_members, Frame, steps_left, in_scope, in_event, in_nursery, in_repeat, in_try, in_handler, in_cleanup, path_in, inside, with_children, leaving_log, block_left, wait_result, finish}
 use Rattle.job_meaning.specs.Asking.{one_line, needs, answer_result}

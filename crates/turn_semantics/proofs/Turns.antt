@@ -1,8 +1,9 @@
 -- A whole turn keeps the result of the task, and what its steps promise.
 use Rattle.std.proofs.Common.{◌≡◌, inl, inr, ℕ, zero, suc, ◌+◌, Option, Some, None, List, ◌++◌, length, refl, ap, sym, ◌∙◌, subst, length-append, arith}
-use Rattle.exc_groups.specs.Exceptions.{Label}
+use Rattle.exceptions.specs.Exceptions.{Label}
 use Rattle.job_meaning.specs.Log.{Log, nil, entry, sign, entered, task, followed_by, Result, Table}
-use Rattle.job_meaning.specs.Moments.{Clock, a_round_after, Now}
+use Rattle.job_meaning.specs.Moments.{a_round_after, Now}
+use Rattle.job_meaning.specs.declared.clock.Clock.{Clock}
 use Rattle.job_meaning.specs.Walk.{Here}
 use Rattle.job_meaning.specs.Rest.{Event, ChildOutcomes, fill, Frame, Stopped, to_begin, asking, asleep, waiting_for, giving_up, awaiting, at_end, frames_weight}
 use Rattle.job_meaning.proofs.Finish.{followed_assoc, fill_append}

@@ -1,10 +1,12 @@
 -- When a sleep and a wait for an event end, by what is seen and by the moment in which the event is set.
 use Rattle.std.proofs.Common.{◌≡◌, ◌⊎◌, inl, inr, ℕ, suc, ◌+◌, ◌<◌, ◌≤◌, max, nat_lt, Bool, true, false, Option, Some, None, refl, ap, sym, ◌∙◌, subst, nat_le, arith, if◌then◌else◌, min, List}
 use Rattle.std.proofs.lemmas.Bool.Decides.{nat_tests}
-use Rattle.exc_groups.specs.Exceptions.{Label, cancelled}
+use Rattle.exceptions.specs.Exceptions.{Label, cancelled}
 use Rattle.cancel_scopes.specs.Sight.{Tick, Level, is_reached, sight, seen}
 use Rattle.job_meaning.specs.Log.{Result, Table, entry, nil, waited}
-use Rattle.job_meaning.specs.Moments.{Clock, by_ticks, by_rounds, a_round_after, wakes_at, gives_up_at, only_at}
+use Rattle.job_meaning.specs.Moments.{a_round_after, wakes_at, gives_up_at, only_at}
+use Rattle.job_meaning.specs.declared.clock.Clock.{Clock}
+use Rattle.job_meaning.specs.declared.clock.Clock.TheVariants.{ByTicks as by_ticks, ByRounds as by_rounds}
 use Rattle.job_meaning.specs.Walk.{Stack, wait_by_sight, wait_until, set_moment, wait_by, with_line, event_on, event_wait, sleep_result, pace_result, raised_at, done_at}
 use Rattle.job_meaning.proofs.Clips.{NearEvents, event_near}
 use Rattle.job_meaning.proofs.Causality.{set_near}

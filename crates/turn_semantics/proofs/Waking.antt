@@ -1,10 +1,11 @@
 -- A task that wakes has the same result as when it stopped, and so does its whole turn.
 use Rattle.std.proofs.Common.{◌≡◌, ℕ, zero, suc, ◌+◌, ◌-◌, ◌<◌, ◌≤◌, Bool, true, false, Option, Some, None, List, [], ◌∷◌, length, refl, ap, sym, ◌∙◌, subst, arith}
-use Rattle.buffer_parts.specs.Lines.{Span}
-use Rattle.exc_groups.specs.Exceptions.{Label, Exc, cancelled, by_nursery, parts_of, group_of}
+use Rattle.input_lines.specs.Lines.{Span}
+use Rattle.exceptions.specs.Exceptions.{Label, Exc, cancelled, by_nursery, parts_of, group_of}
 use Rattle.cancel_scopes.specs.Sight.{Level, seen}
 use Rattle.job_meaning.specs.Log.{Log, nil, entry, followed_by, line, waited, Result, Table}
-use Rattle.job_meaning.specs.Moments.{Clock, a_round_after, wakes_at, Now, only_at}
+use Rattle.job_meaning.specs.Moments.{a_round_after, wakes_at, Now, only_at}
+use Rattle.job_meaning.specs.declared.clock.Clock.{Clock}
 use Rattle.job_meaning.specs.Walk.{by_table, Here, event_on, raise_result, raised_at, done_at, pace_ticks, log_of_lines, lines_result, a_nursery, nursery_result, with_exc, excs_of, latest}
 use Rattle.job_meaning.specs.Rest.{fill, ChildOutcomes, told_members, Frame, Stopped, asleep, waiting_for, awaiting, Rest, block_left, finish, finished_from, rest_comes_to, rest_weight, frames_weight, asking_weight, sleep_weight, stop_weight}
 use Rattle.job_meaning.specs.Asking.{Answer, lines, missing, counted, answer_of, Purpose, shows, needs, paces, answer_result}

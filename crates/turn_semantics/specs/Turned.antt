@@ -1,9 +1,11 @@
 -- What a turn promises of a task: its result is the same as before, and what it did, began and left.
 use Rattle.std.specs.Prelude.{◌≡◌, ◌⊎◌, ℕ, suc, ◌+◌, ◌<◌, Bool, false, Option, Some, None, List, [], ◌∷◌, length}
-use Rattle.exc_groups.specs.Exceptions.{Label}
+use Rattle.exceptions.specs.Exceptions.{Label}
 use Rattle.cancel_scopes.specs.Sight.{Tick, earlier, seen}
 use Rattle.job_meaning.specs.Log.{Log, nil, entry, sign, entered, task, Result, Table, same_label, tick_if}
-use Rattle.job_meaning.specs.Moments.{Clock, by_ticks, by_rounds, a_round_after, Now}
+use Rattle.job_meaning.specs.Moments.{a_round_after, Now}
+use Rattle.job_meaning.specs.declared.clock.Clock.{Clock}
+use Rattle.job_meaning.specs.declared.clock.Clock.TheVariants.{ByTicks as by_ticks, ByRounds as by_rounds}
 use Rattle.job_meaning.specs.Walk.{by_table, Here}
 use Rattle.job_meaning.specs.Before.{upto}
 use Rattle.job_tree.specs.Starting.{StartsIn}

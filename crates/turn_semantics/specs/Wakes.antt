@@ -1,10 +1,12 @@
 -- How a task that stopped continues: what wakes it, what it does first, and when it wakes so according to a table.
 use Rattle.std.specs.Prelude.{◌≡◌, ◌⊎◌, ℕ, zero, suc, ◌+◌, ◌<◌, ◌≤◌, Bool, true, false, Option, Some, None, List, [], ◌∷◌, length, nat_le}
-use Rattle.buffer_parts.specs.Lines.{Span}
-use Rattle.exc_groups.specs.Exceptions.{Label, Exc, cancelled, raised, by_nursery, parts_of, group_of}
+use Rattle.input_lines.specs.Lines.{Span}
+use Rattle.exceptions.specs.Exceptions.{Label, Exc, cancelled, raised, by_nursery, parts_of, group_of}
 use Rattle.cancel_scopes.specs.Sight.{Tick, Level, sight, seen}
 use Rattle.job_meaning.specs.Log.{Member, Table, line, waited}
-use Rattle.job_meaning.specs.Moments.{Clock, by_ticks, by_rounds, a_round_after, wakes_at, tick_of, Now}
+use Rattle.job_meaning.specs.Moments.{a_round_after, wakes_at, tick_of, Now}
+use Rattle.job_meaning.specs.declared.clock.Clock.{Clock}
+use Rattle.job_meaning.specs.declared.clock.Clock.TheVariants.{ByTicks as by_ticks, ByRounds as by_rounds}
 use Rattle.job_meaning.specs.Walk.{Stack, Here, event_on, set_moment, a_nursery, pace_ticks, with_exc, excs_of, latest}
 use Rattle.job_meaning.specs.Asking.{Kernel, Answer, lines, missing, counted, answer_of, Purpose, shows, needs, paces}
 use Rattle.job_meaning.specs.Rest.{Event, noted, ChildOutcomes, told_members, Frame, Stopped, to_begin, asking, asleep, waiting_for, giving_up, awaiting, at_end}

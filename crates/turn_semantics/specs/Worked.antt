@@ -1,9 +1,10 @@
 -- Worked turns, each a theorem by computing.
 use Rattle.std.specs.Prelude.{◌≡◌, ℕ, true, false, None, Some, List, [], ◌∷◌, refl, codes, length}
 use Rattle.job_tree.specs.Tree.{Step, sleep, checkpoint, find, raise, cancel, set_event, wait_for, stop}
-use Rattle.exc_groups.specs.Exceptions.{cancelled}
+use Rattle.exceptions.specs.Exceptions.{cancelled}
 use Rattle.job_meaning.specs.Log.{Result, nil, entry, sign, entered, Table, line, waited, scope_left, nursery_left}
-use Rattle.job_meaning.specs.Moments.{by_ticks, only_at}
+use Rattle.job_meaning.specs.Moments.{only_at}
+use Rattle.job_meaning.specs.declared.clock.Clock.TheVariants.{ByTicks as by_ticks}
 use Rattle.job_meaning.specs.Walk.{by_table, walk, and_then, sleep_result, lines_result, need_result, cancel_result, block, with_sign, nursery_result, child, handler_result, cleanup_result, Here, here_in}
 use Rattle.job_meaning.specs.Asking.{lines, missing, counted, shows, needs, paces}
 use Rattle.job_meaning.specs.Asking as ask

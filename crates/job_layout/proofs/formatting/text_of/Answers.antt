@@ -1,5 +1,5 @@
 use Rattle.std.proofs.Common.{◌∙◌}
-use Rattle.job_grammar.specs.Refusals.{first_line}
+use Rattle.job_reader.specs.Refusals.{first_line}
 use Rattle.job_layout.proofs.Printing.{text_written}
 use Rattle.job_layout.proofs.formatting.text_of.Goals as goal
 

@@ -3,7 +3,8 @@ use Rattle.job_tree.specs.Tree.{Tree}
 use Rattle.job_tree.specs.Formats.{in_format}
 use Rattle.job_tree.specs.declared.format.Format.{Format}
 use Rattle.job_tree.specs.declared.format.Format.TheVariants.{One, Two, Three}
-use Rattle.job_meaning.specs.Moments.{by_ticks, clock_of}
+use Rattle.job_meaning.specs.Moments.{clock_of}
+use Rattle.job_meaning.specs.declared.clock.Clock.TheVariants.{ByTicks as by_ticks}
 use Rattle.job_meaning.specs.Meaning.{meaning, meaning_records, meaning_end, meaning_froms}
 use Rattle.job_meaning.proofs.laws.law_upgrade.Goals as goal
 

@@ -1,8 +1,8 @@
 use Rattle.std.proofs.Common.{◌≡◌, ◌++◌, map, drop, nat_lt}
 use Rattle.serde_json.specs.View.{items_of}
 use Rattle.serde_json.specs.Written.{compact_text, items_text}
-use Rattle.story_causes.specs.Seen.{event_in}
-use Rattle.json_report.specs.Values.{list_of}
+use Rattle.story_index.specs.Seen.{event_in}
+use Rattle.json_story.specs.Values.{list_of}
 use Rattle.json_story.specs.Events.{event_json}
 use Rattle.json_story.specs.Known.{clock_in, events_in, froms_in}
 use Rattle.json_story.proofs.event.push_events.Given as goal

@@ -2,7 +2,7 @@ use Rattle.std.proofs.Common.{◌∙◌, map}
 use Rattle.std.specs.Prelude.{codes}
 use Rattle.serde_json.specs.Data.{member, no_members}
 use Rattle.job_story.specs.Held.{span_in}
-use Rattle.json_report.specs.Values.{integer, label_json, list_of}
+use Rattle.json_story.specs.Values.{integer, label_json, list_of}
 use Rattle.json_story.specs.Events.{span_json}
 use Rattle.json_story.proofs.found.push_found.Goals as goal
 

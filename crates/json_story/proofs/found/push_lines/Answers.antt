@@ -3,7 +3,7 @@ use Rattle.std.specs.Prelude.{codes, true}
 use Rattle.json.specs.Print.{quoted}
 use Rattle.serde_json.specs.Written.{compact_text, members_text}
 use Rattle.job_story.specs.Held.{span_in}
-use Rattle.json_report.specs.Values.{list_of}
+use Rattle.json_story.specs.Values.{list_of}
 use Rattle.json_story.specs.Events.{span_json}
 use Rattle.json_story.proofs.found.push_lines.Goals as goal
 

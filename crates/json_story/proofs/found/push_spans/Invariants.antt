@@ -2,7 +2,7 @@ use Rattle.std.proofs.Common.{◌≡◌, ◌++◌, map, drop, nat_lt}
 use Rattle.serde_json.specs.View.{items_of}
 use Rattle.serde_json.specs.Written.{compact_text, items_text}
 use Rattle.job_story.specs.Held.{span_in}
-use Rattle.json_report.specs.Values.{list_of}
+use Rattle.json_story.specs.Values.{list_of}
 use Rattle.json_story.specs.Events.{span_json}
 use Rattle.json_story.proofs.found.push_spans.Given as goal
 

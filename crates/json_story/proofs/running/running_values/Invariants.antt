@@ -1,10 +1,10 @@
 use Rattle.std.proofs.Common.{◌≡◌, ◌++◌, drop}
 use Rattle.std.specs.Prelude.{map}
 use Rattle.serde_json.specs.View.{view}
-use Rattle.story_causes.specs.Seen.{event_in}
+use Rattle.story_index.specs.Seen.{event_in}
 use Rattle.job_story.specs.Limit.{running_in}
 use Rattle.json_story.specs.Running.{task_json}
-use Rattle.story_causes.specs.Tasks.{sorted_in, walked_in}
+use Rattle.story_index.specs.Tasks.{sorted_in, walked_in}
 use Rattle.json_story.proofs.running.running_values.Given as goal
 
 abbrev pub invariant-walked : goal.invariant-walked

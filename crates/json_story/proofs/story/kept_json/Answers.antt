@@ -2,8 +2,8 @@ use Rattle.std.proofs.Common.{◌≡◌, [], ◌∷◌, ◌++◌, ◌∙◌, ap,
 use Rattle.std.specs.Prelude.{codes}
 use Rattle.serde_json.specs.Data.{member, no_members}
 use Rattle.serde_json.specs.Written.{compact_text}
-use Rattle.story_causes.specs.Seen.{event_in}
-use Rattle.json_report.specs.Values.{list_of, text_json}
+use Rattle.story_index.specs.Seen.{event_in}
+use Rattle.json_story.specs.Values.{list_of, text_json}
 use Rattle.json_story.specs.Events.{tick_json}
 use Rattle.json_story.specs.Known.{clock_in, events_in, froms_in}
 use Rattle.json_story.specs.Stories.{kept_json, running_json}

@@ -2,8 +2,8 @@ use Rattle.std.proofs.Common.{◌++◌, [], ◌∷◌, ◌∙◌, ap, map, appen
 use Rattle.std.specs.Prelude.{codes, true}
 use Rattle.json.specs.Print.{quoted}
 use Rattle.serde_json.specs.Written.{compact_text, members_text}
-use Rattle.story_causes.specs.Seen.{event_in}
-use Rattle.json_report.specs.Values.{list_of}
+use Rattle.story_index.specs.Seen.{event_in}
+use Rattle.json_story.specs.Values.{list_of}
 use Rattle.json_story.specs.Events.{event_json}
 use Rattle.json_story.specs.Known.{clock_in, events_in, froms_in}
 use Rattle.json_story.proofs.story.push_events_member.Goals as goal

@@ -2,7 +2,7 @@ use Rattle.std.proofs.Common.{◌≡◌, ◌++◌, map, subst}
 use Rattle.std.specs.Prelude.{OnOk, codes, true}
 use Rattle.serde_json.specs.Data.{Members, member}
 use Rattle.serde_json.specs.Written.{members_text}
-use Rattle.story_causes.specs.Seen.{event_in}
+use Rattle.story_index.specs.Seen.{event_in}
 use Rattle.json_story.proofs.Integers.{running_has_no_float}
 use Rattle.json_story.proofs.story.push_running.Goals as goal
 

@@ -1,5 +1,5 @@
 use Rattle.std.specs.Prelude.{map}
-use Rattle.fault_text.specs.Views.{job_outcome_held, line_held}
+use Rattle.outcomes.specs.Views.{job_outcome_held, line_held}
 use Rattle.json_tables.proofs.Integers.{faults_without_float}
 use Rattle.json_tables.proofs.fault_lines.faults_json.Goals as goal
 

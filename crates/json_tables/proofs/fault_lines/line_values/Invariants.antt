@@ -1,7 +1,7 @@
 use Rattle.std.proofs.Common.{◌≡◌, ◌++◌, map, drop}
 use Rattle.serde_json.specs.View.{view}
-use Rattle.fault_text.specs.Table.{printed}
-use Rattle.fault_text.specs.Views.{line_held}
+use Rattle.outcomes.specs.Table.{printed}
+use Rattle.outcomes.specs.Views.{line_held}
 use Rattle.json_tables.specs.Faults.{fault_line_json}
 use Rattle.json_tables.proofs.fault_lines.line_values.Given as goal
 

@@ -1,6 +1,6 @@
 use Rattle.std.proofs.Common.{◌≡◌, map, take}
 use Rattle.serde_json.specs.View.{view}
-use Rattle.json_report.specs.Values.{label_json}
+use Rattle.json_story.specs.Values.{label_json}
 use Rattle.json_tables.proofs.members.label_values.Given as goal
 
 abbrev pub invariant-labels : goal.invariant-labels

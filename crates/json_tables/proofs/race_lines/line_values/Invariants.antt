@@ -3,7 +3,7 @@ use Rattle.std.specs.Prelude.{map}
 use Rattle.serde_json.specs.View.{view}
 use Rattle.race_text.specs.Lines.{is_shown}
 use Rattle.race_text.specs.Table.{lines_that}
-use Rattle.race_text.specs.Views.{line_held}
+use Rattle.race_text.specs.LineViews.{line_held}
 use Rattle.json_tables.specs.Races.{race_line_json}
 use Rattle.json_tables.proofs.race_lines.line_values.Given as goal
 

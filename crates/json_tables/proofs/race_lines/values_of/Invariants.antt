@@ -1,6 +1,6 @@
 use Rattle.std.proofs.Common.{◌≡◌, map, take}
 use Rattle.serde_json.specs.View.{view}
-use Rattle.race_rows.specs.Views.{difference_held}
+use Rattle.race_text.specs.RowViews.{difference_held}
 use Rattle.json_tables.specs.Races.{difference_json}
 use Rattle.json_tables.proofs.race_lines.values_of.Given as goal
 

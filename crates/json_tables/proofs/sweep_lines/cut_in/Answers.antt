@@ -1,6 +1,6 @@
 use Rattle.std.proofs.Common.{rules}
-use Rattle.fault_text.specs.JobOutcomes.{has_cut}
-use Rattle.sweep_text.proofs.Counted.{counted}
+use Rattle.outcomes.specs.JobOutcomes.{has_cut}
+use Rattle.outcomes.proofs.SweepCounted.{counted}
 use Rattle.json_tables.proofs.sweep_lines.cut_in.Goals as goal
 
 pub returns : goal.returns

@@ -1,6 +1,6 @@
 use Rattle.std.proofs.Common.{◌≡◌, map, take}
 use Rattle.serde_json.specs.View.{view}
-use Rattle.sweep_text.specs.Views.{value_held}
+use Rattle.outcomes.specs.SweepViews.{value_held}
 use Rattle.json_tables.specs.Sweeps.{value_json}
 use Rattle.json_tables.proofs.sweep_lines.line_values.Given as goal
 

@@ -1,6 +1,6 @@
 use Rattle.std.proofs.Common.{rules}
-use Rattle.fault_text.specs.JobOutcomes.{is_refused}
-use Rattle.sweep_text.proofs.Counted.{counted}
+use Rattle.outcomes.specs.JobOutcomes.{is_refused}
+use Rattle.outcomes.proofs.SweepCounted.{counted}
 use Rattle.json_tables.proofs.sweep_lines.refused_in.Goals as goal
 
 pub returns : goal.returns

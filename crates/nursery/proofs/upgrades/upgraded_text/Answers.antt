@@ -1,5 +1,5 @@
 use Rattle.std.proofs.Common.{subst}
-use Rattle.job_grammar.specs.Refusals.{Spells}
+use Rattle.job_reader.specs.Refusals.{Spells}
 use Rattle.nursery.proofs.upgrades.upgraded_text.Goals as goal
 
 pub returns : goal.returns

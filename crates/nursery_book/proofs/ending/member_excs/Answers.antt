@@ -2,7 +2,7 @@ use Rattle.std.proofs.Common.{◌≡◌, ◌++◌, [], ap, sym, ◌∙◌, arith
 use Rattle.std.specs.Prelude.{option_to_list}
 use Rattle.std.specs.Vec.Iter.{into_iter_items}
 use Rattle.std.proofs.lemmas.List.{append-nil, nil_from_length}
-use Rattle.exc_groups.specs.Held.{excs_of}
+use Rattle.exceptions.specs.Held.{excs_of}
 use Rattle.nursery_book.specs.Ends.{exc_held, excs_held}
 use Rattle.nursery_book.proofs.EndLemmas.{held_raised}
 use Rattle.nursery_book.proofs.ending.member_excs.Goals as goal

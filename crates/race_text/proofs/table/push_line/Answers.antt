@@ -1,7 +1,7 @@
 use Rattle.std.proofs.Common.{◌∙◌}
 use Rattle.std.proofs.lemmas.Result.{on_ok_weaker}
-use Rattle.fault_text.proofs.Joined.{extended}
-use Rattle.race_text.specs.Views.{line_held}
+use Rattle.outcomes.proofs.Joined.{extended}
+use Rattle.race_text.specs.LineViews.{line_held}
 use Rattle.race_text.proofs.Joined.{columned, lined}
 use Rattle.race_text.proofs.table.push_line.Goals as goal
 

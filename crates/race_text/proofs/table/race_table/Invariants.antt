@@ -2,7 +2,7 @@ use Rattle.std.proofs.Common.{◌≡◌, ◌++◌, drop}
 use Rattle.std.specs.Prelude.{map}
 use Rattle.race_text.specs.Lines.{is_shown}
 use Rattle.race_text.specs.Table.{lines_that, lines_text}
-use Rattle.race_text.specs.Views.{line_held}
+use Rattle.race_text.specs.LineViews.{line_held}
 use Rattle.race_text.proofs.table.race_table.Given as goal
 
 abbrev pub invariant-lines : goal.invariant-lines

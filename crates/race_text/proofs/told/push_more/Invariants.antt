@@ -1,6 +1,6 @@
 use Rattle.std.proofs.Common.{◌≡◌, ◌++◌, length}
 use Rattle.std.specs.Prelude.{map}
-use Rattle.race_rows.specs.Views.{difference_held}
+use Rattle.race_text.specs.RowViews.{difference_held}
 use Rattle.race_text.specs.Lines.{more_differences}
 use Rattle.race_text.proofs.told.push_more.Given as goal
 

@@ -3,7 +3,7 @@ use Rattle.std.specs.Prelude.{None}
 use Rattle.job_tokens.specs.declared.token.Token.{Token}
 use Rattle.job_tokens.specs.Shapes.{shapes_of}
 use Rattle.job_syntax.specs.Reading.{job_at}
-use Rattle.job_grammar.specs.Refusals.{format_of}
+use Rattle.job_reader.specs.Refusals.{format_of}
 use Rattle.job_hints.specs.ByGrammar.{keyword_in, if_keyword}
 use Rattle.refusal_text.specs.Hinting.{advice_hint, task_advice}
 use Rattle.refusal_text.specs.Scanning.{last_before, shape_at}

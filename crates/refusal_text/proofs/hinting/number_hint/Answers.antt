@@ -1,7 +1,7 @@
 use Rattle.std.proofs.Common.{◌≡◌, List, ap, drop}
 use Rattle.std.specs.Prelude.{None, Some}
 use Rattle.job_tokens.specs.declared.token.Token.{Token}
-use Rattle.job_grammar.specs.Refusals.{format_of}
+use Rattle.job_reader.specs.Refusals.{format_of}
 use Rattle.job_hints.specs.declared.advice.Advice.{Advice}
 use Rattle.job_hints.specs.Numbers.{number_advice}
 use Rattle.refusal_text.specs.declared.hinting.Hint.TheVariants as hint

@@ -1,5 +1,5 @@
 use Rattle.std.proofs.Common.{◌≡◌, ◌+◌, ◌≤◌, drop}
-use Rattle.places.specs.Places.{line_from, column_from}
+use Rattle.basics.specs.Places.{line_from, column_from}
 use Rattle.refusal_text.proofs.position.counted_on.Given as goal
 
 abbrev pub invariant-bytes : goal.invariant-bytes

@@ -1,7 +1,7 @@
 use Rattle.std.proofs.Common.{arith, sym, ◌∙◌}
 use Rattle.job_tree.proofs.Weights.{weight_at}
 use Rattle.job_tree.specs.Blocks.{steps_of, handled_of, cleaned_of}
-use Rattle.job_checks.specs.Uses.{handled_uses, cleaned_uses}
+use Rattle.job_reader.specs.Uses.{handled_uses, cleaned_uses}
 use Rattle.refusal_text.specs.Scopes.{names_around}
 use Rattle.refusal_text.proofs.Read.{after_two}
 use Rattle.refusal_text.proofs.scopes.+search.Goals as goal

@@ -1,7 +1,7 @@
 use Rattle.std.proofs.Common.{◌≡◌, ◌+◌, List, ◌++◌, drop}
 use Rattle.job_tree.specs.Weigh.{weight_of, weight_in, handled_weight, cleaned_weight}
 use Rattle.job_tree.specs.Blocks.{step_of, steps_of, handled_of, cleaned_of}
-use Rattle.job_checks.specs.Uses.{Use, uses_of}
+use Rattle.job_reader.specs.Uses.{Use, uses_of}
 use Rattle.refusal_text.specs.Scopes.{around_stray, names_around}
 use Rattle.refusal_text.proofs.scopes.+search.Given as goal
 

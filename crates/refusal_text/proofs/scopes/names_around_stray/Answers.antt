@@ -1,6 +1,6 @@
 use Rattle.std.specs.Prelude.{[]}
 use Rattle.job_tree.specs.Blocks.{steps_of}
-use Rattle.job_checks.specs.Uses.{uses_of}
+use Rattle.job_reader.specs.Uses.{uses_of}
 use Rattle.refusal_text.specs.Scopes.{names_held}
 use Rattle.refusal_text.proofs.Read.{whole}
 use Rattle.refusal_text.proofs.scopes.names_around_stray.Goals as goal

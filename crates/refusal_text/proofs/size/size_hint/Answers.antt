@@ -3,7 +3,7 @@ use Rattle.std.specs.Prelude.{None}
 use Rattle.job_tokens.specs.declared.token.Token.{Token}
 use Rattle.job_tokens.specs.Shapes.{shapes_of}
 use Rattle.job_syntax.specs.Reading.{job_at}
-use Rattle.job_grammar.specs.Refusals.{format_of}
+use Rattle.job_reader.specs.Refusals.{format_of}
 use Rattle.std.specs.Prelude.{Some}
 use Rattle.refusal_text.specs.declared.hinting.Hint.TheVariants as hint
 use Rattle.refusal_text.specs.Hinting.{size_hint}

@@ -1,9 +1,9 @@
 use Rattle.std.proofs.Common.{◌≡◌, ◌++◌, drop}
 use Rattle.std.specs.Prelude.{map}
-use Rattle.story_causes.specs.Seen.{event_in}
+use Rattle.story_index.specs.Seen.{event_in}
 use Rattle.job_story.specs.Froms.{table_in}
 use Rattle.job_story.specs.Limit.{running_in, running_text}
-use Rattle.story_causes.specs.Tasks.{sorted_in, walked_in}
+use Rattle.story_index.specs.Tasks.{sorted_in, walked_in}
 use Rattle.story_text.proofs.limit.push_running.Given as goal
 
 abbrev pub invariant-walked : goal.invariant-walked

@@ -1,6 +1,6 @@
 use Rattle.std.proofs.Common.{◌≡◌, drop, max}
 use Rattle.std.specs.Prelude.{map}
-use Rattle.story_causes.specs.Seen.{event_in}
+use Rattle.story_index.specs.Seen.{event_in}
 use Rattle.job_story.specs.Sentences.{label_width}
 use Rattle.story_text.proofs.lines.label_width.Given as goal
 

@@ -1,6 +1,6 @@
 use Rattle.std.proofs.Common.{◌≡◌, ◌++◌, drop}
 use Rattle.std.specs.Prelude.{map, None}
-use Rattle.story_causes.specs.Seen.{event_in}
+use Rattle.story_index.specs.Seen.{event_in}
 use Rattle.job_story.specs.Sentences.{lines_text}
 use Rattle.story_text.specs.Told.{clock_in, events_in, froms_in}
 use Rattle.story_text.proofs.lines.push_lines.Given as goal

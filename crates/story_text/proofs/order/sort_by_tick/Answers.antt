@@ -4,8 +4,8 @@ use Rattle.std.proofs.lemmas.Result.{on_ok_weaker}
 use Rattle.std.specs.Borrow.{Bor}
 use Rattle.job_story.specs.Events.{moment_of}
 use Rattle.job_story.specs.declared.event.Event.{Event}
-use Rattle.stable_sort.proofs.Ranks.{viewed_from_sort}
-use Rattle.story_causes.specs.Seen.{event_in}
+use Rattle.basics.proofs.Ranks.{viewed_from_sort}
+use Rattle.story_index.specs.Seen.{event_in}
 use Rattle.story_text.proofs.order.sort_by_tick.Goals as goal
 
 pub returns : goal.returns

@@ -1,6 +1,6 @@
 use Rattle.std.specs.Prelude.{codes, decimal}
-use Rattle.exc_text.specs.Texts.{label_text}
-use Rattle.moments.specs.Moments.{tick_of}
+use Rattle.exceptions.specs.Texts.{label_text}
+use Rattle.job_meaning.specs.Clocks.{tick_of}
 use Rattle.story_text.proofs.Joined.{two_of_four}
 use Rattle.story_text.proofs.sentences.push_waiting.Goals as goal
 

@@ -1,6 +1,7 @@
 use Rattle.std.proofs.Common.{refl, ap, ◌∙◌}
-use Rattle.buffer_parts.specs.Part.{buffer_of, range_of}
-use Rattle.job_meaning.specs.Moments.{Clock, clock_of}
+use Rattle.input_lines.specs.Part.{buffer_of, range_of}
+use Rattle.job_meaning.specs.Moments.{clock_of}
+use Rattle.job_meaning.specs.declared.clock.Clock.{Clock}
 use Rattle.job_runner.specs.Limits.{last_of}
 use Rattle.job_runner.proofs.Opening.{opened}
 use Rattle.job_runner.proofs.runner.Runner.open.Goals as goal

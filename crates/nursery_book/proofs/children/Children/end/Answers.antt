@@ -2,7 +2,7 @@ use Rattle.std.proofs.Common.{◌∙◌, Some, ap, arith}
 use Rattle.std.specs.Prelude.{slice_get, slice_set}
 use Rattle.std.specs.Option.{option_map}
 use Rattle.std.proofs.lemmas.List.{map-set}
-use Rattle.exc_groups.specs.Held.{exc_of}
+use Rattle.exceptions.specs.Held.{exc_of}
 use Rattle.nursery_book.specs.declared.ending.MemberEnd.TheVariants.{Ended}
 use Rattle.nursery_book.specs.Ends.{end_of}
 use Rattle.nursery_book.proofs.EndLemmas.{running_fewer}

@@ -1,5 +1,5 @@
 use Rattle.std.proofs.Common.{ℕ, Bool, List, length, drop, subst}
-use Rattle.job_grammar.proofs.Passing.{comments_by}
+use Rattle.job_reader.proofs.Passing.{comments_by}
 use Rattle.job_tokens.specs.Lexing.{has_comments, Lexes}
 use Rattle.refusal_text.proofs.Told.{cut_back}
 use Rattle.refusal_text.proofs.lexed_text.LexedText.new.Goals as goal

@@ -1,7 +1,7 @@
 use Rattle.std.proofs.Common.{Option, List, [], ◌∷◌, ◌++◌, ap, sym, ◌∙◌, subst, refl, arith}
 use Rattle.std.specs.Option.{option_map, option_copied}
-use Rattle.exc_groups.specs.declared.exc.Exc as held
-use Rattle.exc_groups.specs.Held.{exc_of}
+use Rattle.exceptions.specs.declared.exc.Exc as held
+use Rattle.exceptions.specs.Held.{exc_of}
 use Rattle.job_tree.specs.Blocks.{handled_of, cleaned_of}
 use Rattle.job_meaning.specs.Walk.{outcome_after}
 use Rattle.turn_semantics.specs.Bound.{frames_length}

@@ -1,5 +1,5 @@
 use Rattle.std.proofs.Common.{ℕ, Option, None, ◌∷◌, [], ap, subst, sym}
-use Rattle.exc_groups.specs.Exceptions.{Label}
+use Rattle.exceptions.specs.Exceptions.{Label}
 use Rattle.task_machine.specs.Started.{running_children, StartsOne, StartsAll}
 use Rattle.task_machine.specs.States.{state_of}
 use Rattle.task_machine.specs.Worlds.{label_at}

@@ -1,5 +1,5 @@
 use Rattle.std.proofs.Common.{Some, None, refl, ap, sym, subst}
-use Rattle.exc_groups.specs.declared.exc.Exc.TheVariants.{Cancelled}
+use Rattle.exceptions.specs.declared.exc.Exc.TheVariants.{Cancelled}
 use Rattle.turn_semantics.specs.Wakes.{settles}
 use Rattle.task_machine.specs.declared.stop.Moved.TheVariants.{On}
 use Rattle.task_machine.specs.declared.stop.TaskState.{TaskState}

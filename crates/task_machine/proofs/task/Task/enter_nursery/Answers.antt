@@ -1,8 +1,9 @@
 use Rattle.std.proofs.Common.{◌≡◌, ℕ, Option, Some, List, [], ◌∷◌, ◌++◌, append_assoc, ap, sym, ◌∙◌, subst}
-use Rattle.exc_groups.specs.Exceptions.{Label}
+use Rattle.exceptions.specs.Exceptions.{Label}
 use Rattle.cancel_scopes.specs.Sight.{Tick}
 use Rattle.cancel_scopes.specs.Tree.{outer_of}
-use Rattle.job_meaning.specs.Moments.{Clock, due}
+use Rattle.job_meaning.specs.Moments.{due}
+use Rattle.job_meaning.specs.declared.clock.Clock.{Clock}
 use Rattle.turn_semantics.specs.Midway.{Place}
 use Rattle.turn_semantics.specs.Steps.{froms_after_entry}
 use Rattle.task_machine.specs.Stacked.{AreAt}

@@ -1,7 +1,7 @@
 use Rattle.std.proofs.Common.{◌≡◌, ◌∷◌, [], ◌++◌, ap, ◌∙◌}
 use Rattle.std.specs.Option.{option_map}
-use Rattle.exc_groups.specs.Held.{exc_of}
-use Rattle.buffer_parts.specs.Part.{buffer_of}
+use Rattle.exceptions.specs.Held.{exc_of}
+use Rattle.input_lines.specs.Part.{buffer_of}
 use Rattle.job_meaning.specs.Moments.{tick_of}
 use Rattle.task_machine.specs.declared.task.Task.{Task}
 use Rattle.task_machine.specs.declared.world.World.{World}

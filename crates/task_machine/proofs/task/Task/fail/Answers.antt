@@ -1,6 +1,6 @@
 use Rattle.std.proofs.Common.{ℕ, Option, Some, None, refl, ap, sym, ◌∙◌, subst}
 use Rattle.std.specs.Option.{option_map}
-use Rattle.exc_groups.specs.Held.{exc_of}
+use Rattle.exceptions.specs.Held.{exc_of}
 use Rattle.cancel_scopes.specs.Tree.{outer_of}
 use Rattle.task_machine.specs.Acts.{Signed}
 use Rattle.task_machine.specs.Labels.{home_key}

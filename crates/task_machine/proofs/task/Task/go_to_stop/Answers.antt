@@ -1,6 +1,6 @@
 use Rattle.std.proofs.Common.{refl, ap, suc, subst}
 use Rattle.std.specs.Option.{option_map}
-use Rattle.exc_groups.specs.Held.{exc_of}
+use Rattle.exceptions.specs.Held.{exc_of}
 use Rattle.task_machine.specs.declared.stop.Moved.{Moved}
 use Rattle.task_machine.specs.declared.task.Task.{Task}
 use Rattle.task_machine.specs.declared.world.World.{World}

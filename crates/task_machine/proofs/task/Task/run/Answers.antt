@@ -1,5 +1,5 @@
 use Rattle.std.proofs.Common.{ℕ, ◌-◌, false, Some, None, List, ◌∷◌, ap, ◌∙◌, refl, sym}
-use Rattle.exc_groups.specs.Exceptions.{raised}
+use Rattle.exceptions.specs.Exceptions.{raised}
 use Rattle.job_tree.specs.declared.step.Step.TheVariants as code
 use Rattle.job_meaning.specs.Moments.{tick_of, far}
 use Rattle.job_meaning.specs.Asking as ask

@@ -1,5 +1,5 @@
 use Rattle.std.proofs.Common.{◌≡◌, ℕ, suc, ◌+◌, Some, refl, ap, sym, ◌∙◌, arith}
-use Rattle.exc_groups.specs.declared.exc.Exc.TheVariants.{Cancelled}
+use Rattle.exceptions.specs.declared.exc.Exc.TheVariants.{Cancelled}
 use Rattle.task_machine.specs.declared.stop.TaskState.TheVariants.{GivingUp}
 use Rattle.task_machine.specs.States.{State, state_of}
 use Rattle.task_machine.proofs.Wakens.{wakes_seen, wakes_at_checkpoint}

@@ -2,8 +2,8 @@ use Rattle.std.proofs.Common.{ap, sym, ◌∙◌}
 use Rattle.task_machine.proofs.TaskFits.{ready_awaits, settled_fits}
 use Rattle.std.proofs.Common.{Option, Some, inr, refl, subst}
 use Rattle.std.specs.Option.{option_map}
-use Rattle.exc_groups.specs.Exceptions.{Exc}
-use Rattle.exc_groups.specs.Held.{exc_of}
+use Rattle.exceptions.specs.Exceptions.{Exc}
+use Rattle.exceptions.specs.Held.{exc_of}
 use Rattle.nursery_book.specs.Book.{nursery_at}
 use Rattle.turn_semantics.specs.Wakes.{settles}
 use Rattle.task_machine.specs.declared.stop.TaskState.{TaskState}

@@ -1,6 +1,7 @@
 use Rattle.std.proofs.Common.{ℕ, ap, ◌∙◌}
-use Rattle.buffer_parts.specs.Part.{buffer_of, range_of}
-use Rattle.job_meaning.specs.Moments.{Clock, a_round_after}
+use Rattle.input_lines.specs.Part.{buffer_of, range_of}
+use Rattle.job_meaning.specs.Moments.{a_round_after}
+use Rattle.job_meaning.specs.declared.clock.Clock.{Clock}
 use Rattle.task_machine.specs.declared.stop.TaskState.TheVariants.{ToBegin}
 use Rattle.task_machine.specs.States.{state_of}
 use Rattle.task_machine.proofs.Starts.{starts_one}

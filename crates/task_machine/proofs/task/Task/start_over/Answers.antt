@@ -1,6 +1,6 @@
 use Rattle.std.proofs.Common.{◌≡◌, ℕ, suc, ◌+◌, ◌∷◌, [], ◌++◌, None, refl, ap, ◌∙◌, subst, arith}
-use Rattle.buffer_parts.specs.Part.{buffer_of}
-use Rattle.exc_groups.specs.Exceptions.{Label}
+use Rattle.input_lines.specs.Part.{buffer_of}
+use Rattle.exceptions.specs.Exceptions.{Label}
 use Rattle.job_meaning.specs.Moments.{a_round_after}
 use Rattle.task_machine.specs.declared.world.World.{World}
 use Rattle.task_machine.specs.Started.{StartsOver}

@@ -1,5 +1,5 @@
 use Rattle.std.proofs.Common.{◌≡◌, ◌≤◌, None}
-use Rattle.buffer_parts.specs.Giving.{part_cut, cut_count, cuts_given}
+use Rattle.input_lines.specs.Giving.{part_cut, cut_count, cuts_given}
 use Rattle.nursery_book.specs.Book.{HasNursery}
 use Rattle.task_machine.specs.Started.{StartsOver}
 use Rattle.task_machine.specs.States.{state_of}

@@ -1,6 +1,6 @@
 use Rattle.std.proofs.Common.{None, List, ◌++◌, map, ap, sym, ◌∙◌, subst}
-use Rattle.buffer_parts.specs.Part.{span_of}
-use Rattle.buffer_parts.specs.declared.line.Line.{Line}
+use Rattle.input_lines.specs.Part.{span_of}
+use Rattle.input_lines.specs.declared.line.Line.{Line}
 use Rattle.task_machine.specs.declared.entry.Entry.TheVariants as entries
 use Rattle.turn_semantics.specs.Wakes.{has_answer}
 use Rattle.task_machine.specs.declared.stop.Moved.TheVariants.{On}
@@ -8,8 +8,8 @@ use Rattle.task_machine.specs.Standing.{Wakens}
 use Rattle.task_machine.specs.States.{state_of}
 use Rattle.task_machine.specs.declared.entry.Entry.{Entry}
 use Rattle.job_meaning.specs.Asking as ask
-use Rattle.line_kernels.specs.Answers.{IsAnswer}
-use Rattle.line_kernels.specs.declared.answers.Answer as held
+use Rattle.input_lines.specs.Answers.{IsAnswer}
+use Rattle.input_lines.specs.declared.answers.Answer as held
 use Rattle.task_machine.specs.declared.stop.TaskState.{TaskState}
 use Rattle.task_machine.specs.declared.stop.Wake.TheVariants.{Answer}
 use Rattle.task_machine.specs.Waking.{WakesFrom, answer_in}

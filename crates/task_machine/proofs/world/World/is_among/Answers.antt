@@ -1,5 +1,5 @@
 use Rattle.std.proofs.Common.{rules, ◌≡◌, Option, Some, ap, sym, ◌∙◌}
-use Rattle.exc_groups.specs.Exceptions.{Label}
+use Rattle.exceptions.specs.Exceptions.{Label}
 use Rattle.task_machine.specs.Labels.{has_label_among}
 use Rattle.task_machine.specs.Worlds.{label_at}
 use Rattle.task_machine.proofs.Catching.{among_any}

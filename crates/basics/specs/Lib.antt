@@ -1,0 +1,4 @@
+pub mod Hex
+pub mod Sorting
+pub mod Feed
+pub mod Places

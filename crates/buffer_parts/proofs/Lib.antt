@@ -1,8 +1,0 @@
-pub mod RangeLemmas
-pub mod LineLemmas
-pub mod CutLemmas
-pub mod SearchLemmas
-pub mod JoinLemmas
-pub mod SkipLemmas
-pub mod LongerLemmas
-pub mod NextCut

@@ -1,5 +1,0 @@
-use Rattle.buffer_parts.proofs.JoinLemmas.{length-lines_of}
-use Rattle.buffer_parts.proofs.line.Lines.over.Goals as goal
-
-pub returns-clause-count : goal.returns-clause-count
-returns-clause-count c = length-lines_of c.args.buffer.now c.args.start c.args.end c.requires.ordered c.requires.within

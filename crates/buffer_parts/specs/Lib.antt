@@ -1,4 +1,0 @@
-pub mod Lines
-pub mod Cuts
-pub mod Part
-pub mod Giving

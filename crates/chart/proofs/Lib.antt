@@ -1,0 +1,9 @@
+pub mod Noted
+pub mod Ticking
+pub mod Halvings
+pub mod Lists
+pub mod Counts
+pub mod Fits
+pub mod Narrower
+pub mod Margin
+pub mod PanelByPanel

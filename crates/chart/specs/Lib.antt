@@ -1,0 +1,9 @@
+pub mod Bars
+pub mod HeldBars
+pub mod Indexed
+pub mod Ticks
+pub mod Columns
+pub mod HeldColumns
+pub mod Marks
+pub mod Text
+pub mod HeldText

@@ -1,9 +1,0 @@
-use Rattle.std.specs.Prelude.{map}
-use Rattle.story_causes.specs.Seen.{event_in}
-use Rattle.chart_bars.proofs.Ticking.{ticks_in_order}
-use Rattle.chart_bars.proofs.ticks.all_ticks.Goals as goal
-
-pub returns : goal.returns
-returns c =
-    ticks_in_order c.args.clock (map event_in c.args.events.now) c.args.until _ _ _ c.new-ticks.ensures.items
-    c.in_ok-push_events.ensures c.in_ok-push_tick.ensures

@@ -1,4 +1,0 @@
-pub mod Bars
-pub mod Held
-pub mod Indexed
-pub mod Ticks

@@ -1,5 +1,0 @@
-pub mod Pieces
-pub mod Taken
-pub mod WellFormed
-pub mod Drawn
-pub mod Behind

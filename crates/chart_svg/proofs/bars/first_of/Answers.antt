@@ -1,7 +1,0 @@
-use Rattle.story_causes.specs.Seen.{event_in}
-use Rattle.chart_svg.specs.declared.layout.TheConstants.{MAX_TOLD}
-use Rattle.chart_svg.proofs.Taken.{front_of}
-use Rattle.chart_svg.proofs.bars.first_of.Goals as goal
-
-pub returns : goal.returns
-returns c = front_of event_in MAX_TOLD _ _ _ c.min.ensures c.split_at.ensures.front

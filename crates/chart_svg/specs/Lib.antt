@@ -1,6 +1,0 @@
-pub mod Sheets
-pub mod Rows
-pub mod Arrows
-pub mod Legend
-pub mod Drawing
-pub mod Held

@@ -1,2 +1,0 @@
-pub mod Margin
-pub mod PanelByPanel

@@ -1,4 +1,0 @@
-pub mod TotalLemmas
-pub mod RuleLemmas
-pub mod StepLemmas
-pub mod GatherLemmas

@@ -1,0 +1,4 @@
+pub mod TickLemmas
+pub mod ClockLemmas
+pub mod PlaceLemmas
+pub mod SleepSlotLemmas

@@ -1,0 +1,16 @@
+pub mod Formats
+pub mod Scaled
+pub mod FormatStatuses
+pub mod Answers
+pub mod Serving
+pub mod Explaining
+pub mod Charts
+pub mod Forms
+pub mod Faults
+pub mod Sweeps
+pub mod Races
+pub mod Lints
+pub mod Statuses
+pub mod Outputs
+pub mod Names
+pub mod Mets

@@ -1,0 +1,96 @@
+ghost use Rattle.std.specs.Prelude.{◌≡◌, [], Some, map, IfOk};
+ghost use Rattle.std.specs.Option.{option_copied};
+ghost use Rattle.job_story.specs.Froms.{table_in};
+ghost use Rattle.story_index.specs.Seen.{event_in};
+ghost use Rattle.story_index.specs.Holds.{label_seen};
+ghost use Rattle.story_index.specs.Nearest.{nearest_in};
+ghost use Rattle.job_answers.specs.Stories.{label_or_nothing};
+ghost use Rattle.commands.specs.Explaining.{IsTold};
+
+use exceptions::{Label, push_label};
+use job_answers::{Meaning, StoryVerdict};
+use job_reader::Job;
+use job_story::Event;
+use json_story::story_json;
+use std::alloc::{AllocError, Global};
+use story_index::{nearest_task, task_named};
+
+// Returns the verdict on a story with these events, and its document: of all tasks, or of what concerns the one that is
+// requested.
+#[tactic(auto, using(crate::proofs::Explained::told_of_all))]
+pub(crate) fn story_about(
+    alloc: Global,
+    job: &Job,
+    walked: &[&Event],
+    meaning: &Meaning,
+    until: Option<u64>,
+    task: Option<&[u8]>,
+) -> Result<(StoryVerdict, Vec<u8>), AllocError>
+    ensures { IfOk result (λ r. IsTold meaning.now.clock job.now.name (table_in meaning.now.table) until meaning.now.ending
+        (option_copied task.entry) (map event_in walked.now) r.0 r.1.items) }
+{
+    let Some(text) = task else {
+        let bytes = story_json(
+            alloc,
+            meaning.clock,
+            job.name(),
+            until,
+            walked,
+            &meaning.table,
+            None,
+        )?;
+        return Ok((meaning.ending.verdict(), bytes));
+    };
+    let answer = story_about_task(alloc, job, walked, meaning, until, text)?;
+    Ok(answer)
+}
+
+// Returns the same for what concerns the task whose label has this text. If there is none, the document is empty.
+#[tactic(auto, using(crate::proofs::Explained::told_of_task, crate::proofs::Explained::told_of_none))]
+fn story_about_task(
+    alloc: Global,
+    job: &Job,
+    walked: &[&Event],
+    meaning: &Meaning,
+    until: Option<u64>,
+    text: &[u8],
+) -> Result<(StoryVerdict, Vec<u8>), AllocError>
+    ensures { IfOk result (λ r. IsTold meaning.now.clock job.now.name (table_in meaning.now.table) until meaning.now.ending
+        (Some text.now) (map event_in walked.now) r.0 r.1.items) }
+{
+    let named = task_named(alloc, walked, text)?;
+    let Some(label) = named else {
+        let nearest = nearest_text(alloc, walked, text)?;
+        return Ok((StoryVerdict::NoTask { nearest }, Vec::new(alloc)));
+    };
+    let bytes = story_json(
+        alloc,
+        meaning.clock,
+        job.name(),
+        until,
+        walked,
+        &meaning.table,
+        Some(label),
+    )?;
+    Ok((meaning.ending.verdict(), bytes))
+}
+
+// Returns the text of the label of the task that is nearest to this text.
+fn nearest_text(alloc: Global, walked: &[&Event], text: &[u8]) -> Result<Vec<u8>, AllocError>
+    ensures { IfOk result (λ nearest. nearest.items ≡ label_or_nothing (nearest_in text.now (map event_in walked.now))) }
+{
+    let nearest = nearest_task(alloc, walked, text)?;
+    let label = text_of(alloc, nearest)?;
+    Ok(label)
+}
+
+// Returns the text of a label, or nothing if there is none.
+fn text_of(alloc: Global, label: Option<&Label>) -> Result<Vec<u8>, AllocError>
+    ensures { IfOk result (λ text. text.items ≡ label_or_nothing (label_seen label.entry)) }
+{
+    let mut text = Vec::new(alloc);
+    if let Some(label) = label {
+        push_label(&mut text, label)?;
+    }
+    Ok(text)
+}

@@ -1,0 +1,91 @@
+ghost use Rattle.std.specs.Prelude.{◌≡◌, ◌≤◌, length, IfOk};
+ghost use Rattle.job_meaning.specs.declared.limits.TheConstants.{MAX_INPUT};
+ghost use Rattle.commands.specs.Charts.{verdict_of, IsJobVerdict, IsVerdict};
+
+use crate::chart_form::ChartForm;
+use crate::drawing::chart_of;
+use job_answers::{Ending, Verdict, events_until, meaning_of, refusal};
+use job_reader::{Job, read_job};
+use job_report::{Answer, Question};
+use job_runner::{Gate, Pick, Settings};
+use job_story::tell;
+use std::alloc::{AllocError, Global};
+use std::thread::Threads;
+
+/// Runs a job text over an input, and returns the chart of the job's one-thread meaning: a row for each task, and below it one for
+/// each scope and nursery that it entered, with a column for each tick at which something happens. If the job ends later than the
+/// limit, it is drawn up to the limit, and the verdict is `Limit`. If the job text is refused, the bytes are the refusal. The
+/// verdict and its status are those of `serve` of `job_answers`.
+///
+/// The number of workers, the picker and the gate change no byte. The caller must ensure that the input has at most 16,777,216
+/// bytes (`MAX_INPUT`). The only error is that memory runs out.
+#[tactic(auto, using(crate::proofs::Charted::of_spelt))]
+pub fn chart<R: Threads + Sync, P: Pick, G: Gate + Sync>(
+    rt: &R,
+    alloc: Global,
+    question: &Question<'_>,
+    form: ChartForm,
+    picker: &mut P,
+    gate: &G,
+) -> Result<Answer<Verdict>, AllocError>
+    requires { length question.now.input.now ≤ MAX_INPUT }
+
+    // The bytes are the chart of the meaning, or the refusal that the meaning names.
+    ensures { IfOk result (λ answer. IsVerdict form question.now.text.now question.now.input.now question.now.settings.limit
+        answer.verdict answer.bytes.items) }
+{
+    match read_job(alloc, question.text) {
+        Ok(job) => {
+            let (input, settings) = (question.input, question.settings);
+            let (verdict, bytes) = job_chart(rt, alloc, &job, input, settings, form, picker, gate)?;
+            Ok(Answer { verdict, bytes })
+        }
+        Err(fault) => {
+            let bytes = refusal(alloc, fault)?;
+            Ok(Answer {
+                verdict: Verdict::JobRefused(fault),
+                bytes,
+            })
+        }
+    }
+}
+
+// Returns the verdict on a job that was read, with its chart.
+fn job_chart<R: Threads + Sync, P: Pick, G: Gate + Sync>(
+    rt: &R,
+    alloc: Global,
+    job: &Job,
+    input: &[u8],
+    settings: Settings,
+    form: ChartForm,
+    picker: &mut P,
+    gate: &G,
+) -> Result<(Verdict, Vec<u8>), AllocError>
+    requires { length input.now ≤ MAX_INPUT }
+    ensures { IfOk result (λ r. IsJobVerdict form job.now input.now settings.limit r.0 r.1.items) }
+{
+    let meaning = meaning_of(rt, alloc, job, input, settings, picker, gate)?;
+    let last = meaning.ending.until(settings.limit());
+    let events = tell(alloc, job, input, &meaning.table)?;
+    let walked = events_until(alloc, meaning.clock, events.as_slice(), last)?;
+    let bytes = chart_of(
+        alloc,
+        meaning.clock,
+        form,
+        walked.as_slice(),
+        &meaning.table,
+        last,
+    )?;
+    Ok((verdict_of(meaning.ending), bytes))
+}
+
+// Returns the verdict on a job that ends so.
+fn verdict_of(ending: Ending) -> Verdict
+    ensures { result ≡ verdict_of ending }
+{
+    match ending {
+        Ending::Done => Verdict::Done,
+        Ending::Raised => Verdict::Raised,
+        Ending::Late => Verdict::Limit,
+    }
+}

@@ -1,0 +1,72 @@
+ghost use Rattle.std.specs.Prelude.{◌≡◌, IfOk, map};
+ghost use Rattle.job_story.specs.Froms.{table_in};
+ghost use Rattle.story_index.specs.Seen.{event_in};
+ghost use Rattle.chart.specs.HeldBars.{bar_of};
+ghost use Rattle.svg.specs.Content.{IsDocument};
+ghost use Rattle.svg.specs.Drawing as svg;
+ghost use Rattle.commands.specs.Charts.{chart_of, IsInForm};
+
+use crate::chart_form::ChartForm;
+use chart::{Bar, StoryIndex, chart_text};
+use job_meaning::Clock;
+use job_story::{Event, Froms};
+use std::alloc::{AllocError, Global};
+use story_index::Causes;
+use story_text::in_order;
+use svg::chart_svg;
+
+// Returns the chart of a story with these events in the order of the walk, and this table.
+pub(crate) fn chart_of(
+    alloc: Global,
+    clock: Clock,
+    form: ChartForm,
+    walked: &[&Event],
+    froms: &Froms,
+    until: Option<u64>,
+) -> Result<Vec<u8>, AllocError>
+    ensures chart { IfOk result (λ bytes. bytes.items ≡ chart_of clock form (table_in froms.now) until (map event_in walked.now)) }
+    ensures well { IfOk result (λ bytes. IsInForm form bytes.items) }
+{
+    let index = StoryIndex::of(alloc, walked)?;
+    let bars = index.bars(alloc, clock, froms, until)?;
+    match form {
+        ChartForm::Text { width } => chart_text(
+            alloc,
+            clock,
+            width,
+            until,
+            walked,
+            bars.as_slice(),
+        ),
+        ChartForm::Svg { width } => svg(alloc, clock, width, until, walked, froms, bars.as_slice()),
+    }
+}
+
+// Returns the same chart as an SVG document, with these bars.
+fn svg<'e>(
+    alloc: Global,
+    clock: Clock,
+    width: usize,
+    until: Option<u64>,
+    walked: &[&'e Event],
+    froms: &'e Froms,
+    bars: &[Bar<'_, 'e>],
+) -> Result<Vec<u8>, AllocError>
+    ensures chart { IfOk result (λ bytes. bytes.items
+        ≡ svg.chart_svg clock width (table_in froms.entry.now) until (map event_in walked.now) (map bar_of bars.now)) }
+    ensures well { IfOk result (λ bytes. IsDocument bytes.items) }
+{
+    let sorted = in_order(alloc, walked)?;
+    let causes = Causes::of(alloc, sorted.as_slice(), froms)?;
+    chart_svg(
+        alloc,
+        clock,
+        width,
+        until,
+        walked,
+        sorted.as_slice(),
+        froms,
+        &causes,
+        bars,
+    )
+}

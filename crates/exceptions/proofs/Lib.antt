@@ -1,0 +1,2 @@
+pub mod PartsLemmas
+pub mod PartTexts

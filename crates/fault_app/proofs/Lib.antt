@@ -1,4 +1,0 @@
-pub mod Outcomes
-pub mod Summaries
-pub mod OutcomeLemmas
-pub mod Tabled

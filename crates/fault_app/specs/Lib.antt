@@ -1,3 +1,0 @@
-pub mod JobOutcomes
-pub mod Answers
-pub mod Held

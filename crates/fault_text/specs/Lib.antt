@@ -1,4 +1,0 @@
-pub mod JobOutcomes
-pub mod Table
-pub mod Views
-pub mod Examples

@@ -1,0 +1,15 @@
+pub mod RangeLemmas
+pub mod LineLemmas
+pub mod CutLemmas
+pub mod SearchLemmas
+pub mod JoinLemmas
+pub mod SkipLemmas
+pub mod LongerLemmas
+pub mod NextCut
+pub mod ContainsLemmas
+pub mod CountLemmas
+pub mod FindLemmas
+pub mod LaneLemmas
+pub mod LongestLemmas
+pub mod KernelSearches
+pub mod MatchLemmas

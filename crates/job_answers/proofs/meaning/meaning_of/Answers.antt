@@ -1,0 +1,6 @@
+use Rattle.job_answers.proofs.Tables.{is_of_meaning}
+use Rattle.job_answers.proofs.meaning.meaning_of.Goals as goal
+
+pub returns-clause-table : goal.returns-clause-table
+returns-clause-table g c =
+    is_of_meaning _ _ _ _ c.law_froms_of_meaning.ensures c.in_ok-run.ensures.froms c.in_ok-table.ensures

@@ -1,0 +1,9 @@
+pub mod Reads
+pub mod Verdict
+pub mod Sending
+pub mod Checking
+pub mod Statuses
+pub mod StoryStatuses
+pub mod Stories
+pub mod Tellings
+pub mod Running

@@ -1,0 +1,82 @@
+-- The steps from a run to the text of its story.
+use Rattle.std.specs.Prelude.{◌≡◌, ◌⊎◌, ℕ, ◌≤◌, ◌<◌, Bool, true, nat_le, nat_lt, if◌then◌else◌, Option, Some, None, List, [], IsSome, IsNone}
+use Rattle.std.specs.Global.{Vec}
+use Rattle.job_tree.specs.Tree.{Tree}
+use Rattle.exceptions.specs.Exceptions.{Label}
+use Rattle.job_meaning.specs.Log.{Table}
+use Rattle.job_meaning.specs.Moments.{tick_of}
+use Rattle.job_meaning.specs.declared.clock.Clock.{Clock}
+use Rattle.job_meaning.specs.Meaning.{meaning, meaning_end}
+use Rattle.job_meaning.specs.Shown.{Row}
+use Rattle.job_runner.specs.Runs.{root_is_well, root_end}
+use Rattle.job_story.specs.Events.{Event, in_order}
+use Rattle.job_story.specs.Sentences.{kept_text}
+use Rattle.job_story.specs.Limit.{by_limit, kept_text_to}
+use Rattle.job_story.specs.Focus.{concerned_tasks, of_tasks, task_named}
+use Rattle.story_index.specs.Nearest.{nearest_in}
+use Rattle.job_answers.specs.Stories.{label_or_nothing, IsAbout, IsAboutNone}
+use Rattle.job_answers.specs.declared.story_verdict.StoryVerdict.{StoryVerdict}
+use Rattle.job_answers.specs.declared.story_verdict.StoryVerdict.TheVariants as verdict
+use Rattle.job_answers.specs.declared.meaning.Ending.{Ending}
+use Rattle.job_answers.specs.declared.meaning.Ending.TheVariants.{Done, Raised, Late}
+use Rattle.job_answers.specs.declared.about.About.{About}
+use Rattle.job_answers.specs.declared.about.About.TheVariants.{All, Task, NoTask}
+
+-- how the meaning of a job ends, compared with a limit
+abbrev pub IsEnding : Tree → List ℕ → ℕ → Ending → Type 0
+IsEnding job input limit Done = (meaning_end job input ≤ limit) × IsNone (meaning job input).exc
+IsEnding job input limit Raised = (meaning_end job input ≤ limit) × IsSome (meaning job input).exc
+IsEnding job input limit Late = limit < meaning_end job input
+
+-- how a run with these rows ended, compared with a limit
+abbrev pub ending_by : List Row → ℕ → Ending
+ending_by rows limit = if nat_lt limit (root_end rows) then Late else (if root_is_well rows then Done else Raised)
+
+-- the verdict on the story of such a run
+abbrev pub verdict_of : Ending → StoryVerdict
+verdict_of Done = verdict.Done
+verdict_of Raised = verdict.Raised
+verdict_of Late = verdict.Limit
+
+-- the limit, where the story is cut off at it
+abbrev pub until_of : Ending → ℕ → Option ℕ
+until_of Done limit = None
+until_of Raised limit = None
+until_of Late limit = Some limit
+
+-- whether a moment is not later than the last tick, where there is one
+abbrev pub is_until : Clock → Option ℕ → ℕ → Bool
+is_until clock None m = true
+is_until clock (Some last) m = nat_le (tick_of clock m) last
+
+-- the events up to a tick, or all of them
+abbrev pub events_until : Clock → Option ℕ → List Event → List Event
+events_until clock None es = es
+events_until clock (Some t) es = by_limit clock t es
+
+-- the text of selected events of a story, up to a limit or whole
+abbrev pub text_until : Clock → Option ℕ → Table → List Event → List Event → List Event → List ℕ
+text_until clock None table all sorted walked = kept_text clock table all sorted
+text_until clock (Some limit) table all sorted walked = kept_text_to clock table limit all sorted walked
+
+-- the text of a story, from its events in the order of the walk: of all tasks, or of those that concern one task
+abbrev pub story_told : Clock → Table → Option ℕ → Option Label → List Event → List ℕ
+story_told clock table until None walked = text_until clock until table (in_order walked) (in_order walked) walked
+story_told clock table until (Some task) walked =
+    let all = in_order walked in
+    let tasks = concerned_tasks table all task in
+    text_until clock until table all (of_tasks tasks all) (of_tasks tasks walked)
+
+-- which task was asked for among these events
+abbrev pub IsAsked : Option (List ℕ) → List Event → About → Type 0
+IsAsked asked es All = asked ≡ None
+IsAsked asked es (Task label) = (text : List ℕ) × (asked ≡ Some text) × (task_named text es ≡ Some label.now)
+IsAsked asked es (NoTask nearest) =
+    (text : List ℕ) × (asked ≡ Some text) × (task_named text es ≡ None) × (nearest.items ≡ label_or_nothing (nearest_in text es))
+
+-- a verdict on a story with these events, and its text: of all tasks, or of those that concern one task, or nothing where no task
+-- has the label
+abbrev pub IsTold : Clock → Table → Option ℕ → Ending → Option (List ℕ) → List Event → StoryVerdict → List ℕ → Type 0
+IsTold clock table until ending asked walked given bytes =
+    ((task : Option Label) × IsAbout asked walked task × (given ≡ verdict_of ending) × (bytes ≡ story_told clock table until task walked))
+    ⊎ ((nearest : Vec ℕ) × IsAboutNone asked walked nearest.items × (given ≡ verdict.NoTask nearest) × (bytes ≡ []))

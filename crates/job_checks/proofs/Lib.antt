@@ -1,2 +1,0 @@
-pub mod ByShapes
-pub mod Distinct_names

@@ -1,4 +1,0 @@
-pub mod Given
-pub mod Uses
-pub mod Reserved
-pub mod Searches

@@ -1,0 +1,9 @@
+pub mod ByShapes
+pub mod Distinct_names
+pub mod Passing
+pub mod Arms
+pub mod Canonical
+pub mod Sound_jobs
+pub mod Tails
+pub mod Writing_blocks
+pub mod Lexed

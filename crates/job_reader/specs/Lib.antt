@@ -1,0 +1,11 @@
+pub mod Given
+pub mod Uses
+pub mod Reserved
+pub mod Searches
+pub mod Kinds
+pub mod Refusals
+pub mod Drafts
+pub mod Canon
+pub mod Jobs
+pub mod Heads
+pub mod Printing

@@ -1,0 +1,16 @@
+-- The state of a search for a stray use of a name.
+use Rattle.std.specs.Prelude.{ℕ, List, [], ◌∷◌, Option}
+use Rattle.job_reader.specs.declared.uses.Search.{Search}
+use Rattle.job_reader.specs.declared.uses.Search.TheVariants.{Passed, Stopped}
+use Rattle.job_reader.specs.declared.uses.Around.{Around, Nothing, Inside'}
+use Rattle.job_reader.specs.Uses.{Use, targets_in, stray_in}
+
+-- the names of what encloses a block and is of one kind, the innermost first
+abbrev pub names_around : Around → List (List ℕ)
+names_around Nothing = []
+names_around (Inside' name p outer) = name.now ∷ names_around outer
+
+-- the result of a search if these uses follow
+abbrev pub found_in : Search → List Use → Option ℕ
+found_in (Passed left) us = stray_in us (targets_in left.tokens.now left.roles.now)
+found_in (Stopped at) us = at

@@ -1,0 +1,119 @@
+-- The walk of the passes of a `repeat`, one after another.
+use Rattle.std.proofs.Common.{◌≡◌, ℕ, suc, ◌+◌, ◌-◌, ◌*◌, ◌≤◌, ◌<◌, max, true, false, List, [], refl, ap, sym, subst, ◌∙◌, arith, suc-mul}
+use Rattle.std.specs.Option.{is_some}
+use Rattle.job_tree.specs.Tree.{Steps}
+use Rattle.job_tree.specs.InRange.{AreInRange}
+use Rattle.job_tree.specs.Names.{size_of}
+use Rattle.exceptions.specs.Exceptions.{Label}
+use Rattle.job_meaning.specs.Moments.{Now}
+use Rattle.job_meaning.specs.Walk.{in_pass}
+use Rattle.job_story.specs.Story.{Story, Tale, no_more}
+use Rattle.job_story.specs.Tell.{told_at, and_tale, then_tale, tell_passes, at_place}
+use Rattle.job_story.specs.declared.event.Event as held
+use Rattle.job_story.specs.declared.here.Here.{Here}
+use Rattle.job_story.specs.declared.progress.Progress.{Progress}
+use Rattle.job_story.specs.declared.told.Told.{Told}
+use Rattle.job_story.specs.Heres.{HasRoom, here_of, scene_of, stack_of, table_of, pass}
+use Rattle.job_story.specs.Rooms.{base, reach, span}
+use Rattle.job_story.specs.Tales.{IsTold, Tells, now_in}
+use Rattle.job_story.proofs.Going.{Going, going_start, going_failed, going_next, going_stop}
+use Rattle.job_story.proofs.Steps.{ends_small}
+
+-- before a pass, what was walked ended without an exception and continues with the passes that are
+-- left
+pub record AtPass (h : Here) (now : Now) (count : ℕ) (body : Steps) (i : ℕ) (start : List held.Event) (w : Told)
+    (mid : Progress) : Type 0 where
+  pub going : Going h.task.now start w mid (tell_passes 0 count (pass body h) now) (λ u. tell_passes i (count - i) (pass body h) u)
+  pub in_range : AreInRange body
+  pub room : HasRoom ((count - i) * (1 + size_of body)) h w.end
+
+pub at_first : (h : Here) (m count : ℕ) (body : Steps) (start : Progress) (w : Told) →
+    ((own : List Label) (s : Story) → IsTold w (told_at (record { at = m; own = own }) s)) → AreInRange body →
+    HasRoom (count * (1 + size_of body)) h m → AtPass h (now_in m start) count body 0 start.events.items w start
+at_first h m count body start w told in_range room =
+    let none : count ≡ count - 0 = omega arith in
+    record {
+      going =
+          subst (λ (n : ℕ). Going h.task.now start.events.items w start (tell_passes 0 count (pass body h) (now_in m start))
+          (λ u. tell_passes 0 n (pass body h) u)) none
+          (going_start h.task.now start w m (λ u. tell_passes 0 count (pass body h) u) told);
+      in_range = in_range;
+      room =
+          subst (λ (n : ℕ). HasRoom (n * (1 + size_of body)) h w.end) none
+          (subst (λ (u : ℕ). HasRoom (count * (1 + size_of body)) h u) (sym (told [] no_more).end) room);
+    }
+
+-- the first of the passes that are left
+first_left : (i count : ℕ) (go : ℕ → Now → Tale) → i < count → (u : Now) →
+    tell_passes i (count - i) go u ≡ then_tale (go i u) (λ v. tell_passes (i + 1) (count - (i + 1)) go v)
+first_left i count go lt u =
+    let left : suc (count - (i + 1)) ≡ count - i = omega (arith, lt) in
+    let next : suc i ≡ i + 1 = omega arith in
+    subst (λ (n : ℕ). tell_passes i n go u ≡ then_tale (go i u) (λ v. tell_passes (i + 1) (count - (i + 1)) go v)) left
+    (subst (λ (j : ℕ). then_tale (go i u) (λ v. tell_passes (suc i) (count - (i + 1)) go v)
+    ≡ then_tale (go i u) (λ v. tell_passes j (count - (i + 1)) go v)) next refl)
+
+left_size : (i count size : ℕ) → i < count → (count - i) * size ≡ (count - (i + 1)) * size + size
+left_size i count size lt =
+    let left : count - i ≡ suc (count - (i + 1)) = omega (arith, lt) in
+    ap (λ (n : ℕ). n * size) left ∙ suc-mul (count - (i + 1)) size
+
+pub room_pass : (h : Here) (now : Now) (count : ℕ) (body : Steps) (i : ℕ) (start : List held.Event) (w : Told) (mid : Progress) →
+    AtPass h now count body i start w mid → i < count → HasRoom (size_of body) h w.end
+room_pass h now count body i start w mid at lt =
+    record { room = fits (span h.clock) at.room.room; small = at.room.small }
+  where
+    fits : (n : ℕ) → reach h.clock w.end + (count - i) * (1 + size_of body) * n ≤ 4611686018427387904 →
+        reach h.clock w.end + size_of body * n ≤ 4611686018427387904
+    fits n le =
+        let left : (count - i) * (1 + size_of body) * n ≡ (count - (i + 1)) * (1 + size_of body) * n + (1 + size_of body) * n =
+        ap (λ (z : ℕ). z * n) (left_size i count (1 + size_of body) lt) ∙ omega arith in
+        omega (arith, le, left)
+
+-- a pass that ended with an exception ends the loop, and what was told is the tale of the whole loop
+pub pass_failed : (h : Here) (now : Now) (count : ℕ) (body : Steps) (i : ℕ) (start : List held.Event) (mid over : Progress) (w v x : Told) →
+    AtPass h now count body i start w mid → i < count → (u : ℕ) → u ≡ w.end →
+    Tells h.task.now mid.events.items v over (pass body h i (now_in u mid)) →
+    ((p q : Tale) → IsTold w p → IsTold v q → IsTold x (and_tale p q)) → is_some x.exc ≡ true →
+    Tells h.task.now start x over (tell_passes 0 count (pass body h) now)
+pass_failed h now count body i start mid over w v x at lt u ends tells join failed =
+    going_failed h.task.now start mid over w v x _ _ (λ y. pass body h i y) (λ y. tell_passes (i + 1) (count - (i + 1))
+    (pass body h) y) at.going
+    (first_left i count (pass body h) lt) u ends tells join failed
+
+-- a pass that ended well: the walk is at the next pass, with the tales so far (`w`) and of this pass (`v`) joined
+pub pass_next : (h : Here) (now : Now) (count : ℕ) (body : Steps) (i : ℕ) (start : List held.Event) (mid over : Progress) (w v x : Told) →
+    AtPass h now count body i start w mid → i < count → (u : ℕ) → u ≡ w.end →
+    Tells h.task.now mid.events.items v over (pass body h i (now_in u mid)) →
+    ((p q : Tale) → IsTold w p → IsTold v q → IsTold x (and_tale p q)) → is_some x.exc ≡ false →
+    AtPass h now count body (i + 1) start x over
+pass_next h now count body i start mid over w v x at lt u ends tells join well =
+    let ends_by : max v.end v.open_until ≤ reach h.clock u + size_of body * span h.clock =
+    ends_small v (table_of h) body (at_place (in_pass i (here_of h)) (scene_of h)) (stack_of h) (now_in u mid) at.in_range at.room.small
+    tells.told in
+    let from : u ≡ w.end = ends in
+    let last : x.end ≡ v.end = (join at.going.before _ at.going.tells.told tells.told).end ∙ sym tells.told.end in
+    record {
+      going =
+          going_next h.task.now start mid over w v x _ _ (λ y. pass body h i y) (λ y. tell_passes (i + 1) (count - (i + 1))
+          (pass body h) y) at.going
+          (first_left i count (pass body h) lt) u ends tells join well;
+      in_range = at.in_range;
+      room = record { room = fits (span h.clock) (base h.clock) ends_by from last at.room.room; small = at.room.small };
+    }
+  where
+    fits : (n low : ℕ) → max v.end v.open_until ≤ max u low + size_of body * n → u ≡ w.end → x.end ≡ v.end →
+        max w.end low + (count - i) * (1 + size_of body) * n ≤ 4611686018427387904 →
+        max x.end low + (count - (i + 1)) * (1 + size_of body) * n ≤ 4611686018427387904
+    fits n low ends_by from last le =
+        let left : (count - i) * (1 + size_of body) * n ≡ (count - (i + 1)) * (1 + size_of body) * n + (1 + size_of body) * n =
+        ap (λ (z : ℕ). z * n) (left_size i count (1 + size_of body) lt) ∙ omega arith in
+        omega (arith, le, left, ends_by, from, last)
+
+-- all passes were walked
+pub pass_stop : (h : Here) (now : Now) (count : ℕ) (body : Steps) (i : ℕ) (start : List held.Event) (w : Told) (mid : Progress) →
+    AtPass h now count body i start w mid → count ≤ i → Tells h.task.now start w mid (tell_passes 0 count (pass body h) now)
+pass_stop h now count body i start w mid at le =
+    let none : 0 ≡ count - i = omega (arith, le) in
+    going_stop h.task.now start mid w _ _ at.going
+    (λ u. subst (λ (n : ℕ). tell_passes i n (pass body h) u ≡ told_at u no_more) none refl)

@@ -1,0 +1,431 @@
+ghost use Rattle.std.specs.Prelude.{◌≡◌, ◌+◌, ◌*◌, ◌<◌, ◌≤◌, ◌^◌, ℕ, Option, IfOk, ◌++◌, ◌∷◌, [], List};
+ghost use Rattle.input_lines.specs.Part.{buffer_of, range_of};
+ghost use Rattle.job_tree.specs.Blocks.{step_of, steps_of, handled_of, cleaned_of};
+ghost use Rattle.job_tree.specs.InRange.{AreInRange, IsInRangeStep, IsInRangeOver, IsInRangeHandler, IsInRangeCleanup};
+ghost use Rattle.job_tree.specs.Names.{copies_of, size_of, size_in, handled_size, cleaned_size};
+ghost use Rattle.block_exits.specs.Held.{kind_of};
+ghost use Rattle.job_story.specs.Story.{Tale};
+ghost use Rattle.job_story.specs.Tell.{tell, tell_step, tell_handler, tell_cleanup, tell_block, tell_event, tell_each, tell_passes};
+ghost use Rattle.job_story.specs.declared.event.Event.{Event as HeldEvent};
+ghost use Rattle.job_story.specs.Heres.{HasRoom, input_of, label_in, scene_of, scopes_of, stack_of, table_of, inside, inside_event, started_tale, started_over, started_by, pass};
+ghost use Rattle.job_story.specs.Tales.{Tells, now_in};
+
+use crate::block::Block;
+use crate::here::Here;
+use crate::leaves::tell_leaf;
+use crate::notes::{leave, note, note_end, note_handled, note_replaced, note_start, wait};
+use crate::progress::Progress;
+use crate::stack::{Level, Stack};
+use crate::told::Told;
+use crate::{Happening, Kind};
+use exceptions::{Label, Match, split};
+use input_lines::Part;
+use job_tree::{Body, Handler, Name, Step};
+use std::alloc::AllocError;
+use std::mem;
+
+// Walks the steps of a block, from a moment on, up to the first that ends with an exception.
+#[cycle(telling)]
+fn tell_steps<'a>(
+    steps: &'a [Step],
+    here: Here<'a, '_>,
+    moment: u64,
+    progress: &mut Progress,
+) -> Result<Told, AllocError>
+    requires in_range { AreInRange (steps_of steps.now) }
+    requires room { HasRoom (size_of (steps_of steps.now)) here moment }
+    ensures { IfOk result (λ w. Tells here.entry.task.now progress.old.events.items w progress.new
+        (tell (table_of here.entry) (steps_of steps.now) (scene_of here.entry) (stack_of here.entry) (now_in moment progress.old))) }
+{
+    let mut told = Told::at(here.alloc, moment);
+    'steps: for step in steps {
+        let next = tell_step(step, here, told.end(), progress)?;
+        told = told.join(next)?;
+        if told.has_failed() {
+            return Ok(told);
+        }
+    }
+    Ok(told)
+}
+
+// Walks one step, from a moment on.
+#[cycle(telling)]
+#[inline(never)]
+fn tell_step<'a>(
+    step: &'a Step,
+    here: Here<'a, '_>,
+    moment: u64,
+    progress: &mut Progress,
+) -> Result<Told, AllocError>
+    requires in_range { IsInRangeStep (step_of step.now) }
+    requires room { HasRoom (size_in (step_of step.now)) here moment }
+    ensures { IfOk result (λ w. Tells here.entry.task.now progress.old.events.items w progress.new
+        (tell_step (table_of here.entry) (step_of step.now) (scene_of here.entry) (stack_of here.entry) (now_in moment progress.old))) }
+{
+    match step {
+        Step::Scope {
+            name,
+            deadline,
+            shield,
+            fail,
+            body,
+        } => {
+            let kind = Kind::Scope { fail: *fail };
+            let block = here.block(kind, *name, here.clock.due(*deadline, moment), *shield)?;
+            tell_block(&block, body, here, moment, progress)
+        }
+        Step::Nursery {
+            name,
+            deadline,
+            shield,
+            body,
+        } => {
+            let block = here.block(
+                Kind::Nursery,
+                *name,
+                here.clock.due(*deadline, moment),
+                *shield,
+            )?;
+            tell_block(&block, body, here, moment, progress)
+        }
+        Step::Event { name, body } => tell_event(name, body, here, moment, progress),
+        Step::Start { name, over, body } => tell_start(name, *over, body, here, moment, progress),
+        Step::Repeat { count, body } => tell_passes(*count, body, here, moment, progress),
+        Step::Try {
+            body,
+            handler,
+            cleanup,
+        } => tell_try(body, handler, cleanup, here, moment, progress),
+        _ => tell_leaf(step, here, moment, progress),
+    }
+}
+
+// Walks a scope or nursery that is entered in a moment, from there to where it is left.
+#[cycle(telling)]
+fn tell_block<'a>(
+    block: &Block,
+    body: &'a Body,
+    here: Here<'a, '_>,
+    moment: u64,
+    progress: &mut Progress,
+) -> Result<Told, AllocError>
+    requires known { block.now.from ≡ table_of here block.now.label }
+    requires in_range { AreInRange body.now }
+    requires room { HasRoom (size_of body.now) here moment }
+    ensures { IfOk result (λ w. Tells here.entry.task.now progress.old.events.items w progress.new
+        (tell_block here.entry.clock (table_of here.entry) (kind_of block.now.kind) block.now.label moment block.now.deadline
+        block.now.shield (scopes_of here.entry)
+        (inside (kind_of block.now.kind) block.now.label block.now.shield body.now here.entry (now_in moment progress.old)))) }
+{
+    let label = block.label.copy(here.alloc)?;
+    let what = Happening::Enters {
+        kind: block.kind,
+        label,
+        deadline: block.deadline,
+        shield: block.shield,
+    };
+    note(here, moment, what, &mut progress.events)?;
+    let inner = tell_inside(block, body, here, moment, progress)?;
+    let told = leave(block, inner, here, progress)?;
+    Ok(told)
+}
+
+// Walks the inside of a scope or nursery. A nursery ends after the last of its children.
+#[cycle(telling)]
+#[inline(never)]
+fn tell_inside<'a>(
+    block: &Block,
+    body: &'a Body,
+    here: Here<'a, '_>,
+    moment: u64,
+    progress: &mut Progress,
+) -> Result<Told, AllocError>
+    requires in_range { AreInRange body.now }
+    requires room { HasRoom (size_of body.now) here moment }
+    ensures { IfOk result (λ w. Tells here.entry.task.now progress.old.events.items w progress.new
+        (inside (kind_of block.now.kind) block.now.label block.now.shield body.now here.entry
+        (now_in moment progress.old) block.now.from)) }
+{
+    let level = Level {
+        label: block.label.copy(here.alloc)?,
+        shield: block.shield,
+        from: block.from,
+    };
+    let scopes = Stack::Within(level, here.scopes);
+    let within = Here {
+        scopes: &scopes,
+        ..here
+    };
+    let told = tell_steps(body.as_slice(), within, moment, progress)?;
+    match block.kind {
+        Kind::Scope { .. } => Ok(told),
+        Kind::Nursery => {
+            let told = wait(&block.label, told, here, progress)?;
+            Ok(told)
+        }
+    }
+}
+
+// Walks an event that is entered in a moment. Nothing is told where its block ends.
+#[cycle(telling)]
+#[inline(never)]
+fn tell_event<'a>(
+    name: &Name,
+    body: &'a Body,
+    here: Here<'a, '_>,
+    moment: u64,
+    progress: &mut Progress,
+) -> Result<Told, AllocError>
+    requires in_range { AreInRange body.now }
+    requires room { HasRoom (size_of body.now) here moment }
+    ensures { IfOk result (λ w. Tells here.entry.task.now progress.old.events.items w progress.new
+        (tell_event (table_of here.entry) (label_in name.now here.entry) moment
+        (inside_event (label_in name.now here.entry) body.now here.entry (now_in moment progress.old)))) }
+{
+    let event = here.event(*name)?;
+    let label = event.label.copy(here.alloc)?;
+    let what = Happening::EntersEvent { label };
+    note(here, moment, what, &mut progress.events)?;
+    let events = Stack::Within(event, here.events);
+    let within = Here {
+        events: &events,
+        ..here
+    };
+    let told = tell_steps(body.as_slice(), within, moment, progress)?;
+    Ok(told)
+}
+
+// Walks what a `start` starts: one task on the whole part, or one on each cut of it. They begin a round later.
+#[cycle(telling)]
+#[inline(never)]
+fn tell_start<'a>(
+    name: &Name,
+    over: Option<u64>,
+    body: &'a Body,
+    here: Here<'a, '_>,
+    moment: u64,
+    progress: &mut Progress,
+) -> Result<Told, AllocError>
+    requires some { IsInRangeOver over }
+    requires in_range { AreInRange body.now }
+    requires room { HasRoom (copies_of over * (1 + size_of body.now)) here moment }
+    ensures { IfOk result (λ w. Tells here.entry.task.now progress.old.events.items w progress.new
+        (started_by name.now over body.now here.entry (now_in moment progress.old))) }
+{
+    let begins = here.clock.a_round_after(moment);
+    match over {
+        None => {
+            let label = here.label_here(*name)?;
+            let steps = body.as_slice();
+            tell_child(label, here.part, steps, here, begins, moment, progress)
+        }
+        Some(copies) => tell_children(name, copies, body, here, begins, moment, progress),
+    }
+}
+
+// Walks a task on a part of the input, from the moment in which it begins to its end. The task that started it goes on in the moment
+// of the start, with what it has cancelled itself in it.
+#[cycle(telling)]
+pub(crate) fn tell_child<'a>(
+    label: Label,
+    part: Part<'a>,
+    steps: &'a [Step],
+    here: Here<'a, '_>,
+    begins: u64,
+    moment: u64,
+    progress: &mut Progress,
+) -> Result<Told, AllocError>
+    requires in_range { AreInRange (steps_of steps.now) }
+    requires room { HasRoom (size_of (steps_of steps.now)) here begins }
+    requires same { buffer_of part ≡ input_of here }
+    ensures { IfOk result (λ w. Tells here.entry.task.now progress.old.events.items w progress.new
+        (started_tale label (range_of part.entry) (steps_of steps.now) here.entry begins (now_in moment progress.old))) }
+{
+    let own = mem::replace(&mut progress.cancelled, Vec::new(here.alloc));
+    note_start(&label, part, here, begins, &mut progress.events)?;
+    let inside = Here {
+        part,
+        task: &label,
+        place: &label,
+        ..here
+    };
+    let told = tell_steps(steps, inside, begins, progress)?;
+    note_end(&label, &told, here, &mut progress.events)?;
+    progress.cancelled = own;
+    let told = told.into_child(here.alloc, moment)?;
+    Ok(told)
+}
+
+// Walks the tasks of a `start .. over`, one after the other. They all begin in the same moment.
+#[cycle(telling)]
+fn tell_children<'a>(
+    name: &Name,
+    copies: u64,
+    body: &'a Body,
+    here: Here<'a, '_>,
+    begins: u64,
+    moment: u64,
+    progress: &mut Progress,
+) -> Result<Told, AllocError>
+    requires some { 1 ≤ copies }
+    requires few { copies ≤ 64 }
+    requires in_range { AreInRange body.now }
+    requires room { HasRoom (size_of body.now) here begins }
+    ensures { IfOk result (λ w. Tells here.entry.task.now progress.old.events.items w progress.new
+        (tell_each copies (started_over name.now copies body.now here.entry begins (now_in moment progress.old))
+        (now_in moment progress.old))) }
+{
+    let mut told = Told::at(here.alloc, moment);
+    'copies: for i in 0..copies {
+        let part = here.part.cut(copies as usize, i as usize);
+        let label = label_over(here, *name, i)?;
+        let child = tell_child(label, part, body.as_slice(), here, begins, moment, progress)?;
+        told = told.join(child)?;
+    }
+    Ok(told)
+}
+
+// Walks the passes of a `repeat`, each from where the one before it ended, up to the first that ends with an exception.
+#[cycle(telling)]
+fn tell_passes<'a>(
+    count: u64,
+    body: &'a Body,
+    here: Here<'a, '_>,
+    moment: u64,
+    progress: &mut Progress,
+) -> Result<Told, AllocError>
+    requires in_range { AreInRange body.now }
+    requires room { HasRoom (count * (1 + size_of body.now)) here moment }
+    ensures { IfOk result (λ w. Tells here.entry.task.now progress.old.events.items w progress.new
+        (tell_passes 0 count (pass body.now here.entry) (now_in moment progress.old))) }
+{
+    let mut told = Told::at(here.alloc, moment);
+    'passes: for i in 0..count {
+        let next = tell_pass(i, body, here, told.end(), progress)?;
+        told = told.join(next)?;
+        if told.has_failed() {
+            return Ok(told);
+        }
+    }
+    Ok(told)
+}
+
+// Walks one pass of a `repeat`. What it enters or starts has the number of the pass in its label.
+#[cycle(telling)]
+#[inline(never)]
+fn tell_pass<'a>(
+    number: u64,
+    body: &'a Body,
+    here: Here<'a, '_>,
+    moment: u64,
+    progress: &mut Progress,
+) -> Result<Told, AllocError>
+    requires in_range { AreInRange body.now }
+    requires room { HasRoom (size_of body.now) here moment }
+    ensures { IfOk result (λ w. Tells here.entry.task.now progress.old.events.items w progress.new
+        (pass body.now here.entry number (now_in moment progress.old))) }
+{
+    let place = here.place.copy(here.alloc)?.with_index(number)?;
+    let inside = Here {
+        place: &place,
+        ..here
+    };
+    let told = tell_steps(body.as_slice(), inside, moment, progress)?;
+    Ok(told)
+}
+
+// Walks a `try`: its body, its handler if that matches, and its `finally` block.
+#[cycle(telling)]
+#[inline(never)]
+fn tell_try<'a>(
+    body: &'a Body,
+    handler: &'a Option<Handler>,
+    cleanup: &'a Option<Body>,
+    here: Here<'a, '_>,
+    moment: u64,
+    progress: &mut Progress,
+) -> Result<Told, AllocError>
+    requires in_range { AreInRange body.now }
+    requires in_range_handler { IsInRangeHandler (handled_of handler.now) }
+    requires in_range_cleanup { IsInRangeCleanup (cleaned_of cleanup.now) }
+    requires room { HasRoom (size_of body.now + handled_size (handled_of handler.now) + cleaned_size (cleaned_of cleanup.now)) here moment }
+    ensures { IfOk result (λ w. Tells here.entry.task.now progress.old.events.items w progress.new
+        (tell_cleanup (table_of here.entry) (cleaned_of cleanup.now) (scene_of here.entry) (stack_of here.entry)
+        (tell_handler (table_of here.entry) (handled_of handler.now) (scene_of here.entry) (stack_of here.entry)
+        (tell (table_of here.entry) body.now (scene_of here.entry) (stack_of here.entry) (now_in moment progress.old))))) }
+{
+    let told = tell_steps(body.as_slice(), here, moment, progress)?;
+    let told = tell_handler(handler, told, here, progress)?;
+    let told = tell_cleanup(cleanup, told, here, progress)?;
+    Ok(told)
+}
+
+// Continues with the handler of a `try` whose body was walked, if there is one and its name matches what the body raised.
+#[cycle(telling)]
+#[inline(never)]
+fn tell_handler<'a>(
+    handler: &'a Option<Handler>,
+    told: Told,
+    here: Here<'a, '_>,
+    progress: &mut Progress,
+) -> Result<Told, AllocError>
+    requires in_range { IsInRangeHandler (handled_of handler.now) }
+    requires room { HasRoom (handled_size (handled_of handler.now)) here told.end }
+    ensures { IfOk result (λ w. (start : List HeldEvent) (a : Tale) → Tells here.entry.task.now start told progress.old a
+        → Tells here.entry.task.now start w progress.new
+        (tell_handler (table_of here.entry) (handled_of handler.now) (scene_of here.entry) (stack_of here.entry) a)) }
+{
+    let Some(handler) = handler else {
+        return Ok(told);
+    };
+    let Some(exc) = told.copy_exc(here.alloc)? else {
+        return Ok(told);
+    };
+    let (kept, rest) = split(here.alloc, exc, &Match::Name(handler.name))?;
+    let Some(matched) = kept else {
+        return Ok(told);
+    };
+    note_handled(here, told.end(), matched, &rest, &mut progress.events)?;
+    let next = tell_steps(handler.body.as_slice(), here, told.end(), progress)?;
+    let told = told.join_handler(here.alloc, next, rest)?;
+    Ok(told)
+}
+
+// Continues with the `finally` block of a `try`, if there is one.
+#[cycle(telling)]
+#[inline(never)]
+fn tell_cleanup<'a>(
+    cleanup: &'a Option<Body>,
+    told: Told,
+    here: Here<'a, '_>,
+    progress: &mut Progress,
+) -> Result<Told, AllocError>
+    requires in_range { IsInRangeCleanup (cleaned_of cleanup.now) }
+    requires room { HasRoom (cleaned_size (cleaned_of cleanup.now)) here told.end }
+    ensures { IfOk result (λ w. (start : List HeldEvent) (a : Tale) → Tells here.entry.task.now start told progress.old a
+        → Tells here.entry.task.now start w progress.new
+        (tell_cleanup (table_of here.entry) (cleaned_of cleanup.now) (scene_of here.entry) (stack_of here.entry) a)) }
+{
+    let Some(cleanup) = cleanup else {
+        return Ok(told);
+    };
+    let exc = told.box_exc(here.alloc)?;
+    let what = Happening::Cleans { exc };
+    note(here, told.end(), what, &mut progress.events)?;
+    let inside = Here {
+        in_cleanup: true,
+        ..here
+    };
+    let next = tell_steps(cleanup.as_slice(), inside, told.end(), progress)?;
+    let events = &mut progress.events;
+    note_replaced(here, &told.exc, &next.exc, next.end(), events)?;
+    let told = told.join_cleanup(here.alloc, next)?;
+    Ok(told)
+}
+
+// The label of a task of a `start .. over`, with its index.
+fn label_over(here: Here<'_, '_>, name: Name, index: u64) -> Result<Label, AllocError>
+    ensures { IfOk result (λ label. label ≡ record { name = name; indices = here.entry.place.now.indices ++ index ∷ [] }) }
+{
+    here.label_here(name)?.with_index(index)
+}

@@ -1,4 +1,0 @@
-use Rattle.job_teller.proofs.notes.note.Goals as goal
-
-pub returns : goal.returns
-returns c = record { added = c.in_ok-add.ensures }

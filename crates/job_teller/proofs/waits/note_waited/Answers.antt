@@ -1,5 +1,0 @@
-use Rattle.job_teller.proofs.Adding.{adds_then}
-use Rattle.job_teller.proofs.waits.note_waited.Goals as goal
-
-pub returns : goal.returns
-returns c = adds_then _ _ _ _ _ _ c.in_ok-note_wait.ensures c.in_ok-note_set.ensures

@@ -1,4 +1,0 @@
-pub mod Rooms
-pub mod Stacks
-pub mod Heres
-pub mod Tales

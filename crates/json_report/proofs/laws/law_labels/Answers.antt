@@ -1,5 +1,0 @@
-use Rattle.json_report.proofs.Words.{labels_as_in_a_report}
-use Rattle.json_report.proofs.laws.law_labels.Goals as goal
-
-pub returns : goal.returns
-returns c = labels_as_in_a_report

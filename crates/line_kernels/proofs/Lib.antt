@@ -1,7 +1,0 @@
-pub mod ContainsLemmas
-pub mod CountLemmas
-pub mod FindLemmas
-pub mod LaneLemmas
-pub mod LongestLemmas
-pub mod SearchLemmas
-pub mod MatchLemmas

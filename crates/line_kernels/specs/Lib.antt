@@ -1,3 +1,0 @@
-pub mod Kernels
-pub mod Matches
-pub mod Answers

@@ -1,5 +1,0 @@
-use Rattle.nursery_cli.proofs.CutLemmas.{cut_by_split}
-use Rattle.nursery_cli.proofs.cutting.cut_at.Goals as goal
-
-pub returns : goal.returns
-returns c = cut_by_split c.args.mark.now c.args.text.now c.split_once.result c.requires c.split_once.ensures.cases

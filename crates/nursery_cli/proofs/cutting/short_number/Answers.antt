@@ -1,6 +1,0 @@
-use Rattle.std.proofs.Common.{◌∙◌}
-use Rattle.nursery_cli.proofs.CutLemmas.{digits_by_parse}
-use Rattle.nursery_cli.proofs.cutting.short_number.Goals as goal
-
-pub returns : goal.returns
-returns c = c.ok.ensures.value ∙ digits_by_parse 32 c.args.word.now c.parse.result c.parse.ensures.value.0

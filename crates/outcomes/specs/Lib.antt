@@ -1,0 +1,10 @@
+pub mod Notes
+pub mod Labels
+pub mod JobOutcomes
+pub mod Table
+pub mod Views
+pub mod Examples
+pub mod Groups
+pub mod Sweeps
+pub mod SweepViews
+pub mod SweepExamples

@@ -1,3 +1,0 @@
-pub mod Compared
-pub mod Gathered
-pub mod Tabled

@@ -1,4 +1,0 @@
-pub mod Ran
-pub mod Lines
-pub mod Answers
-pub mod Views

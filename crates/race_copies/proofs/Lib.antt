@@ -1,2 +1,0 @@
-pub mod Indices
-pub mod Nothing

@@ -1,4 +1,0 @@
-pub mod Same
-pub mod Differences
-pub mod Runs
-pub mod Views

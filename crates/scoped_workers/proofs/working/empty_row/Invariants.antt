@@ -1,6 +1,0 @@
-use Rattle.std.proofs.Common.{◌≡◌, replicate}
-use Rattle.scoped_workers.specs.Slots.{empty_slot}
-use Rattle.scoped_workers.proofs.working.empty_row.Given as goal
-
-abbrev pub invariant-loop : goal.invariant-loop
-invariant-loop l = l.row.items ≡ replicate l.counter empty_slot

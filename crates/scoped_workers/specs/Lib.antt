@@ -1,3 +1,0 @@
-pub mod Slots
-pub mod Bench
-pub mod WorkerStates

@@ -1,9 +1,0 @@
-use Rattle.std.proofs.Common.{◌+◌, ◌-◌, vec_len}
-use Rattle.sleepers.specs.Kept.{SameTasks}
-use Rattle.sleepers.proofs.sleep_slots.grow_to_scope.Given as goal
-
-abbrev pub invariant-grow : goal.invariant-grow
-invariant-grow l = SameTasks l.initial.lists.items l.lists.items
-
-abbrev pub decreases-grow : goal.decreases-grow
-decreases-grow l = l.scope + 1 - vec_len l.lists

@@ -1,3 +1,0 @@
-pub mod Sleeping
-pub mod Waiting
-pub mod Kept

@@ -1,5 +1,0 @@
-use Rattle.std.proofs.Common.{◌≡◌, ◌++◌, Some, map}
-use Rattle.slot_work.proofs.slots.answers_in.Given as goal
-
-abbrev pub invariant-loop-slot : goal.invariant-loop-slot
-invariant-loop-slot g l = map Some l.answers.items ++ l.slot-iterator.rest.items ≡ l.fn.slots.items

@@ -1,6 +1,0 @@
-use Rattle.story_app.proofs.Tables.{is_of_meaning}
-use Rattle.story_app.proofs.meaning.meaning_of.Goals as goal
-
-pub returns-clause-table : goal.returns-clause-table
-returns-clause-table g c =
-    is_of_meaning _ _ _ _ c.law_froms_of_meaning.ensures c.in_ok-run.ensures.froms c.in_ok-table.ensures

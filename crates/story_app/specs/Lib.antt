@@ -1,4 +1,0 @@
-pub mod Statuses
-pub mod Stories
-pub mod Tellings
-pub mod Running

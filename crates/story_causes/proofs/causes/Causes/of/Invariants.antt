@@ -1,9 +1,0 @@
-use Rattle.std.specs.Prelude.{map}
-use Rattle.std.proofs.Math.ListN.{take}
-use Rattle.job_story.specs.Froms.{table_in}
-use Rattle.story_causes.specs.Seen.{event_in}
-use Rattle.story_causes.specs.Knows.{Knows}
-use Rattle.story_causes.proofs.causes.Causes.of.Given as goal
-
-abbrev pub invariant-events : goal.invariant-events
-invariant-events l = Knows l.causes (table_in l.froms) (map event_in (take l.event-index l.events))

@@ -1,5 +1,0 @@
-use Rattle.story_focus.proofs.Adds.{all_added}
-use Rattle.story_focus.proofs.tasks.Tasks.add_all.Goals as goal
-
-pub returns : goal.returns
-returns c = λ l. all_added c.args.self.now.all c.append.new.self c.args.others.all.keys c.in_ok-append.ensures.inserts l

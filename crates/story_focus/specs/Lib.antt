@@ -1,3 +1,0 @@
-pub mod Holds
-pub mod Added
-pub mod Nearest

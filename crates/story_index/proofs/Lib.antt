@@ -1,0 +1,13 @@
+pub mod NothingLeft
+pub mod SignLemmas
+pub mod LabelLemmas
+pub mod Dues
+pub mod Firsts
+pub mod Puts
+pub mod Noted
+pub mod Bools
+pub mod Causers
+pub mod RoundLemmas
+pub mod SeenMore
+pub mod Keeps
+pub mod Adds

@@ -1,0 +1,9 @@
+pub mod Leaves
+pub mod Found
+pub mod Knows
+pub mod Seen
+pub mod Lasts
+pub mod Tasks
+pub mod Holds
+pub mod Added
+pub mod Nearest

@@ -1,9 +1,0 @@
-use Rattle.fault_text.specs.Views.{job_outcome_held}
-use Rattle.sweep_app.proofs.Tabled.{are_seen}
-use Rattle.sweep_app.proofs.told.values_of.Goals as goal
-
-pub returns : goal.returns
-returns g c =
-    let swept = c.args.swept.now in
-    are_seen swept.text.now swept.input.now swept.limit swept.number c.args.job.now c.args.values.now (job_outcome_held c.in_ok-first.first)
-    c.in_ok-told.told.items c.in_ok-first.ensures c.in_ok-told.ensures

@@ -1,4 +1,0 @@
-pub mod Nearest
-pub mod Targets
-pub mod Values
-pub mod Answers

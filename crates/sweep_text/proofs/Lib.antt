@@ -1,3 +1,0 @@
-pub mod Backwards
-pub mod Counted
-pub mod Widest

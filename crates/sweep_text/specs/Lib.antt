@@ -1,4 +1,0 @@
-pub mod Groups
-pub mod Sweeps
-pub mod Views
-pub mod Examples

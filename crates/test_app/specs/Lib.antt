@@ -1,3 +1,0 @@
-pub mod Outputs
-pub mod Names
-pub mod Mets

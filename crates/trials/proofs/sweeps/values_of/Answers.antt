@@ -1,0 +1,9 @@
+use Rattle.outcomes.specs.Views.{job_outcome_held}
+use Rattle.trials.proofs.SweepsTabled.{are_seen}
+use Rattle.trials.proofs.sweeps.values_of.Goals as goal
+
+pub returns : goal.returns
+returns g c =
+    let swept = c.args.swept.now in
+    are_seen swept.text.now swept.input.now swept.limit swept.number c.args.job.now c.args.values.now (job_outcome_held c.in_ok-first.first)
+    c.in_ok-told.told.items c.in_ok-first.ensures c.in_ok-told.ensures

@@ -1,0 +1,11 @@
+pub mod JobOutcomes
+pub mod Faults
+pub mod Held
+pub mod Nearest
+pub mod Targets
+pub mod Values
+pub mod Sweeps
+pub mod Ran
+pub mod Lines
+pub mod Races
+pub mod Views

@@ -1,0 +1,54 @@
+-- The result of moving the places of a text by a hair.
+use Rattle.std.specs.Prelude.{◌≡◌, ℕ, ◌*◌, ◌<◌, ◌≤◌, Some, None, List, length, map}
+use Rattle.std.specs.Io.Iter.{u64_saturate}
+use Rattle.job_tree.specs.Tree.{Tree}
+use Rattle.job_tokens.specs.declared.token.Token.{Token}
+use Rattle.job_reader.specs.Refusals.{Spells, HasTokens}
+use Rattle.job_meaning.specs.Moments.{clock_of}
+use Rattle.job_meaning.specs.Meaning.{meaning_end}
+use Rattle.job_edits.specs.Sites.{sites_in}
+use Rattle.job_edits.specs.Copied.{copied_in}
+use Rattle.job_edits.specs.Finer.{finer_for, hair_scope, shifts_of}
+use Rattle.job_edits.specs.declared.finer.Finer.{Finer}
+use Rattle.race_text.specs.Lines.{Line}
+use Rattle.race_text.specs.LineViews.{line_held}
+use Rattle.trials.specs.Ran.{ran_of}
+use Rattle.trials.specs.Lines.{AreLines}
+use Rattle.trials.specs.declared.races.RaceAnswer.{RaceAnswer}
+use Rattle.trials.specs.declared.races.RaceAnswer.TheVariants.{Lines, Limit, NoFinerTicks}
+
+-- the job that the text spells ends by the limit, and these are the lines of all hairs of all places of the text, `hairs` of them
+pub record AreRaceLines (text input : List ℕ) (limit : ℕ) (hairs : ℕ) (lines : List Line) : Type 0 where
+  pub job : Tree
+  pub spells : Spells text job
+  pub in_time : meaning_end job input ≤ limit
+  pub tokens : List Token
+  pub tokens_are : HasTokens text tokens None
+  pub f : Finer
+  pub finer_is : finer_for (clock_of job.format) limit (sites_in tokens) ≡ Some f
+  pub lines_are :
+      AreLines (clock_of job.format) text input (u64_saturate (limit * f.factor)) f (hair_scope tokens) (sites_in tokens) (copied_in tokens)
+      (ran_of limit job input) lines
+  pub hairs_are : hairs ≡ length (shifts_of (sites_in tokens))
+
+-- the job that the text spells does not end by the limit
+pub record IsLate (text input : List ℕ) (limit : ℕ) : Type 0 where
+  pub job : Tree
+  pub spells : Spells text job
+  pub late : limit < meaning_end job input
+
+-- the job that the text spells ends by the limit, and some number of its ticks is too large to be made finer
+pub record HasNoFiner (text input : List ℕ) (limit : ℕ) : Type 0 where
+  pub job : Tree
+  pub spells : Spells text job
+  pub in_time : meaning_end job input ≤ limit
+  pub tokens : List Token
+  pub tokens_are : HasTokens text tokens None
+  pub none : finer_for (clock_of job.format) limit (sites_in tokens) ≡ None
+
+-- ---- the values of the code
+
+abbrev pub IsRaceAnswer : List ℕ → List ℕ → ℕ → RaceAnswer → Type 0
+IsRaceAnswer text input limit (Lines told) = AreRaceLines text input limit told.hairs (map line_held told.lines.items)
+IsRaceAnswer text input limit Limit = IsLate text input limit
+IsRaceAnswer text input limit NoFinerTicks = HasNoFiner text input limit

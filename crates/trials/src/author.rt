@@ -1,0 +1,22 @@
+use job_edits::{CopiedStart, Finer, Site};
+use job_meaning::Clock;
+use job_tree::Name;
+
+/// What all lines have in common.
+#[derive(Clone, Copy)]
+pub(crate) struct Author<'a> {
+    /// The original job text.
+    pub text: &'a [u8],
+    /// How the time of the original job is counted.
+    pub clock: Clock,
+    /// The last tick at which a job may end, in finer ticks.
+    pub limit: u64,
+    /// How much finer the ticks of the changed texts are.
+    pub finer: Finer,
+    /// The name of the scope in which a hair before a `set` is.
+    pub scope: &'a Name,
+    /// The places of the text where time passes or may pass, or where an event is set.
+    pub sites: &'a [Site],
+    /// Each `start` of several copies of a task.
+    pub starts: &'a [CopiedStart],
+}

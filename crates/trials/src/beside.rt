@@ -1,0 +1,90 @@
+ghost use Rattle.std.specs.Prelude.{◌≡◌, ◌≤◌, ℕ, List, length, IfOk};
+ghost use Rattle.job_meaning.specs.declared.limits.TheConstants.{MAX_INPUT};
+ghost use Rattle.race_text.specs.LineViews.{found_held};
+ghost use Rattle.trials.specs.Ran.{refused, ran_of, found_between, IsBeside};
+ghost use Rattle.trials.specs.Views.{ran_by, ran_held, ran_seen};
+
+use job_reader::{Job, JobFault, JobKind, read_job};
+use job_runner::{Forward, NoGate, Run, run_to_end};
+use job_tree::Name;
+use race_text::{Found, Ran, run_differences};
+use std::alloc::{AllocError, Global};
+use std::thread::Threads;
+
+// Returns what the job that a text spells shows by a limit that another run does not show, apart from the exits of scopes with the
+// name `scope`. If this text or the text of the
+// other run is refused, nothing is compared, and the result is that refusal. The job runs in the calling thread.
+pub(crate) fn found_in_text<R: Threads + Sync>(
+    rt: &R,
+    alloc: Global,
+    scope: Name,
+    before: Result<&Ran<'_>, JobFault>,
+    text: &[u8],
+    input: &[u8],
+    limit: u64,
+) -> Result<Found, AllocError>
+    requires { length input.now ≤ MAX_INPUT }
+    ensures { IfOk result (λ found. IsBeside scope text.now input.now limit (ran_held before.entry) (found_held found)) }
+{
+    match read_job(alloc, text) {
+        Ok(job) => {
+            let found = found_in_job(rt, alloc, scope, before, &job, input, limit)?;
+            Ok(found)
+        }
+        Err(fault) => match fault.kind {
+            JobKind::NoMemory => Err(AllocError),
+            _ => Ok(not_tried(before, fault)),
+        },
+    }
+}
+
+// Returns what a job shows by a limit that another run does not show.
+#[tactic(auto, using(crate::proofs::Compared::in_job))]
+fn found_in_job<R: Threads + Sync>(
+    rt: &R,
+    alloc: Global,
+    scope: Name,
+    before: Result<&Ran<'_>, JobFault>,
+    job: &Job,
+    input: &[u8],
+    limit: u64,
+) -> Result<Found, AllocError>
+    requires { length input.now ≤ MAX_INPUT }
+    ensures { IfOk result (λ found. found_held found ≡ found_between scope (ran_held before.entry) (ran_of limit job.now input.now)) }
+{
+    match before {
+        Ok(before) => {
+            let run = run_to_end(rt, alloc, job, input, 1, &mut Forward, &NoGate)?;
+            found_in_run(alloc, scope, before, &run, limit)
+        }
+        Err(fault) => Ok(Found::NotTried(fault)),
+    }
+}
+
+// Returns that nothing was compared, since a text is refused; or since the text of the other run is.
+fn not_tried(before: Result<&Ran<'_>, JobFault>, fault: JobFault) -> Found
+    ensures { (scope : List ℕ) → found_held result ≡ found_between scope (ran_held before.entry) (refused fault) }
+{
+    match before {
+        Ok(_) => Found::NotTried(fault),
+        Err(first) => Found::NotTried(first),
+    }
+}
+
+// Returns what a run shows by a limit that another one does not show.
+pub(crate) fn found_in_run(
+    alloc: Global,
+    scope: Name,
+    before: &Ran<'_>,
+    run: &Run<'_>,
+    limit: u64,
+) -> Result<Found, AllocError>
+    ensures { IfOk result (λ found. found_held found ≡ found_between scope (ran_seen before.now) (ran_by limit run.now)) }
+{
+    let after = Ran {
+        records: run.records(),
+        in_time: run.end() <= limit,
+    };
+    let tasks = run_differences(alloc, scope, before, &after)?;
+    Ok(Found::Differs(tasks))
+}

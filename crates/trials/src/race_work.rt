@@ -1,0 +1,181 @@
+ghost use Rattle.std.specs.Prelude.{◌≡◌, ◌<◌, ◌≤◌, true, ◌∷◌, ◌++◌, length, IfOk, OnOk, map};
+ghost use Rattle.job_meaning.specs.declared.limits.TheConstants.{MAX_INPUT};
+ghost use Rattle.job_runner.specs.Runs.{rows_of};
+ghost use Rattle.outcomes.specs.JobOutcomes.{walked_events};
+ghost use Rattle.job_edits.specs.Finer.{shifts_of};
+ghost use Rattle.workers.specs.Answers.{AreAnswers};
+ghost use Rattle.race_text.specs.Lines as told;
+ghost use Rattle.race_text.specs.LineViews.{found_held, line_held};
+ghost use Rattle.trials.specs.Lines.{copies_lines};
+ghost use Rattle.trials.specs.Ran.{ran};
+ghost use Rattle.trials.specs.Views.{IsMovedBy, AreLinesOf, AreLinesBeside, AreLinesFor, AreLinesOfRefused, ran_by, ran_held, ran_seen};
+
+use crate::author::Author;
+use crate::beside::found_in_run;
+use crate::copies::push_copies;
+use crate::moves::Moves;
+use crate::summary_of;
+use job_answers::events_until;
+use job_edits::{changed_text, finer_changes, shifts};
+use job_reader::{Job, JobFault, JobKind, read_job};
+use job_runner::{Forward, Gate, NoGate, Run, run_to_end};
+use race_text::{Found, Line, Ran};
+use std::alloc::{AllocError, Global};
+use std::thread::Threads;
+use workers::answers_for;
+
+// Returns all lines of a text, given its own run, which ended by the limit.
+#[tactic(auto, using(crate::proofs::Gathered::for_job, crate::proofs::Gathered::for_refused))]
+pub(crate) fn lines_for<R: Threads + Sync, G: Gate + Sync>(
+    rt: &R,
+    alloc: Global,
+    author: &Author<'_>,
+    input: &[u8],
+    own: &Run<'_>,
+    workers: usize,
+    gate: &G,
+) -> Result<Vec<Line>, AllocError>
+    requires input { length input.now ≤ MAX_INPUT }
+    requires ticks { 0 < author.now.finer.factor }
+    requires some_workers { 1 ≤ workers }
+    ensures { IfOk result (λ lines. AreLinesOf author.now input.now (ran true (rows_of own.now)) (map line_held lines.items)) }
+{
+    let changes = finer_changes(alloc, author.clock, author.finer, author.sites)?;
+    let text = changed_text(alloc, author.text, changes.as_slice())?;
+    let first = Ran {
+        records: own.records(),
+        in_time: true,
+    };
+    match read_job(alloc, text.as_slice()) {
+        Ok(job) => {
+            let lines = lines_of_job(rt, alloc, author, input, &first, &job, workers, gate)?;
+            Ok(lines)
+        }
+        Err(fault) => match fault.kind {
+            JobKind::NoMemory => Err(AllocError),
+            _ => lines_of_refused(rt, alloc, author, input, fault, workers, gate),
+        },
+    }
+}
+
+// Returns all lines of a text whose text in finer ticks is refused.
+fn lines_of_refused<R: Threads + Sync, G: Gate + Sync>(
+    rt: &R,
+    alloc: Global,
+    author: &Author<'_>,
+    input: &[u8],
+    fault: JobFault,
+    workers: usize,
+    gate: &G,
+) -> Result<Vec<Line>, AllocError>
+    requires input { length input.now ≤ MAX_INPUT }
+    requires some_workers { 1 ≤ workers }
+    ensures { IfOk result (λ lines. AreLinesOfRefused author.now input.now fault (map line_held lines.items)) }
+{
+    let moves = moves_for(rt, alloc, author, input, Err(fault), workers, gate)?;
+    after_first(alloc, Found::NotTried(fault), moves)
+}
+
+// Returns all lines of a text whose text in finer ticks spells this job.
+fn lines_of_job<R: Threads + Sync, G: Gate + Sync>(
+    rt: &R,
+    alloc: Global,
+    author: &Author<'_>,
+    input: &[u8],
+    first: &Ran<'_>,
+    job: &Job,
+    workers: usize,
+    gate: &G,
+) -> Result<Vec<Line>, AllocError>
+    requires input { length input.now ≤ MAX_INPUT }
+    requires ticks { 0 < author.now.finer.factor }
+    requires some_workers { 1 ≤ workers }
+    ensures { IfOk result (λ lines. AreLinesFor author.now input.now (ran_seen first.now) job.now (map line_held lines.items)) }
+{
+    let run = run_to_end(rt, alloc, job, input, 1, &mut Forward, &NoGate)?;
+    let mut lines = lines_of_run(rt, alloc, author, input, first, &run, workers, gate)?;
+    push_copies_of(rt, alloc, &mut lines, author, input, job)?;
+    Ok(lines)
+}
+
+// Returns the line of the text in finer ticks, given its run, and those of all hairs.
+fn lines_of_run<R: Threads + Sync, G: Gate + Sync>(
+    rt: &R,
+    alloc: Global,
+    author: &Author<'_>,
+    input: &[u8],
+    first: &Ran<'_>,
+    run: &Run<'_>,
+    workers: usize,
+    gate: &G,
+) -> Result<Vec<Line>, AllocError>
+    requires input { length input.now ≤ MAX_INPUT }
+    requires some_workers { 1 ≤ workers }
+    ensures { IfOk result (λ lines. AreLinesBeside author.now input.now (ran_seen first.now) (ran_by author.now.limit run.now)
+        (map line_held lines.items)) }
+{
+    let before = Ran {
+        records: run.records(),
+        in_time: run.end() <= author.limit,
+    };
+    let found = found_in_run(alloc, *author.scope, first, run, author.limit)?;
+    let moves = moves_for(rt, alloc, author, input, Ok(&before), workers, gate)?;
+    after_first(alloc, found, moves)
+}
+
+// Returns the lines of all hairs. At most `workers` threads run them.
+fn moves_for<R: Threads + Sync, G: Gate + Sync>(
+    rt: &R,
+    alloc: Global,
+    author: &Author<'_>,
+    input: &[u8],
+    before: Result<&Ran<'_>, JobFault>,
+    workers: usize,
+    gate: &G,
+) -> Result<Vec<Line>, AllocError>
+    requires input { length input.now ≤ MAX_INPUT }
+    requires some_workers { 1 ≤ workers }
+    ensures { IfOk result (λ lines. AreAnswers (IsMovedBy author.now input.now (ran_held before.entry)) (shifts_of author.now.sites.now)
+        (map line_held lines.items)) }
+{
+    let shifts = shifts(alloc, author.sites)?;
+    let moves = Moves {
+        author: *author,
+        input,
+        before,
+    };
+    answers_for(rt, alloc, &moves, shifts.as_slice(), workers, gate)
+}
+
+// Returns the line of the text in finer ticks, followed by these lines.
+fn after_first(alloc: Global, found: Found, moves: Vec<Line>) -> Result<Vec<Line>, AllocError>
+    ensures { IfOk result (λ lines. map line_held lines.items ≡ told.finer (found_held found) ∷ map line_held moves.items) }
+{
+    let mut lines = Vec::new(alloc);
+    lines.push(Line::Finer(found))?;
+    let mut moves = moves;
+    lines.append(&mut moves)?;
+    Ok(lines)
+}
+
+// Appends a line for each start of the text whose copies meet in the story of this job, which the text in finer ticks spells.
+fn push_copies_of<R: Threads + Sync>(
+    rt: &R,
+    alloc: Global,
+    lines: &mut Vec<Line>,
+    author: &Author<'_>,
+    input: &[u8],
+    job: &Job,
+) -> Result<(), AllocError>
+    requires input { length input.now ≤ MAX_INPUT }
+    requires ticks { 0 < author.now.finer.factor }
+    ensures { OnOk result (map line_held lines.new.items ≡ map line_held lines.old.items ++ copies_lines author.now.clock
+        author.now.text.now author.now.limit author.now.finer (walked_events job.now input.now) author.now.starts.now) }
+{
+    if author.starts.is_empty() {
+        return Ok(());
+    }
+    let summary = summary_of(rt, alloc, job, input)?;
+    let walked = events_until(alloc, summary.clock, summary.events.as_slice(), None)?;
+    push_copies(alloc, lines, author, walked.as_slice())
+}

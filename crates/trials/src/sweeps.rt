@@ -1,0 +1,117 @@
+ghost use Rattle.std.specs.Prelude.{◌≡◌, ◌≤◌, length, IfOk, IfErr};
+ghost use Rattle.job_meaning.specs.declared.limits.TheConstants.{MAX_INPUT};
+ghost use Rattle.job_reader.specs.Refusals.{Spells, IsFair};
+ghost use Rattle.trials.specs.Sweeps.{AreValuesOf, IsSweepAnswer};
+
+use crate::missing::Missing;
+use crate::number::{Found, number_for};
+use crate::outcome_of_job;
+use crate::values::Swept;
+use job_edits::Target;
+use job_reader::{Job, JobFault, read_job, spelled_tokens};
+use job_runner::{Gate, Settings};
+use outcomes::{JobOutcome, Value};
+use std::alloc::{AllocError, Global};
+use std::thread::Threads;
+use workers::answers_for;
+
+/// The outcome of a job with its own value, and with each value of one of its numbers.
+#[derive(Drop)]
+pub struct SweepValues {
+    /// The outcome of the job with its own value.
+    pub first: JobOutcome,
+    /// The outcome of the job with each value, in the order of the values.
+    pub values: Vec<Value>,
+}
+
+/// The result of a sweep over a number of a job text.
+#[derive(Drop)]
+pub enum SweepAnswer {
+    /// The outcome of the job for each value.
+    Values(SweepValues),
+    /// The text does not have the number that is meant.
+    NoTarget(Missing),
+}
+
+/// Returns the outcome of the job that a text spells over an input, with its own value and with each of these values of one of its
+/// numbers, in their order; or why the text does not have the number that is meant. A value that the text cannot have there counts
+/// as refused. If the text is refused, the error is the refusal, as `read_job` returns it. If memory runs out, the error has the
+/// kind `NoMemory`. The caller must ensure that the input has at most 16,777,216 bytes.
+///
+/// The number of workers in `settings` is the number of threads that run the values. The gate is called before and after each
+/// value, with the place of the value among them, by the thread that runs it. Neither changes a result.
+pub fn sweep_values<R: Threads + Sync, G: Gate + Sync>(
+    rt: &R,
+    alloc: Global,
+    job_text: &[u8],
+    input: &[u8],
+    settings: Settings,
+    target: Target,
+    values: &[u64],
+    gate: &G,
+) -> Result<SweepAnswer, JobFault>
+    requires { length input.now ≤ MAX_INPUT }
+    ensures values { IfOk result (IsSweepAnswer job_text.now input.now settings.limit target values.now) }
+    ensures refused { IfErr result (IsFair job_text.now) }
+{
+    let job = read_job(alloc, job_text)?;
+    let answer = answer_for_job(
+        rt, alloc, job_text, &job, input, settings, target, values, gate,
+    )?;
+    Ok(answer)
+}
+
+// Returns the same for a text that spells a job.
+#[tactic(auto, using(crate::proofs::SweepsTabled::are_values, crate::proofs::SweepsTabled::is_without_target))]
+fn answer_for_job<R: Threads + Sync, G: Gate + Sync>(
+    rt: &R,
+    alloc: Global,
+    job_text: &[u8],
+    job: &Job,
+    input: &[u8],
+    settings: Settings,
+    target: Target,
+    values: &[u64],
+    gate: &G,
+) -> Result<SweepAnswer, AllocError>
+    requires input { length input.now ≤ MAX_INPUT }
+    requires spells { Spells job_text.now job.now }
+    ensures { IfOk result (IsSweepAnswer job_text.now input.now settings.limit target values.now) }
+{
+    let tokens = spelled_tokens(alloc, job_text, job)?;
+    match number_for(alloc, job_text, tokens.as_slice(), target)? {
+        Found::Number(number) => {
+            let swept = Swept {
+                text: job_text,
+                input,
+                limit: settings.limit(),
+                number,
+            };
+            let told = values_of(rt, alloc, job, &swept, values, settings.workers(), gate)?;
+            Ok(SweepAnswer::Values(told))
+        }
+        Found::Missing(missing) => Ok(SweepAnswer::NoTarget(missing)),
+    }
+}
+
+// Returns the outcome of the job with its own value, and with each value of its number.
+fn values_of<R: Threads + Sync, G: Gate + Sync>(
+    rt: &R,
+    alloc: Global,
+    job: &Job,
+    swept: &Swept<'_>,
+    values: &[u64],
+    workers: usize,
+    gate: &G,
+) -> Result<SweepValues, AllocError>
+    requires input { length swept.now.input.now ≤ MAX_INPUT }
+    requires some_workers { 1 ≤ workers }
+    ensures { IfOk result (AreValuesOf job.now swept.now values.now) }
+{
+    let first = outcome_of_job(rt, alloc, job, swept.input, swept.limit, None)?;
+    let told = answers_for(rt, alloc, swept, values, workers, gate)?;
+    Ok(SweepValues {
+        first,
+        values: told,
+    })
+}
