@@ -6,10 +6,9 @@ use Rattle.std.specs.declared.alloc.AllocError.{AllocError}
 use Rattle.job_tree.specs.Tree.{Tree}
 use Rattle.cancel_scopes.specs.Sight.{Tick}
 use Rattle.job_meaning.specs.Log.{Table}
-use Rattle.job_meaning.specs.Meaning.{root_label, meaning_end, meaning_table}
+use Rattle.job_meaning.specs.Meaning.{meaning_end, meaning_table}
 use Rattle.job_reader.specs.Refusals.{Spells}
-use Rattle.job_story.specs.Tell.{story_by}
-use Rattle.job_story.specs.Events.{Event, events_of}
+use Rattle.job_story.specs.Events.{Event}
 use Rattle.job_answers.specs.declared.verdict.Verdict.{Verdict}
 use Rattle.job_answers.specs.declared.verdict.Verdict.TheVariants as verdicts
 use Rattle.job_meaning.specs.Moments.{clock_of}
@@ -17,8 +16,7 @@ use Rattle.job_meaning.specs.declared.clock.Clock.{Clock}
 use Rattle.job_answers.specs.declared.meaning.Ending.{Ending}
 use Rattle.job_answers.specs.declared.meaning.Ending.TheVariants.{Done, Raised, Late}
 use Rattle.job_answers.specs.Stories.{story_events, until_if}
-use Rattle.job_answers.specs.Tellings.{IsEnding, until_of, events_until}
-use Rattle.job_answers.proofs.Told.{told_is, cut_is}
+use Rattle.job_answers.specs.Endings.{IsEnding}
 use Rattle.chart.specs.Bars.{Bar, bars_of}
 use Rattle.svg.specs.Drawing.{chart_svg}
 use Rattle.commands.specs.declared.chart_form.ChartForm.{ChartForm}
@@ -34,28 +32,20 @@ verdict_is job input limit Late h = h
 
 -- the verdict on a job, with its chart
 pub job_charted : (form : ChartForm) (job : Tree) (input : List ℕ) (limit : ℕ) (ending : Ending) (verdict : Verdict) (clock : Clock)
-    (table : Table) (until : Tick) (events walked : List Event) (bytes : List ℕ) → IsEnding job input limit ending →
+    (table : Table) (until : Tick) (walked : List Event) (bytes : List ℕ) → IsEnding job input limit ending →
     clock ≡ clock_of job.format → table ≡ meaning_table job input →
-    until ≡ until_of ending limit → events ≡ events_of (root_label job.name) (story_by table job input) →
-    walked ≡ events_until clock until events → bytes ≡ chart_of clock form table until walked → IsInForm form bytes → verdict ≡ verdict_of ending →
+    until ≡ until_if (nat_le (meaning_end job input) limit) limit → walked ≡ story_events limit job input →
+    bytes ≡ chart_of clock form table until walked → IsInForm form bytes → verdict ≡ verdict_of ending →
     IsJobVerdict form job input limit verdict bytes
-job_charted form job input limit ending verdict clock table until events walked bytes h counts same until_is events_are walked_is drawn fits is =
+job_charted form job input limit ending verdict clock table until walked bytes h counts same until_is walked_is drawn fits is =
     (subst (IsVerdictOn job input limit) (sym is) (verdict_is job input limit ending h), (chart, fits))
   where
-    all : walked ≡ story_events limit job input
-    all =
-        walked_is ∙ ap (λ (c : Clock). events_until c until events) counts
-        ∙ ap (events_until (clock_of job.format) until)
-        (events_are ∙ ap (λ (k : Table). events_of (root_label job.name) (story_by k job input)) same)
-        ∙ ap (λ (u : Tick). events_until (clock_of job.format) u (events_of (root_label job.name) (story_by (meaning_table job input) job input))) until_is
-        ∙ told_is job input limit ending h
-
     chart : bytes ≡ meaning_chart form limit job input
     chart =
         drawn ∙ ap (λ (c : Clock). chart_of c form table until walked) counts
         ∙ ap (λ (k : Table). chart_of (clock_of job.format) form k until walked) same
-        ∙ ap (λ (u : Tick). chart_of (clock_of job.format) form (meaning_table job input) u walked) (until_is ∙ cut_is job input limit ending h)
-        ∙ ap (chart_of (clock_of job.format) form (meaning_table job input) (until_if (nat_le (meaning_end job input) limit) limit)) all
+        ∙ ap (λ (u : Tick). chart_of (clock_of job.format) form (meaning_table job input) u walked) until_is
+        ∙ ap (chart_of (clock_of job.format) form (meaning_table job input) (until_if (nat_le (meaning_end job input) limit) limit)) walked_is
 
 -- ---- the drawing of an index over the events
 

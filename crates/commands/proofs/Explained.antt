@@ -1,25 +1,24 @@
 -- From a run to its story as JSON.
-use Rattle.std.proofs.Common.{◌≡◌, ℕ, Option, Some, None, List, [], refl, sym, ap, subst, ◌∙◌, inl, inr}
+use Rattle.std.proofs.Common.{◌≡◌, ℕ, nat_le, Option, Some, None, List, [], refl, sym, subst, inl, inr}
 use Rattle.std.specs.Global.{Vec}
 use Rattle.job_tree.specs.Tree.{Tree}
 use Rattle.exceptions.specs.Exceptions.{Label}
 use Rattle.cancel_scopes.specs.Sight.{Tick}
 use Rattle.job_meaning.specs.Log.{Table}
-use Rattle.job_meaning.specs.Meaning.{root_label, meaning_table}
+use Rattle.job_meaning.specs.Meaning.{meaning_end, meaning_table}
 use Rattle.job_reader.specs.Refusals.{Spells}
-use Rattle.job_story.specs.Tell.{story_by}
-use Rattle.job_story.specs.Events.{Event, events_of}
+use Rattle.job_story.specs.Events.{Event}
 use Rattle.job_story.specs.Focus.{task_named}
 use Rattle.story_index.specs.Nearest.{nearest_in}
 use Rattle.job_answers.specs.declared.meaning.Ending.{Ending}
 use Rattle.job_answers.specs.declared.meaning.Ending.TheVariants.{Done, Raised, Late}
 use Rattle.job_answers.specs.declared.story_verdict.StoryVerdict.{StoryVerdict}
 use Rattle.job_answers.specs.declared.story_verdict.StoryVerdict.TheVariants as story
-use Rattle.job_answers.specs.Stories.{story_events, label_or_nothing, IsAbout}
-use Rattle.job_answers.specs.Tellings.{IsEnding, verdict_of, until_of, events_until}
+use Rattle.job_answers.specs.Stories.{story_events, until_if, label_or_nothing, IsAbout}
+use Rattle.job_answers.specs.Endings.{IsEnding}
+use Rattle.job_answers.specs.Tellings.{verdict_of}
 use Rattle.job_meaning.specs.Moments.{clock_of}
 use Rattle.job_meaning.specs.declared.clock.Clock.{Clock}
-use Rattle.job_answers.proofs.Told.{told_is, cut_is}
 use Rattle.json_story.specs.Values.{document}
 use Rattle.json_story.specs.Stories.{story_json}
 use Rattle.commands.specs.Explaining.{meaning_story, IsStoryVerdict, IsStory, IsTold}
@@ -52,14 +51,6 @@ told_of_some clock name table until ending asked text walked given bytes is =
 
 -- ---- the verdict on a job
 
--- the document of the events that are written is that of the meaning's story
-story_is : (job : Tree) (input : List ℕ) (limit : ℕ) (ending : Ending) (task : Option Label) → IsEnding job input limit ending →
-    document (story_json (clock_of job.format) job.name (until_of ending limit) (meaning_table job input) task (story_events limit job input))
-    ≡ meaning_story limit job input task
-story_is job input limit ending task h =
-    ap (λ (u : Tick). document (story_json (clock_of job.format) job.name u (meaning_table job input) task (story_events limit job input)))
-    (cut_is job input limit ending h)
-
 verdict_is : (job : Tree) (input : List ℕ) (limit : ℕ) (asked : Option (List ℕ)) (ending : Ending) (task : Option Label)
     (bytes : List ℕ) → IsEnding job input limit ending → IsAbout asked (story_events limit job input) task →
     bytes ≡ meaning_story limit job input task → IsStoryVerdict job input limit asked (verdict_of ending) bytes
@@ -69,35 +60,26 @@ verdict_is job input limit asked Late task bytes h about is = (record { task = t
 
 by_told : (job : Tree) (input : List ℕ) (limit : ℕ) (asked : Option (List ℕ)) (ending : Ending) (given : StoryVerdict)
     (bytes : List ℕ) → IsEnding job input limit ending →
-    IsTold (clock_of job.format) job.name (meaning_table job input) (until_of ending limit) ending asked (story_events limit job input) given bytes →
+    IsTold (clock_of job.format) job.name (meaning_table job input) (until_if (nat_le (meaning_end job input) limit) limit) ending asked (story_events limit job input) given bytes →
     IsStoryVerdict job input limit asked given bytes
 by_told job input limit asked ending given bytes h (inl t) =
     subst (λ (v : StoryVerdict). IsStoryVerdict job input limit asked v bytes) (sym t.2)
-    (verdict_is job input limit asked ending t.0 bytes h t.1 (t.3 ∙ story_is job input limit ending t.0 h))
+    (verdict_is job input limit asked ending t.0 bytes h t.1 t.3)
 by_told job input limit asked ending given bytes h (inr t) =
     subst (λ (v : StoryVerdict). IsStoryVerdict job input limit asked v bytes) (sym t.2) (t.1, t.3)
 
--- the verdict and the document for a job that was read: that of the story by the table of its meaning, up to the limit
+-- the verdict and the document for a job that was read: that of the story of its meaning
 pub job_explained : (job : Tree) (input : List ℕ) (limit : ℕ) (asked : Option (List ℕ)) (ending : Ending) (clock : Clock) (table : Table)
-    (until : Tick) (events walked : List Event) (given : StoryVerdict) (bytes : List ℕ) → IsEnding job input limit ending →
-    clock ≡ clock_of job.format → table ≡ meaning_table job input → until ≡ until_of ending limit →
-    events ≡ events_of (root_label job.name) (story_by table job input) → walked ≡ events_until clock until events →
+    (until : Tick) (walked : List Event) (given : StoryVerdict) (bytes : List ℕ) → IsEnding job input limit ending →
+    clock ≡ clock_of job.format → table ≡ meaning_table job input → until ≡ until_if (nat_le (meaning_end job input) limit) limit →
+    walked ≡ story_events limit job input →
     IsTold clock job.name table until ending asked walked given bytes → IsStoryVerdict job input limit asked given bytes
-job_explained job input limit asked ending clock table until events walked given bytes h counts same until_is events_are walked_is t =
+job_explained job input limit asked ending clock table until walked given bytes h counts same until_is walked_is t =
     by_told job input limit asked ending given bytes h
-    (subst (λ (es : List Event). IsTold (clock_of job.format) job.name (meaning_table job input) (until_of ending limit) ending asked es given bytes)
-    all
+    (subst (λ (es : List Event). IsTold (clock_of job.format) job.name (meaning_table job input) (until_if (nat_le (meaning_end job input) limit) limit) ending asked es given bytes) walked_is
     (subst (λ (u : Tick). IsTold (clock_of job.format) job.name (meaning_table job input) u ending asked walked given bytes) until_is
     (subst (λ (k : Table). IsTold (clock_of job.format) job.name k until ending asked walked given bytes) same
     (subst (λ (c : Clock). IsTold c job.name table until ending asked walked given bytes) counts t))))
-  where
-    all : walked ≡ story_events limit job input
-    all =
-        walked_is ∙ ap (λ (c : Clock). events_until c until events) counts
-        ∙ ap (events_until (clock_of job.format) until)
-        (events_are ∙ ap (λ (k : Table). events_of (root_label job.name) (story_by k job input)) same)
-        ∙ ap (λ (u : Tick). events_until (clock_of job.format) u (events_of (root_label job.name) (story_by (meaning_table job input) job input))) until_is
-        ∙ told_is job input limit ending h
 
 -- ---- the verdict on a text
 

@@ -1,17 +1,18 @@
 -- What `chart` writes: the chart of a job's meaning over an input, or the refusal that the meaning names.
-use Rattle.std.specs.Prelude.{◌≡◌, ℕ, ◌≤◌, ◌<◌, nat_le, List, IsSome, IsNone}
+use Rattle.std.specs.Prelude.{◌≡◌, ℕ, nat_le, List}
 use Rattle.job_tree.specs.Tree.{Tree}
 use Rattle.cancel_scopes.specs.Sight.{Tick}
 use Rattle.job_reader.specs.Refusals.{Spells, IsRefused}
 use Rattle.job_meaning.specs.Log.{Table}
 use Rattle.job_meaning.specs.Moments.{clock_of}
 use Rattle.job_meaning.specs.declared.clock.Clock.{Clock}
-use Rattle.job_meaning.specs.Meaning.{meaning, meaning_end, meaning_table}
+use Rattle.job_meaning.specs.Meaning.{meaning_end, meaning_table}
 use Rattle.job_story.specs.Events.{Event}
 use Rattle.job_answers.specs.Verdict.{refusal_line}
 use Rattle.job_answers.specs.declared.verdict.Verdict.{Verdict}
 use Rattle.job_answers.specs.declared.verdict.Verdict.TheVariants.{Done, Raised, JobRefused, Limit}
 use Rattle.job_answers.specs.Stories.{story_events, until_if}
+use Rattle.job_answers.specs.Endings.{IsEnding}
 use Rattle.job_answers.specs.declared.meaning.Ending.{Ending}
 use Rattle.job_answers.specs.declared.meaning.Ending.TheVariants as ending
 use Rattle.chart.specs.Bars.{bars_of}
@@ -44,10 +45,10 @@ IsChart form limit job input bytes = (bytes ≡ meaning_chart form limit job inp
 
 -- how the meaning of a job ends
 abbrev pub IsVerdictOn : Tree → List ℕ → ℕ → Verdict → Type 0
-IsVerdictOn job input limit Done = (meaning_end job input ≤ limit) × IsNone (meaning job input).exc
-IsVerdictOn job input limit Raised = (meaning_end job input ≤ limit) × IsSome (meaning job input).exc
+IsVerdictOn job input limit Done = IsEnding job input limit ending.Done
+IsVerdictOn job input limit Raised = IsEnding job input limit ending.Raised
 IsVerdictOn job input limit (JobRefused fault) = ⊥
-IsVerdictOn job input limit Limit = limit < meaning_end job input
+IsVerdictOn job input limit Limit = IsEnding job input limit ending.Late
 
 -- the verdict on a job that ends so
 abbrev pub verdict_of : Ending → Verdict

@@ -1,5 +1,5 @@
 -- What `story_document` returns: the story of a job's meaning over an input as JSON, or the refusal that the meaning names.
-use Rattle.std.specs.Prelude.{◌≡◌, ◌⊎◌, ℕ, ◌≤◌, ◌<◌, nat_le, Option, List, [], IsSome, IsNone}
+use Rattle.std.specs.Prelude.{◌≡◌, ◌⊎◌, ℕ, nat_le, Option, List, []}
 use Rattle.std.specs.Global.{Vec}
 use Rattle.job_tree.specs.Tree.{Tree}
 use Rattle.exceptions.specs.Exceptions.{Label}
@@ -8,11 +8,13 @@ use Rattle.job_meaning.specs.Log.{Table}
 use Rattle.job_meaning.specs.Moments.{clock_of}
 use Rattle.job_meaning.specs.declared.clock.Clock.{Clock}
 use Rattle.job_reader.specs.Refusals.{Spells, IsRefused}
-use Rattle.job_meaning.specs.Meaning.{meaning, meaning_end, meaning_table}
+use Rattle.job_meaning.specs.Meaning.{meaning_end, meaning_table}
 use Rattle.job_story.specs.Events.{Event}
 use Rattle.job_answers.specs.Stories.{story_events, until_if, IsAbout, IsAboutNone}
 use Rattle.job_answers.specs.Tellings.{verdict_of}
+use Rattle.job_answers.specs.Endings.{IsEnding}
 use Rattle.job_answers.specs.declared.meaning.Ending.{Ending}
+use Rattle.job_answers.specs.declared.meaning.Ending.TheVariants as ending
 use Rattle.job_answers.specs.declared.story_verdict.StoryVerdict.{StoryVerdict}
 use Rattle.job_answers.specs.declared.story_verdict.StoryVerdict.TheVariants as story
 use Rattle.json_story.specs.Values.{document}
@@ -36,12 +38,10 @@ pub record IsJobStory (job : Tree) (input : List ℕ) (limit : ℕ) (asked : Opt
 
 -- The verdict on a job that was read, and its bytes: the story of the meaning; nothing if no task has the label.
 abbrev pub IsStoryVerdict : Tree → List ℕ → ℕ → Option (List ℕ) → StoryVerdict → List ℕ → Type 0
-IsStoryVerdict job input limit asked story.Done bytes =
-    IsJobStory job input limit asked bytes × (meaning_end job input ≤ limit) × IsNone (meaning job input).exc
-IsStoryVerdict job input limit asked story.Raised bytes =
-    IsJobStory job input limit asked bytes × (meaning_end job input ≤ limit) × IsSome (meaning job input).exc
+IsStoryVerdict job input limit asked story.Done bytes = IsJobStory job input limit asked bytes × IsEnding job input limit ending.Done
+IsStoryVerdict job input limit asked story.Raised bytes = IsJobStory job input limit asked bytes × IsEnding job input limit ending.Raised
 IsStoryVerdict job input limit asked (story.JobRefused fault) bytes = ⊥
-IsStoryVerdict job input limit asked story.Limit bytes = IsJobStory job input limit asked bytes × (limit < meaning_end job input)
+IsStoryVerdict job input limit asked story.Limit bytes = IsJobStory job input limit asked bytes × IsEnding job input limit ending.Late
 IsStoryVerdict job input limit asked (story.NoTask nearest) bytes =
     IsAboutNone asked (story_events limit job input) nearest.items × (bytes ≡ [])
 

@@ -8,7 +8,7 @@ ghost use Rattle.job_answers.specs.Stories.{label_or_nothing};
 ghost use Rattle.commands.specs.Explaining.{IsTold};
 
 use exceptions::{Label, push_label};
-use job_answers::{Meaning, StoryVerdict};
+use job_answers::{Story, StoryVerdict};
 use job_reader::Job;
 use job_story::Event;
 use json_story::story_json;
@@ -21,27 +21,26 @@ use story_index::{nearest_task, task_named};
 pub(crate) fn story_about(
     alloc: Global,
     job: &Job,
+    story: &Story,
     walked: &[&Event],
-    meaning: &Meaning,
-    until: Option<u64>,
     task: Option<&[u8]>,
 ) -> Result<(StoryVerdict, Vec<u8>), AllocError>
-    ensures { IfOk result (λ r. IsTold meaning.now.clock job.now.name (table_in meaning.now.table) until meaning.now.ending
+    ensures { IfOk result (λ r. IsTold story.now.clock job.now.name (table_in story.now.table) story.now.until story.now.ending
         (option_copied task.entry) (map event_in walked.now) r.0 r.1.items) }
 {
     let Some(text) = task else {
         let bytes = story_json(
             alloc,
-            meaning.clock,
+            story.clock,
             job.name(),
-            until,
+            story.until,
             walked,
-            &meaning.table,
+            &story.table,
             None,
         )?;
-        return Ok((meaning.ending.verdict(), bytes));
+        return Ok((story.ending.verdict(), bytes));
     };
-    let answer = story_about_task(alloc, job, walked, meaning, until, text)?;
+    let answer = story_about_task(alloc, job, story, walked, text)?;
     Ok(answer)
 }
 
@@ -50,12 +49,11 @@ pub(crate) fn story_about(
 fn story_about_task(
     alloc: Global,
     job: &Job,
+    story: &Story,
     walked: &[&Event],
-    meaning: &Meaning,
-    until: Option<u64>,
     text: &[u8],
 ) -> Result<(StoryVerdict, Vec<u8>), AllocError>
-    ensures { IfOk result (λ r. IsTold meaning.now.clock job.now.name (table_in meaning.now.table) until meaning.now.ending
+    ensures { IfOk result (λ r. IsTold story.now.clock job.now.name (table_in story.now.table) story.now.until story.now.ending
         (Some text.now) (map event_in walked.now) r.0 r.1.items) }
 {
     let named = task_named(alloc, walked, text)?;
@@ -65,14 +63,14 @@ fn story_about_task(
     };
     let bytes = story_json(
         alloc,
-        meaning.clock,
+        story.clock,
         job.name(),
-        until,
+        story.until,
         walked,
-        &meaning.table,
+        &story.table,
         Some(label),
     )?;
-    Ok((meaning.ending.verdict(), bytes))
+    Ok((story.ending.verdict(), bytes))
 }
 
 // Returns the text of the label of the task that is nearest to this text.

@@ -4,11 +4,10 @@ ghost use Rattle.commands.specs.Charts.{verdict_of, IsJobVerdict, IsVerdict};
 
 use crate::chart_form::ChartForm;
 use crate::drawing::chart_of;
-use job_answers::{Ending, Verdict, events_until, meaning_of, refusal};
+use job_answers::{Ending, Verdict, refusal, story_of};
 use job_reader::{Job, read_job};
 use job_report::{Answer, Question};
 use job_runner::{Gate, Pick, Settings};
-use job_story::tell;
 use std::alloc::{AllocError, Global};
 use std::thread::Threads;
 
@@ -64,19 +63,17 @@ fn job_chart<R: Threads + Sync, P: Pick, G: Gate + Sync>(
     requires { length input.now ≤ MAX_INPUT }
     ensures { IfOk result (λ r. IsJobVerdict form job.now input.now settings.limit r.0 r.1.items) }
 {
-    let meaning = meaning_of(rt, alloc, job, input, settings, picker, gate)?;
-    let last = meaning.ending.until(settings.limit());
-    let events = tell(alloc, job, input, &meaning.table)?;
-    let walked = events_until(alloc, meaning.clock, events.as_slice(), last)?;
+    let story = story_of(rt, alloc, job, input, settings, picker, gate)?;
+    let walked = story.walked(alloc)?;
     let bytes = chart_of(
         alloc,
-        meaning.clock,
+        story.clock,
         form,
         walked.as_slice(),
-        &meaning.table,
-        last,
+        &story.table,
+        story.until,
     )?;
-    Ok((verdict_of(meaning.ending), bytes))
+    Ok((verdict_of(story.ending), bytes))
 }
 
 // Returns the verdict on a job that ends so.

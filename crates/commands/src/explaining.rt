@@ -5,11 +5,10 @@ ghost use Rattle.commands.specs.Explaining.{IsStoryVerdict, IsStory};
 
 use crate::about::story_about;
 use crate::answers::refusal;
-use job_answers::{StoryVerdict, events_until, meaning_of};
+use job_answers::{StoryVerdict, story_of};
 use job_reader::{Job, read_job};
 use job_report::{Answer, Question};
 use job_runner::{Gate, Pick, Settings};
-use job_story::tell;
 use std::alloc::{AllocError, Global};
 use std::thread::Threads;
 
@@ -67,10 +66,8 @@ fn job_story<R: Threads + Sync, P: Pick, G: Gate + Sync>(
     requires { length input.now ≤ MAX_INPUT }
     ensures { IfOk result (λ r. IsStoryVerdict job.now input.now settings.limit (option_copied task.entry) r.0 r.1.items) }
 {
-    let meaning = meaning_of(rt, alloc, job, input, settings, picker, gate)?;
-    let last = meaning.ending.until(settings.limit());
-    let events = tell(alloc, job, input, &meaning.table)?;
-    let walked = events_until(alloc, meaning.clock, events.as_slice(), last)?;
-    let answer = story_about(alloc, job, walked.as_slice(), &meaning, last, task)?;
+    let story = story_of(rt, alloc, job, input, settings, picker, gate)?;
+    let walked = story.walked(alloc)?;
+    let answer = story_about(alloc, job, &story, walked.as_slice(), task)?;
     Ok(answer)
 }

@@ -15,7 +15,9 @@ use Rattle.job_runner.specs.Runs.{is_well}
 use Rattle.job_story.specs.Tell.{story_by}
 use Rattle.job_story.specs.Events.{Event, events_of}
 use Rattle.job_story.specs.Focus.{task_named}
+use Rattle.job_story.specs.Limit.{walked_to}
 use Rattle.story_index.specs.Nearest.{nearest_in}
+use Rattle.story_index.specs.Until.{events_until}
 use Rattle.job_answers.specs.declared.about.About.{About}
 use Rattle.job_answers.specs.declared.about.About.TheVariants.{All, Task, NoTask}
 use Rattle.job_answers.specs.declared.story_verdict.StoryVerdict.{StoryVerdict}
@@ -23,7 +25,9 @@ use Rattle.job_answers.specs.declared.story_verdict.StoryVerdict.TheVariants as 
 use Rattle.job_answers.specs.declared.meaning.Ending.{Ending}
 use Rattle.job_answers.specs.declared.meaning.Ending.TheVariants.{Done, Raised, Late}
 use Rattle.job_answers.specs.Stories.{story_events, story_events_if, story_if, until_if, meaning_story, label_or_nothing, IsAbout, IsAboutNone, IsJobVerdict}
-use Rattle.job_answers.specs.Tellings.{IsEnding, IsAsked, IsTold, ending_by, verdict_of, until_of, events_until, story_told}
+use Rattle.job_answers.specs.Running.{running_lines, IsJobRunning}
+use Rattle.job_answers.specs.Endings.{IsEnding, ending_by, until_of}
+use Rattle.job_answers.specs.Tellings.{IsAsked, IsTold, verdict_of, story_told}
 
 le_test : (m n : ℕ) → m ≤ n → nat_le m n ≡ true
 le_test m n h = grind (arith, nat_tests)
@@ -62,42 +66,69 @@ is_ending job input limit rows ending same is =
     subst (IsEnding job input limit) (sym (is ∙ ap (λ (rs : List Row). ending_by rs limit) same))
     (ends_as job input limit (nat_lt limit (meaning_end job input)) (is_well (ending_of (meaning job input).exc)) refl refl)
 
--- the events of the story are those of the meaning's story
-pub told_is : (job : Tree) (input : List ℕ) (limit : ℕ) (ending : Ending) → IsEnding job input limit ending →
+-- the events of the story as far as the limit shows them are those of the meaning's story
+events_if : (job : Tree) (input : List ℕ) (limit : ℕ) (ending : Ending) → IsEnding job input limit ending →
     events_until (clock_of job.format) (until_of ending limit) (events_of (root_label job.name) (story_by (meaning_table job input) job input)) ≡ story_events limit job input
-told_is job input limit Done h = ap (λ (b : Bool). story_events_if b limit job input) (sym (le_test (meaning_end job input) limit h.0))
-told_is job input limit Raised h = ap (λ (b : Bool). story_events_if b limit job input) (sym (le_test (meaning_end job input) limit h.0))
-told_is job input limit Late h = ap (λ (b : Bool). story_events_if b limit job input) (sym (gt_test (meaning_end job input) limit h))
+events_if job input limit Done h = ap (λ (b : Bool). story_events_if b limit job input) (sym (le_test (meaning_end job input) limit h.0))
+events_if job input limit Raised h = ap (λ (b : Bool). story_events_if b limit job input) (sym (le_test (meaning_end job input) limit h.0))
+events_if job input limit Late h = ap (λ (b : Bool). story_events_if b limit job input) (sym (gt_test (meaning_end job input) limit h))
+
+pub events_are : (job : Tree) (input : List ℕ) (limit given : ℕ) (ending : Ending) (clock : Clock) (table : Table) (until : Option ℕ) (events : List Event) →
+    IsEnding job input limit ending → clock ≡ clock_of job.format → table ≡ meaning_table job input → until ≡ until_of ending given →
+    given ≡ limit → events ≡ events_of (root_label job.name) (story_by table job input) →
+    events_until clock until events ≡ story_events limit job input
+events_are job input limit given ending clock table until events h counts same cut is told =
+    ap (λ (c : Clock). events_until c until events) counts
+    ∙ ap (λ (u : Option ℕ). events_until (clock_of job.format) u events) (cut ∙ ap (until_of ending) is)
+    ∙ ap (events_until (clock_of job.format) (until_of ending limit))
+    (told ∙ ap (λ (k : Table). events_of (root_label job.name) (story_by k job input)) same)
+    ∙ events_if job input limit ending h
 
 -- and they are cut off where the meaning ends later than the limit
-pub cut_is : (job : Tree) (input : List ℕ) (limit : ℕ) (ending : Ending) → IsEnding job input limit ending →
+cut_if : (job : Tree) (input : List ℕ) (limit : ℕ) (ending : Ending) → IsEnding job input limit ending →
     until_of ending limit ≡ until_if (nat_le (meaning_end job input) limit) limit
-cut_is job input limit Done h = ap (λ (b : Bool). until_if b limit) (sym (le_test (meaning_end job input) limit h.0))
-cut_is job input limit Raised h = ap (λ (b : Bool). until_if b limit) (sym (le_test (meaning_end job input) limit h.0))
-cut_is job input limit Late h = ap (λ (b : Bool). until_if b limit) (sym (gt_test (meaning_end job input) limit h))
+cut_if job input limit Done h = ap (λ (b : Bool). until_if b limit) (sym (le_test (meaning_end job input) limit h.0))
+cut_if job input limit Raised h = ap (λ (b : Bool). until_if b limit) (sym (le_test (meaning_end job input) limit h.0))
+cut_if job input limit Late h = ap (λ (b : Bool). until_if b limit) (sym (gt_test (meaning_end job input) limit h))
 
-whole_is : (job : Tree) (input : List ℕ) (limit : ℕ) (task : Option Label) →
-    story_told (clock_of job.format) (meaning_table job input) None task (story_events_if true limit job input) ≡ story_if true limit job input task
-whole_is job input limit None = refl
-whole_is job input limit (Some task) = refl
-
-front_is : (job : Tree) (input : List ℕ) (limit : ℕ) (task : Option Label) →
-    story_told (clock_of job.format) (meaning_table job input) (Some limit) task (story_events_if false limit job input) ≡ story_if false limit job input task
-front_is job input limit None = refl
-front_is job input limit (Some task) = refl
+pub cut_is : (job : Tree) (input : List ℕ) (limit given : ℕ) (ending : Ending) (until : Option ℕ) → IsEnding job input limit ending →
+    until ≡ until_of ending given → given ≡ limit → until ≡ until_if (nat_le (meaning_end job input) limit) limit
+cut_is job input limit given ending until h cut is = cut ∙ ap (until_of ending) is ∙ cut_if job input limit ending h
 
 -- and so is their text
-pub story_is : (job : Tree) (input : List ℕ) (limit : ℕ) (ending : Ending) (task : Option Label) → IsEnding job input limit ending →
-    story_told (clock_of job.format) (meaning_table job input) (until_of ending limit) task (story_events limit job input) ≡ meaning_story limit job input task
-story_is job input limit Done task h =
-    subst (λ (b : Bool). story_told (clock_of job.format) (meaning_table job input) None task (story_events_if b limit job input) ≡ story_if b limit job input task)
-    (sym (le_test (meaning_end job input) limit h.0)) (whole_is job input limit task)
-story_is job input limit Raised task h =
-    subst (λ (b : Bool). story_told (clock_of job.format) (meaning_table job input) None task (story_events_if b limit job input) ≡ story_if b limit job input task)
-    (sym (le_test (meaning_end job input) limit h.0)) (whole_is job input limit task)
-story_is job input limit Late task h =
-    subst (λ (b : Bool). story_told (clock_of job.format) (meaning_table job input) (Some limit) task (story_events_if b limit job input) ≡ story_if b limit job input task)
-    (sym (gt_test (meaning_end job input) limit h)) (front_is job input limit task)
+story_if_is : (b : Bool) (job : Tree) (input : List ℕ) (limit : ℕ) (task : Option Label) →
+    story_told (clock_of job.format) (meaning_table job input) (until_if b limit) task (story_events_if b limit job input) ≡ story_if b limit job input task
+story_if_is true job input limit None = refl
+story_if_is true job input limit (Some task) = refl
+story_if_is false job input limit None = refl
+story_if_is false job input limit (Some task) = refl
+
+-- ---- which tasks run at a limit
+
+pub none_run : (job : Tree) (input : List ℕ) (limit : ℕ) (ending : Ending) (lines : List ℕ) → IsEnding job input limit ending →
+    until_of ending limit ≡ None → lines ≡ [] → IsJobRunning job input limit lines
+none_run job input limit Done lines h e is =
+    record { late = λ (l : limit < meaning_end job input). absurd (grind (arith)); in_time = λ (l : meaning_end job input ≤ limit). is }
+none_run job input limit Raised lines h e is =
+    record { late = λ (l : limit < meaning_end job input). absurd (grind (arith)); in_time = λ (l : meaning_end job input ≤ limit). is }
+none_run job input limit Late lines h e is = absurd (let f : Some limit ≡ None = e in cc)
+
+pub these_run : (job : Tree) (input : List ℕ) (limit : ℕ) (ending : Ending) (clock : Clock) (table : Table) (shown : List Event) (lines : List ℕ) →
+    IsEnding job input limit ending → ending ≡ Late → clock ≡ clock_of job.format → table ≡ meaning_table job input →
+    shown ≡ story_events limit job input → lines ≡ running_lines clock table shown → IsJobRunning job input limit lines
+these_run job input limit ending clock table shown lines h e counts same told is =
+    record {
+      late = λ (l : limit < meaning_end job input). all (subst (IsEnding job input limit) e h);
+      in_time = λ (l : meaning_end job input ≤ limit). absurd (let k = subst (IsEnding job input limit) e h in grind (arith));
+    }
+  where
+    all : limit < meaning_end job input →
+        lines ≡ running_lines (clock_of job.format) (meaning_table job input) (walked_to (meaning_table job input) limit job input)
+    all k =
+        is ∙ ap (λ (c : Clock). running_lines c table shown) counts
+        ∙ ap (λ (t : Table). running_lines (clock_of job.format) t shown) same
+        ∙ ap (running_lines (clock_of job.format) (meaning_table job input))
+        (told ∙ ap (λ (b : Bool). story_events_if b limit job input) (gt_test (meaning_end job input) limit k))
 
 -- ---- which task was asked for
 
@@ -146,31 +177,23 @@ verdict_is job input limit asked Late task bytes h about is = (record { task = t
 
 by_told : (job : Tree) (input : List ℕ) (limit : ℕ) (asked : Option (List ℕ)) (ending : Ending) (given : StoryVerdict) (bytes : List ℕ) →
     IsEnding job input limit ending →
-    IsTold (clock_of job.format) (meaning_table job input) (until_of ending limit) ending asked (story_events limit job input) given bytes →
+    IsTold (clock_of job.format) (meaning_table job input) (until_if (nat_le (meaning_end job input) limit) limit) ending asked (story_events limit job input) given bytes →
     IsJobVerdict job input limit asked given bytes
 by_told job input limit asked ending given bytes h (inl t) =
     subst (λ (v : StoryVerdict). IsJobVerdict job input limit asked v bytes) (sym t.2)
-    (verdict_is job input limit asked ending t.0 bytes h t.1 (t.3 ∙ story_is job input limit ending t.0 h))
+    (verdict_is job input limit asked ending t.0 bytes h t.1 (t.3 ∙ story_if_is (nat_le (meaning_end job input) limit) job input limit t.0))
 by_told job input limit asked ending given bytes h (inr t) =
     subst (λ (v : StoryVerdict). IsJobVerdict job input limit asked v bytes) (sym t.2) (t.1, t.3)
 
--- the verdict and the bytes for a job that was read: those of the story by the table of its meaning, up to the limit
+-- the verdict and the bytes for a job that was read: those of the story of its meaning
 pub job_told : (job : Tree) (input : List ℕ) (limit : ℕ) (asked : Option (List ℕ)) (ending : Ending) (clock : Clock) (table : Table)
-    (until : Option ℕ) (events walked : List Event) (given : StoryVerdict) (bytes : List ℕ) → IsEnding job input limit ending →
-    clock ≡ clock_of job.format → table ≡ meaning_table job input → until ≡ until_of ending limit →
-    events ≡ events_of (root_label job.name) (story_by table job input) → walked ≡ events_until clock until events →
+    (until : Option ℕ) (walked : List Event) (given : StoryVerdict) (bytes : List ℕ) → IsEnding job input limit ending →
+    clock ≡ clock_of job.format → table ≡ meaning_table job input → until ≡ until_if (nat_le (meaning_end job input) limit) limit →
+    walked ≡ story_events limit job input →
     IsTold clock table until ending asked walked given bytes → IsJobVerdict job input limit asked given bytes
-job_told job input limit asked ending clock table until events walked given bytes h counts same until_is events_are walked_is t =
+job_told job input limit asked ending clock table until walked given bytes h counts same until_is walked_is t =
     by_told job input limit asked ending given bytes h
-    (subst (λ (es : List Event). IsTold (clock_of job.format) (meaning_table job input) (until_of ending limit) ending asked es given bytes) all
+    (subst (λ (es : List Event). IsTold (clock_of job.format) (meaning_table job input) (until_if (nat_le (meaning_end job input) limit) limit) ending asked es given bytes) walked_is
     (subst (λ (u : Option ℕ). IsTold (clock_of job.format) (meaning_table job input) u ending asked walked given bytes) until_is
     (subst (λ (k : Table). IsTold (clock_of job.format) k until ending asked walked given bytes) same
     (subst (λ (c : Clock). IsTold c table until ending asked walked given bytes) counts t))))
-  where
-    all : walked ≡ story_events limit job input
-    all =
-        walked_is ∙ ap (λ (c : Clock). events_until c until events) counts
-        ∙ ap (events_until (clock_of job.format) until)
-        (events_are ∙ ap (λ (k : Table). events_of (root_label job.name) (story_by k job input)) same)
-        ∙ ap (λ (u : Option ℕ). events_until (clock_of job.format) u (events_of (root_label job.name) (story_by (meaning_table job input) job input))) until_is
-        ∙ told_is job input limit ending h

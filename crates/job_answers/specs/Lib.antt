@@ -4,6 +4,7 @@ pub mod Sending
 pub mod Checking
 pub mod Statuses
 pub mod StoryStatuses
+pub mod Endings
 pub mod Stories
 pub mod Tellings
 pub mod Running

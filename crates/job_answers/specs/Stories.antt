@@ -1,9 +1,9 @@
 -- What `explain` writes: the story of a job's meaning over an input, or the refusal that the meaning names.
-use Rattle.std.specs.Prelude.{◌≡◌, ℕ, ◌≤◌, ◌<◌, Bool, true, false, nat_le, Option, Some, None, List, [], IsSome, IsNone}
+use Rattle.std.specs.Prelude.{◌≡◌, ℕ, Bool, true, false, nat_le, Option, Some, None, List, [], IsSome}
 use Rattle.job_tree.specs.Tree.{Tree}
 use Rattle.exceptions.specs.Exceptions.{Label}
 use Rattle.job_reader.specs.Refusals.{Spells, IsRefused}
-use Rattle.job_meaning.specs.Meaning.{root_label, meaning, meaning_end, meaning_table}
+use Rattle.job_meaning.specs.Meaning.{root_label, meaning_end, meaning_table}
 use Rattle.job_story.specs.Tell.{story_by}
 use Rattle.job_story.specs.Events.{Event, events_of}
 use Rattle.job_story.specs.Sentences.{story_text}
@@ -12,6 +12,8 @@ use Rattle.job_story.specs.Limit.{walked_to, story_to}
 use Rattle.job_story.specs.Focus.{story_of_task, story_of_task_to, task_named}
 use Rattle.job_answers.specs.Verdict.{refusal_line}
 use Rattle.story_index.specs.Nearest.{nearest_in}
+use Rattle.job_answers.specs.Endings.{IsEnding}
+use Rattle.job_answers.specs.declared.meaning.Ending.TheVariants as ending
 use Rattle.job_answers.specs.declared.story_verdict.StoryVerdict.{StoryVerdict}
 use Rattle.job_answers.specs.declared.story_verdict.StoryVerdict.TheVariants.{Done, Raised, JobRefused, Limit, NoTask}
 
@@ -77,11 +79,11 @@ pub record IsJobStory (job : Tree) (input : List ℕ) (limit : ℕ) (asked : Opt
 -- The verdict on a job that was read, and its bytes: the story of the meaning, or nothing where no task has the label.
 abbrev pub IsJobVerdict : Tree → List ℕ → ℕ → Option (List ℕ) → StoryVerdict → List ℕ → Type 0
 IsJobVerdict job input limit asked Done bytes =
-    IsJobStory job input limit asked bytes × (meaning_end job input ≤ limit) × IsNone (meaning job input).exc
+    IsJobStory job input limit asked bytes × IsEnding job input limit ending.Done
 IsJobVerdict job input limit asked Raised bytes =
-    IsJobStory job input limit asked bytes × (meaning_end job input ≤ limit) × IsSome (meaning job input).exc
+    IsJobStory job input limit asked bytes × IsEnding job input limit ending.Raised
 IsJobVerdict job input limit asked (JobRefused fault) bytes = ⊥
-IsJobVerdict job input limit asked Limit bytes = IsJobStory job input limit asked bytes × (limit < meaning_end job input)
+IsJobVerdict job input limit asked Limit bytes = IsJobStory job input limit asked bytes × IsEnding job input limit ending.Late
 IsJobVerdict job input limit asked (NoTask nearest) bytes =
     IsAboutNone asked (story_events limit job input) nearest.items × (bytes ≡ [])
 

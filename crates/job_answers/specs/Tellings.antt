@@ -1,36 +1,24 @@
 -- The steps from a run to the text of its story.
-use Rattle.std.specs.Prelude.{◌≡◌, ◌⊎◌, ℕ, ◌≤◌, ◌<◌, Bool, true, nat_le, nat_lt, if◌then◌else◌, Option, Some, None, List, [], IsSome, IsNone}
+use Rattle.std.specs.Prelude.{◌≡◌, ◌⊎◌, ℕ, Option, Some, None, List, [], map}
 use Rattle.std.specs.Global.{Vec}
-use Rattle.job_tree.specs.Tree.{Tree}
 use Rattle.exceptions.specs.Exceptions.{Label}
 use Rattle.job_meaning.specs.Log.{Table}
-use Rattle.job_meaning.specs.Moments.{tick_of}
 use Rattle.job_meaning.specs.declared.clock.Clock.{Clock}
-use Rattle.job_meaning.specs.Meaning.{meaning, meaning_end}
-use Rattle.job_meaning.specs.Shown.{Row}
-use Rattle.job_runner.specs.Runs.{root_is_well, root_end}
 use Rattle.job_story.specs.Events.{Event, in_order}
 use Rattle.job_story.specs.Sentences.{kept_text}
-use Rattle.job_story.specs.Limit.{by_limit, kept_text_to}
+use Rattle.job_story.specs.Held.{event_of}
+use Rattle.job_story.specs.Limit.{kept_text_to}
 use Rattle.job_story.specs.Focus.{concerned_tasks, of_tasks, task_named}
 use Rattle.story_index.specs.Nearest.{nearest_in}
+use Rattle.story_index.specs.Until.{events_until}
 use Rattle.job_answers.specs.Stories.{label_or_nothing, IsAbout, IsAboutNone}
 use Rattle.job_answers.specs.declared.story_verdict.StoryVerdict.{StoryVerdict}
 use Rattle.job_answers.specs.declared.story_verdict.StoryVerdict.TheVariants as verdict
+use Rattle.job_answers.specs.declared.meaning.Story.{Story}
 use Rattle.job_answers.specs.declared.meaning.Ending.{Ending}
 use Rattle.job_answers.specs.declared.meaning.Ending.TheVariants.{Done, Raised, Late}
 use Rattle.job_answers.specs.declared.about.About.{About}
 use Rattle.job_answers.specs.declared.about.About.TheVariants.{All, Task, NoTask}
-
--- how the meaning of a job ends, compared with a limit
-abbrev pub IsEnding : Tree → List ℕ → ℕ → Ending → Type 0
-IsEnding job input limit Done = (meaning_end job input ≤ limit) × IsNone (meaning job input).exc
-IsEnding job input limit Raised = (meaning_end job input ≤ limit) × IsSome (meaning job input).exc
-IsEnding job input limit Late = limit < meaning_end job input
-
--- how a run with these rows ended, compared with a limit
-abbrev pub ending_by : List Row → ℕ → Ending
-ending_by rows limit = if nat_lt limit (root_end rows) then Late else (if root_is_well rows then Done else Raised)
 
 -- the verdict on the story of such a run
 abbrev pub verdict_of : Ending → StoryVerdict
@@ -38,21 +26,9 @@ verdict_of Done = verdict.Done
 verdict_of Raised = verdict.Raised
 verdict_of Late = verdict.Limit
 
--- the limit, where the story is cut off at it
-abbrev pub until_of : Ending → ℕ → Option ℕ
-until_of Done limit = None
-until_of Raised limit = None
-until_of Late limit = Some limit
-
--- whether a moment is not later than the last tick, where there is one
-abbrev pub is_until : Clock → Option ℕ → ℕ → Bool
-is_until clock None m = true
-is_until clock (Some last) m = nat_le (tick_of clock m) last
-
--- the events up to a tick, or all of them
-abbrev pub events_until : Clock → Option ℕ → List Event → List Event
-events_until clock None es = es
-events_until clock (Some t) es = by_limit clock t es
+-- the events of a story that was run, as far as its limit shows them
+abbrev pub events_shown : Story → List Event
+events_shown story = events_until story.clock story.until (map event_of story.events.items)
 
 -- the text of selected events of a story, up to a limit or whole
 abbrev pub text_until : Clock → Option ℕ → Table → List Event → List Event → List Event → List ℕ

@@ -11,8 +11,8 @@
 //!
 //! The layer promises that the bytes that `explain` returns are the text of the story of the job's one-thread meaning, or the
 //! refusal that the meaning names, for every job text, input, number of workers and order of picks. A job that ends later than
-//! the limit has its story up to the limit, with what each task is doing that has not ended. `meaning_of` returns how the
-//! meaning ends and its table, for the layers that show the story in another form.
+//! the limit has its story up to the limit, with what each task is doing that has not ended. `story_of` returns this
+//! story, for the layers that show it in another form.
 #![tactic(auto)]
 
 mod about;
@@ -36,11 +36,10 @@ pub use job_report::{
 };
 pub use job_runner::{Forward, Gate, MAX_INPUT, NoGate, Pick, Reverse, Settings, Turn};
 pub use lines::{past_limit, refusal};
-pub use meaning::{Ending, Meaning, meaning_of};
+pub use meaning::{Ending, Story, story_of};
 pub use read::{ReadFault, read_whole};
 pub use running::running_at_limit;
 pub use serving::{report_answer, serve};
 pub use story_verdict::StoryVerdict;
 pub use table::table_of;
-pub use telling::events_until;
 pub use verdict::{CheckVerdict, ServeFault, Verdict};

@@ -1,19 +1,24 @@
-ghost use Rattle.std.specs.Prelude.{◌≡◌, ◌≤◌, length, IfOk};
+ghost use Rattle.std.specs.Prelude.{◌≡◌, ◌≤◌, nat_le, length, map, IfOk};
 ghost use Rattle.job_meaning.specs.declared.limits.TheConstants.{MAX_INPUT};
-ghost use Rattle.job_meaning.specs.Meaning.{meaning_table};
+ghost use Rattle.job_meaning.specs.Meaning.{meaning_end, meaning_table};
 ghost use Rattle.job_runner.specs.Runs.{rows_of};
 ghost use Rattle.job_story.specs.Froms.{table_in};
 ghost use Rattle.job_meaning.specs.Clocks.{clock_of};
-ghost use Rattle.job_answers.specs.Tellings.{IsEnding, ending_by, verdict_of, until_of};
+ghost use Rattle.job_story.specs.Held.{event_of};
+ghost use Rattle.story_index.specs.Seen.{event_in};
+ghost use Rattle.job_answers.specs.Stories.{story_events, until_if};
+ghost use Rattle.job_answers.specs.Endings.{IsEnding, ending_by, until_of};
+ghost use Rattle.job_answers.specs.Tellings.{verdict_of, events_shown};
 
 use crate::story_verdict::StoryVerdict;
 use crate::table::table_of;
 use job_meaning::Clock;
 use job_reader::Job;
 use job_runner::{Gate, Pick, Run, Settings, run_to_end};
-use job_story::{Froms, law_froms_of_meaning};
+use job_story::{Event, Froms, law_froms_of_meaning, tell};
 use std::alloc::{AllocError, Global};
 use std::thread::Threads;
+use story_index::events_until;
 
 /// How a run ended, compared with a limit.
 #[derive(Clone, Copy)]
@@ -37,34 +42,36 @@ impl Ending {
             Ending::Late => StoryVerdict::Limit,
         }
     }
-
-    /// Returns the limit if the story of such a run is cut off at it, and `None` otherwise.
-    pub fn until(self, limit: u64) -> Option<u64>
-        ensures { result ≡ until_of self limit }
-    {
-        match self {
-            Ending::Done | Ending::Raised => None,
-            Ending::Late => Some(limit),
-        }
-    }
 }
 
-/// What is known of the meaning of a job.
+/// The story of a job's meaning, as far as a limit shows it.
 #[derive(Drop)]
-pub struct Meaning {
+pub struct Story {
     /// How the job ends, compared with the limit.
     pub ending: Ending,
     /// How its time is counted.
     pub clock: Clock,
     /// The moments from which the scopes and nurseries are cancelled, and the events of the job set.
     pub table: Froms,
+    /// The limit if the job ends later, so that the story is cut off at it, and `None` if it is whole.
+    pub until: Option<u64>,
+    /// All events of the story in the order of the walk, those after the limit too.
+    pub events: Vec<Event>,
 }
 
-/// Runs a job over an input to its end, and returns how its meaning ends, compared with the limit, and the moments from which its
-/// scopes and nurseries are cancelled and its events set. The picker, the number of workers and the gate change nothing. The caller
-/// must ensure that the input has at most 16,777,216 bytes (`MAX_INPUT`). Returns `AllocError` if memory runs out.
-#[tactic(auto, using(crate::proofs::Told::is_ending, crate::proofs::Tables::is_of_meaning))]
-pub fn meaning_of<R: Threads + Sync, P: Pick, G: Gate + Sync>(
+impl Story {
+    /// Returns the events as far as the limit shows them, in the order of the walk. Returns `AllocError` if memory runs out.
+    pub fn walked(&self, alloc: Global) -> Result<Vec<&Event>, AllocError>
+        ensures { IfOk result (λ walked. map event_in walked.items ≡ events_shown self.now) }
+    {
+        events_until(alloc, self.clock, self.events.as_slice(), self.until)
+    }
+}
+
+/// Runs a job over an input to its end, and returns the story of its meaning as far as the limit of the settings shows it. The
+/// picker, the number of workers and the gate change nothing. The caller must ensure that the input has at most 16,777,216 bytes
+/// (`MAX_INPUT`). Returns `AllocError` if memory runs out.
+pub fn story_of<R: Threads + Sync, P: Pick, G: Gate + Sync>(
     rt: &R,
     alloc: Global,
     job: &Job,
@@ -72,21 +79,56 @@ pub fn meaning_of<R: Threads + Sync, P: Pick, G: Gate + Sync>(
     settings: Settings,
     picker: &mut P,
     gate: &G,
-) -> Result<Meaning, AllocError>
+) -> Result<Story, AllocError>
     requires { length input.now ≤ MAX_INPUT }
-    ensures clock { IfOk result (λ meaning. meaning.clock ≡ clock_of job.now.format) }
-    ensures ending { IfOk result (λ meaning. IsEnding job.now input.now settings.limit meaning.ending) }
-    ensures table { IfOk result (λ meaning. table_in meaning.table ≡ meaning_table job.now input.now) }
+    ensures clock { IfOk result (λ story. story.clock ≡ clock_of job.now.format) }
+    ensures ending { IfOk result (λ story. IsEnding job.now input.now settings.limit story.ending) }
+    ensures table { IfOk result (λ story. table_in story.table ≡ meaning_table job.now input.now) }
+    ensures until { IfOk result (λ story. story.until ≡ until_if (nat_le (meaning_end job.now input.now) settings.limit) settings.limit) }
+    ensures events { IfOk result (λ story. events_shown story ≡ story_events settings.limit job.now input.now) }
+{
+    let (ending, table) = meaning_of(rt, alloc, job, input, settings, picker, gate)?;
+    let events = tell(alloc, job, input, &table)?;
+    Ok(Story {
+        ending,
+        clock: Clock::of(job.text_format()),
+        table,
+        until: shown_until(ending, settings.limit()),
+        events,
+    })
+}
+
+// Returns how the meaning of a job ends, compared with the limit, and the moments from which its scopes and nurseries are
+// cancelled and its events set.
+#[tactic(auto, using(crate::proofs::Told::is_ending, crate::proofs::Tables::is_of_meaning))]
+fn meaning_of<R: Threads + Sync, P: Pick, G: Gate + Sync>(
+    rt: &R,
+    alloc: Global,
+    job: &Job,
+    input: &[u8],
+    settings: Settings,
+    picker: &mut P,
+    gate: &G,
+) -> Result<(Ending, Froms), AllocError>
+    requires { length input.now ≤ MAX_INPUT }
+    ensures ending { IfOk result (λ r. IsEnding job.now input.now settings.limit r.0) }
+    ensures table { IfOk result (λ r. table_in r.1 ≡ meaning_table job.now input.now) }
 {
     law_froms_of_meaning();
     let run = run_to_end(rt, alloc, job, input, settings.workers(), picker, gate)?;
     let ending = ending_of(&run, settings.limit());
     let table = table_of(alloc, run)?;
-    Ok(Meaning {
-        ending,
-        clock: Clock::of(job.text_format()),
-        table,
-    })
+    Ok((ending, table))
+}
+
+// Returns the limit if the story of a job that ends so is cut off at it, and `None` otherwise.
+fn shown_until(ending: Ending, limit: u64) -> Option<u64>
+    ensures { result ≡ until_of ending limit }
+{
+    match ending {
+        Ending::Done | Ending::Raised => None,
+        Ending::Late => Some(limit),
+    }
 }
 
 // Returns how a run ended, compared with a limit.

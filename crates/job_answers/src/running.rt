@@ -1,13 +1,13 @@
-ghost use Rattle.std.specs.Prelude.{◌≤◌, length, IfOk};
+ghost use Rattle.std.specs.Prelude.{◌≡◌, ◌≤◌, length, IfOk};
 ghost use Rattle.job_meaning.specs.declared.limits.TheConstants.{MAX_INPUT};
-ghost use Rattle.job_answers.specs.Running.{AreRunning, IsJobRunning};
+ghost use Rattle.job_story.specs.Froms.{table_in};
+ghost use Rattle.job_answers.specs.Running.{running_lines, AreRunning, IsJobRunning};
+ghost use Rattle.job_answers.specs.Tellings.{events_shown};
 
-use crate::meaning::{Ending, meaning_of};
-use crate::telling::events_until;
+use crate::meaning::{Ending, Story, story_of};
 use job_reader::{Job, JobKind, read_job};
 use job_report::Question;
 use job_runner::{Gate, Pick, Settings};
-use job_story::tell;
 use std::alloc::{AllocError, Global};
 use std::thread::Threads;
 use story_text::{in_order, running_text};
@@ -40,6 +40,7 @@ pub fn running_at_limit<R: Threads + Sync, P: Pick, G: Gate + Sync>(
 }
 
 // Returns the same for a job that was read.
+#[tactic(auto, using(crate::proofs::Told::none_run, crate::proofs::Told::these_run))]
 fn running_of<R: Threads + Sync, P: Pick, G: Gate + Sync>(
     rt: &R,
     alloc: Global,
@@ -52,26 +53,28 @@ fn running_of<R: Threads + Sync, P: Pick, G: Gate + Sync>(
     requires { length input.now ≤ MAX_INPUT }
     ensures { IfOk result (λ lines. IsJobRunning job.now input.now settings.limit lines.items) }
 {
-    let meaning = meaning_of(rt, alloc, job, input, settings, picker, gate)?;
-    match meaning.ending {
+    let story = story_of(rt, alloc, job, input, settings, picker, gate)?;
+    match story.ending {
         Ending::Done | Ending::Raised => Ok(Vec::new(alloc)),
         Ending::Late => {
-            let events = tell(alloc, job, input, &meaning.table)?;
-            let walked = events_until(
-                alloc,
-                meaning.clock,
-                events.as_slice(),
-                Some(settings.limit()),
-            )?;
-            let sorted = in_order(alloc, walked.as_slice())?;
-            let lines = running_text(
-                alloc,
-                meaning.clock,
-                &meaning.table,
-                sorted.as_slice(),
-                walked.as_slice(),
-            )?;
+            let lines = running_lines(alloc, &story)?;
             Ok(lines)
         }
     }
+}
+
+// Returns a line for each task that has not ended in these events of a story, with what it is doing.
+fn running_lines(alloc: Global, story: &Story) -> Result<Vec<u8>, AllocError>
+    ensures { IfOk result (λ lines. lines.items ≡ running_lines story.now.clock (table_in story.now.table) (events_shown story.now)) }
+{
+    let walked = story.walked(alloc)?;
+    let sorted = in_order(alloc, walked.as_slice())?;
+    let lines = running_text(
+        alloc,
+        story.clock,
+        &story.table,
+        sorted.as_slice(),
+        walked.as_slice(),
+    )?;
+    Ok(lines)
 }

@@ -16,7 +16,7 @@ use story_text::{Known, in_order, kept_text, kept_text_to};
 
 // Returns the text of a story from its events in the order of the walk: of all tasks, or of those that concern one task. If
 // `until` is a tick, the story is cut off at it as a limit.
-pub(crate) fn story<'e>(
+pub(crate) fn text_of_story<'e>(
     alloc: Global,
     clock: Clock,
     walked: &[&'e Event],

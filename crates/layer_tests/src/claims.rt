@@ -7,7 +7,7 @@ use std::alloc::Global;
 use std::test::Fail;
 use std::thread;
 use std::thread::Threads;
-use worker_threads::{Claims, Pass};
+use workers::{Claims, Pass};
 
 // Whether two tickets draw two numbers in order, and nothing is left for the first then.
 fn draw_two(alloc: Global) -> Result<bool, Fail> {

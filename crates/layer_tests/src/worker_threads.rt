@@ -6,7 +6,7 @@ use std::alloc::{AllocError, Global};
 use std::sync::atomic::{AtomicU64, Ordering};
 use std::test::Fail;
 use std::thread::Threads;
-use worker_threads::{Bench, Content, Gate, NoGate, Slot, work};
+use workers::{Bench, Content, Gate, NoGate, Slot, work};
 
 // Three lines of two, one and four bytes.
 const BUFFER: &[u8] = b"aa\nb\ncccc\n";

@@ -7,3 +7,4 @@ pub mod Tasks
 pub mod Holds
 pub mod Added
 pub mod Nearest
+pub mod Until

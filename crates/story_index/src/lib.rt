@@ -33,6 +33,7 @@ mod rounds;
 mod sign;
 mod task_set;
 mod tasks;
+mod until;
 
 pub use causes::{Causes, Entering};
 pub use exc::is_cancellation;
@@ -43,3 +44,4 @@ pub use rounds::concerned_tasks;
 pub use sign::Cause;
 pub use task_set::TaskSet;
 pub use tasks::Tasks;
+pub use until::events_until;

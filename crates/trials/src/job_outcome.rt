@@ -15,13 +15,13 @@ ghost use Rattle.trials.specs.JobOutcomes.{IsJobOutcome, IsReached};
 
 use crate::summary::{Summary, summary_of};
 use exceptions::Label;
-use job_answers::events_until;
 use job_meaning::Clock;
 use job_reader::{Job, JobKind, Name, read_job};
 use job_story::Event;
 use outcomes::{JobOutcome, cut_in_cleanup, is_lost, is_lost_so_far, is_raised, sleeping_forever};
 use std::alloc::{AllocError, Global};
 use std::thread::Threads;
+use story_index::events_until;
 use story_text::in_order;
 
 /// Returns the outcome of the job that a text spells, over an input and up to a limit in ticks. `name` is the exception that

@@ -15,13 +15,13 @@ use crate::beside::found_in_run;
 use crate::copies::push_copies;
 use crate::moves::Moves;
 use crate::summary_of;
-use job_answers::events_until;
 use job_edits::{changed_text, finer_changes, shifts};
 use job_reader::{Job, JobFault, JobKind, read_job};
 use job_runner::{Forward, Gate, NoGate, Run, run_to_end};
 use race_text::{Found, Line, Ran};
 use std::alloc::{AllocError, Global};
 use std::thread::Threads;
+use story_index::events_until;
 use workers::answers_for;
 
 // Returns all lines of a text, given its own run, which ended by the limit.

@@ -8,6 +8,6 @@ use Rattle.commands.proofs.about.story_about_task.Goals as goal
 
 pub returns-in_default : goal.returns-in_default
 returns-in_default c =
-    told_of_none c.args.meaning.now.clock c.args.job.now.name (table_in c.args.meaning.now.table) c.args.until c.args.meaning.now.ending
+    told_of_none c.args.story.now.clock c.args.job.now.name (table_in c.args.story.now.table) c.args.story.now.until c.args.story.now.ending
     c.args.text.now (map event_in c.args.walked.now) c.in_ok-nearest.nearest (NoTask c.in_ok-nearest.nearest) c.new.result.items
     (sym c.in_ok-named.ensures ∙ ap label_seen c.in_default.is) c.in_ok-nearest.ensures refl c.new.ensures.items
