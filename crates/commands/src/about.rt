@@ -10,6 +10,7 @@ ghost use Rattle.commands.specs.Explaining.{IsTold};
 use exceptions::{Label, push_label};
 use job_answers::{Story, StoryVerdict};
 use job_reader::Job;
+use job_report::Answer;
 use job_story::Event;
 use json_story::story_json;
 use std::alloc::{AllocError, Global};
@@ -24,9 +25,9 @@ pub(crate) fn story_about(
     story: &Story,
     walked: &[&Event],
     task: Option<&[u8]>,
-) -> Result<(StoryVerdict, Vec<u8>), AllocError>
-    ensures { IfOk result (λ r. IsTold story.now.clock job.now.name (table_in story.now.table) story.now.until story.now.ending
-        (option_copied task.entry) (map event_in walked.now) r.0 r.1.items) }
+) -> Result<Answer<StoryVerdict>, AllocError>
+    ensures { IfOk result (λ answer. IsTold story.now.clock job.now.name (table_in story.now.table) story.now.until story.now.ending
+        (option_copied task.entry) (map event_in walked.now) answer.verdict answer.bytes.items) }
 {
     let Some(text) = task else {
         let bytes = story_json(
@@ -38,7 +39,10 @@ pub(crate) fn story_about(
             &story.table,
             None,
         )?;
-        return Ok((story.ending.verdict(), bytes));
+        return Ok(Answer {
+            verdict: story.ending.verdict(),
+            bytes,
+        });
     };
     let answer = story_about_task(alloc, job, story, walked, text)?;
     Ok(answer)
@@ -52,14 +56,17 @@ fn story_about_task(
     story: &Story,
     walked: &[&Event],
     text: &[u8],
-) -> Result<(StoryVerdict, Vec<u8>), AllocError>
-    ensures { IfOk result (λ r. IsTold story.now.clock job.now.name (table_in story.now.table) story.now.until story.now.ending
-        (Some text.now) (map event_in walked.now) r.0 r.1.items) }
+) -> Result<Answer<StoryVerdict>, AllocError>
+    ensures { IfOk result (λ answer. IsTold story.now.clock job.now.name (table_in story.now.table) story.now.until story.now.ending
+        (Some text.now) (map event_in walked.now) answer.verdict answer.bytes.items) }
 {
     let named = task_named(alloc, walked, text)?;
     let Some(label) = named else {
         let nearest = nearest_text(alloc, walked, text)?;
-        return Ok((StoryVerdict::NoTask { nearest }, Vec::new(alloc)));
+        return Ok(Answer {
+            verdict: StoryVerdict::NoTask { nearest },
+            bytes: Vec::new(alloc),
+        });
     };
     let bytes = story_json(
         alloc,
@@ -70,7 +77,10 @@ fn story_about_task(
         &story.table,
         Some(label),
     )?;
-    Ok((story.ending.verdict(), bytes))
+    Ok(Answer {
+        verdict: story.ending.verdict(),
+        bytes,
+    })
 }
 
 // Returns the text of the label of the task that is nearest to this text.

@@ -7,7 +7,7 @@ use crate::drawing::chart_of;
 use job_answers::{Ending, Verdict, refusal, story_of};
 use job_reader::{Job, read_job};
 use job_report::{Answer, Question};
-use job_runner::{Gate, Pick, Settings};
+use job_runner::{Gate, Pick};
 use std::alloc::{AllocError, Global};
 use std::thread::Threads;
 
@@ -35,9 +35,8 @@ pub fn chart<R: Threads + Sync, P: Pick, G: Gate + Sync>(
 {
     match read_job(alloc, question.text) {
         Ok(job) => {
-            let (input, settings) = (question.input, question.settings);
-            let (verdict, bytes) = job_chart(rt, alloc, &job, input, settings, form, picker, gate)?;
-            Ok(Answer { verdict, bytes })
+            let answer = job_chart(rt, alloc, &job, question, form, picker, gate)?;
+            Ok(answer)
         }
         Err(fault) => {
             let bytes = refusal(alloc, fault)?;
@@ -54,16 +53,16 @@ fn job_chart<R: Threads + Sync, P: Pick, G: Gate + Sync>(
     rt: &R,
     alloc: Global,
     job: &Job,
-    input: &[u8],
-    settings: Settings,
+    question: &Question<'_>,
     form: ChartForm,
     picker: &mut P,
     gate: &G,
-) -> Result<(Verdict, Vec<u8>), AllocError>
-    requires { length input.now ≤ MAX_INPUT }
-    ensures { IfOk result (λ r. IsJobVerdict form job.now input.now settings.limit r.0 r.1.items) }
+) -> Result<Answer<Verdict>, AllocError>
+    requires { length question.now.input.now ≤ MAX_INPUT }
+    ensures { IfOk result (λ answer. IsJobVerdict form job.now question.now.input.now question.now.settings.limit
+        answer.verdict answer.bytes.items) }
 {
-    let story = story_of(rt, alloc, job, input, settings, picker, gate)?;
+    let story = story_of(rt, alloc, job, question, picker, gate)?;
     let walked = story.walked(alloc)?;
     let bytes = chart_of(
         alloc,
@@ -73,7 +72,10 @@ fn job_chart<R: Threads + Sync, P: Pick, G: Gate + Sync>(
         &story.table,
         story.until,
     )?;
-    Ok((verdict_of(story.ending), bytes))
+    Ok(Answer {
+        verdict: verdict_of(story.ending),
+        bytes,
+    })
 }
 
 // Returns the verdict on a job that ends so.

@@ -8,7 +8,7 @@ use crate::answers::refusal;
 use job_answers::{StoryVerdict, story_of};
 use job_reader::{Job, read_job};
 use job_report::{Answer, Question};
-use job_runner::{Gate, Pick, Settings};
+use job_runner::{Gate, Pick};
 use std::alloc::{AllocError, Global};
 use std::thread::Threads;
 
@@ -38,9 +38,8 @@ pub fn story_document<R: Threads + Sync, P: Pick, G: Gate + Sync>(
     let job_text = question.text;
     match read_job(alloc, job_text) {
         Ok(job) => {
-            let (input, settings) = (question.input, question.settings);
-            let (verdict, bytes) = job_story(rt, alloc, &job, input, settings, task, picker, gate)?;
-            Ok(Answer { verdict, bytes })
+            let answer = job_story(rt, alloc, &job, question, task, picker, gate)?;
+            Ok(answer)
         }
         Err(fault) => {
             let bytes = refusal(alloc, job_text, fault)?;
@@ -57,16 +56,16 @@ fn job_story<R: Threads + Sync, P: Pick, G: Gate + Sync>(
     rt: &R,
     alloc: Global,
     job: &Job,
-    input: &[u8],
-    settings: Settings,
+    question: &Question<'_>,
     task: Option<&[u8]>,
     picker: &mut P,
     gate: &G,
-) -> Result<(StoryVerdict, Vec<u8>), AllocError>
-    requires { length input.now ≤ MAX_INPUT }
-    ensures { IfOk result (λ r. IsStoryVerdict job.now input.now settings.limit (option_copied task.entry) r.0 r.1.items) }
+) -> Result<Answer<StoryVerdict>, AllocError>
+    requires { length question.now.input.now ≤ MAX_INPUT }
+    ensures { IfOk result (λ answer. IsStoryVerdict job.now question.now.input.now question.now.settings.limit (option_copied task.entry)
+        answer.verdict answer.bytes.items) }
 {
-    let story = story_of(rt, alloc, job, input, settings, picker, gate)?;
+    let story = story_of(rt, alloc, job, question, picker, gate)?;
     let walked = story.walked(alloc)?;
     let answer = story_about(alloc, job, &story, walked.as_slice(), task)?;
     Ok(answer)

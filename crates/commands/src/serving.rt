@@ -6,7 +6,7 @@ use crate::answers::{past_limit, refusal};
 use job_answers::Verdict;
 use job_reader::{Job, read_job};
 use job_report::{Answer, Question};
-use job_runner::{Gate, Pick, RunFault, Settings, run};
+use job_runner::{Gate, Pick, RunFault, run};
 use json_story::report_json;
 use std::alloc::{AllocError, Global};
 use std::thread::Threads;
@@ -33,9 +33,8 @@ pub fn report_document<R: Threads + Sync, P: Pick, G: Gate + Sync>(
     let job_text = question.text;
     match read_job(alloc, job_text) {
         Ok(job) => {
-            let (input, settings) = (question.input, question.settings);
-            let (verdict, bytes) = job_answer(rt, alloc, &job, input, settings, picker, gate)?;
-            Ok(Answer { verdict, bytes })
+            let answer = job_answer(rt, alloc, &job, question, picker, gate)?;
+            Ok(answer)
         }
         Err(fault) => {
             let bytes = refusal(alloc, job_text, fault)?;
@@ -52,24 +51,35 @@ fn job_answer<R: Threads + Sync, P: Pick, G: Gate + Sync>(
     rt: &R,
     alloc: Global,
     job: &Job,
-    input: &[u8],
-    settings: Settings,
+    question: &Question<'_>,
     picker: &mut P,
     gate: &G,
-) -> Result<(Verdict, Vec<u8>), AllocError>
-    requires { length input.now ≤ MAX_INPUT }
-    ensures { IfOk result (λ r. IsJobVerdict job.now input.now settings.limit r.0 r.1.items) }
+) -> Result<Answer<Verdict>, AllocError>
+    requires { length question.now.input.now ≤ MAX_INPUT }
+    ensures { IfOk result (λ answer. IsJobVerdict job.now question.now.input.now question.now.settings.limit answer.verdict answer.bytes.items) }
 {
-    match run(rt, alloc, job, input, settings, picker, gate) {
+    match run(
+        rt,
+        alloc,
+        job,
+        question.input,
+        question.settings,
+        picker,
+        gate,
+    ) {
         Ok(finished) => {
             let verdict = if finished.is_well() {
                 Verdict::Done
             } else {
                 Verdict::Raised
             };
-            Ok((verdict, report_json(alloc, &finished)?))
+            let bytes = report_json(alloc, &finished)?;
+            Ok(Answer { verdict, bytes })
         }
-        Err(RunFault::Limit { limit }) => Ok((Verdict::Limit, past_limit(alloc, limit)?)),
+        Err(RunFault::Limit { limit }) => Ok(Answer {
+            verdict: Verdict::Limit,
+            bytes: past_limit(alloc, limit)?,
+        }),
         Err(RunFault::NoMemory) => Err(AllocError),
     }
 }

@@ -36,11 +36,8 @@ pub fn explain<R: Threads + Sync, P: Pick, G: Gate + Sync>(
 {
     match read_job(alloc, question.text) {
         Ok(job) => {
-            let (input, settings) = (question.input, question.settings);
-            let (verdict, bytes) = job_verdict(
-                rt, alloc, &job, input, settings, task, picker, gate,
-            )?;
-            Ok(Answer { verdict, bytes })
+            let answer = job_verdict(rt, alloc, &job, question, task, picker, gate)?;
+            Ok(answer)
         }
         Err(fault) => {
             let bytes = refusal(alloc, fault)?;

@@ -14,7 +14,8 @@ use crate::story_verdict::StoryVerdict;
 use crate::table::table_of;
 use job_meaning::Clock;
 use job_reader::Job;
-use job_runner::{Gate, Pick, Run, Settings, run_to_end};
+use job_report::Question;
+use job_runner::{Gate, Pick, Run, run_to_end};
 use job_story::{Event, Froms, law_froms_of_meaning, tell};
 use std::alloc::{AllocError, Global};
 use std::thread::Threads;
@@ -68,32 +69,32 @@ impl Story {
     }
 }
 
-/// Runs a job over an input to its end, and returns the story of its meaning as far as the limit of the settings shows it. The
-/// picker, the number of workers and the gate change nothing. The caller must ensure that the input has at most 16,777,216 bytes
+/// Runs a job, which was read, over the input of a question to its end, and returns the story of its meaning as far as the limit
+/// of the question shows it. The picker, the number of workers and the gate change nothing. The caller must ensure that the input has at most 16,777,216 bytes
 /// (`MAX_INPUT`). Returns `AllocError` if memory runs out.
 pub fn story_of<R: Threads + Sync, P: Pick, G: Gate + Sync>(
     rt: &R,
     alloc: Global,
     job: &Job,
-    input: &[u8],
-    settings: Settings,
+    question: &Question<'_>,
     picker: &mut P,
     gate: &G,
 ) -> Result<Story, AllocError>
-    requires { length input.now ≤ MAX_INPUT }
+    requires { length question.now.input.now ≤ MAX_INPUT }
     ensures clock { IfOk result (λ story. story.clock ≡ clock_of job.now.format) }
-    ensures ending { IfOk result (λ story. IsEnding job.now input.now settings.limit story.ending) }
-    ensures table { IfOk result (λ story. table_in story.table ≡ meaning_table job.now input.now) }
-    ensures until { IfOk result (λ story. story.until ≡ until_if (nat_le (meaning_end job.now input.now) settings.limit) settings.limit) }
-    ensures events { IfOk result (λ story. events_shown story ≡ story_events settings.limit job.now input.now) }
+    ensures ending { IfOk result (λ story. IsEnding job.now question.now.input.now question.now.settings.limit story.ending) }
+    ensures table { IfOk result (λ story. table_in story.table ≡ meaning_table job.now question.now.input.now) }
+    ensures until { IfOk result (λ story. story.until ≡ until_if (nat_le (meaning_end job.now question.now.input.now) question.now.settings.limit)
+        question.now.settings.limit) }
+    ensures events { IfOk result (λ story. events_shown story ≡ story_events question.now.settings.limit job.now question.now.input.now) }
 {
-    let (ending, table) = meaning_of(rt, alloc, job, input, settings, picker, gate)?;
-    let events = tell(alloc, job, input, &table)?;
+    let (ending, table) = meaning_of(rt, alloc, job, question, picker, gate)?;
+    let events = tell(alloc, job, question.input, &table)?;
     Ok(Story {
         ending,
         clock: Clock::of(job.text_format()),
         table,
-        until: shown_until(ending, settings.limit()),
+        until: shown_until(ending, question.settings.limit()),
         events,
     })
 }
@@ -105,18 +106,25 @@ fn meaning_of<R: Threads + Sync, P: Pick, G: Gate + Sync>(
     rt: &R,
     alloc: Global,
     job: &Job,
-    input: &[u8],
-    settings: Settings,
+    question: &Question<'_>,
     picker: &mut P,
     gate: &G,
 ) -> Result<(Ending, Froms), AllocError>
-    requires { length input.now ≤ MAX_INPUT }
-    ensures ending { IfOk result (λ r. IsEnding job.now input.now settings.limit r.0) }
-    ensures table { IfOk result (λ r. table_in r.1 ≡ meaning_table job.now input.now) }
+    requires { length question.now.input.now ≤ MAX_INPUT }
+    ensures ending { IfOk result (λ r. IsEnding job.now question.now.input.now question.now.settings.limit r.0) }
+    ensures table { IfOk result (λ r. table_in r.1 ≡ meaning_table job.now question.now.input.now) }
 {
     law_froms_of_meaning();
-    let run = run_to_end(rt, alloc, job, input, settings.workers(), picker, gate)?;
-    let ending = ending_of(&run, settings.limit());
+    let run = run_to_end(
+        rt,
+        alloc,
+        job,
+        question.input,
+        question.settings.workers(),
+        picker,
+        gate,
+    )?;
+    let ending = ending_of(&run, question.settings.limit());
     let table = table_of(alloc, run)?;
     Ok((ending, table))
 }

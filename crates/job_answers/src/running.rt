@@ -7,7 +7,7 @@ ghost use Rattle.job_answers.specs.Tellings.{events_shown};
 use crate::meaning::{Ending, Story, story_of};
 use job_reader::{Job, JobKind, read_job};
 use job_report::Question;
-use job_runner::{Gate, Pick, Settings};
+use job_runner::{Gate, Pick};
 use std::alloc::{AllocError, Global};
 use std::thread::Threads;
 use story_text::{in_order, running_text};
@@ -28,8 +28,7 @@ pub fn running_at_limit<R: Threads + Sync, P: Pick, G: Gate + Sync>(
 {
     match read_job(alloc, question.text) {
         Ok(job) => {
-            let (input, settings) = (question.input, question.settings);
-            let lines = running_of(rt, alloc, &job, input, settings, picker, gate)?;
+            let lines = running_of(rt, alloc, &job, question, picker, gate)?;
             Ok(lines)
         }
         Err(fault) => match fault.kind {
@@ -45,15 +44,14 @@ fn running_of<R: Threads + Sync, P: Pick, G: Gate + Sync>(
     rt: &R,
     alloc: Global,
     job: &Job,
-    input: &[u8],
-    settings: Settings,
+    question: &Question<'_>,
     picker: &mut P,
     gate: &G,
 ) -> Result<Vec<u8>, AllocError>
-    requires { length input.now ≤ MAX_INPUT }
-    ensures { IfOk result (λ lines. IsJobRunning job.now input.now settings.limit lines.items) }
+    requires { length question.now.input.now ≤ MAX_INPUT }
+    ensures { IfOk result (λ lines. IsJobRunning job.now question.now.input.now question.now.settings.limit lines.items) }
 {
-    let story = story_of(rt, alloc, job, input, settings, picker, gate)?;
+    let story = story_of(rt, alloc, job, question, picker, gate)?;
     match story.ending {
         Ending::Done | Ending::Raised => Ok(Vec::new(alloc)),
         Ending::Late => {

@@ -62,9 +62,8 @@ pub fn report_answer<R: Threads + Sync, P: Pick, G: Gate + Sync>(
 {
     match read_job(alloc, question.text) {
         Ok(job) => {
-            let (input, settings) = (question.input, question.settings);
-            let (verdict, bytes) = run_answer(rt, alloc, &job, input, settings, picker, gate)?;
-            Ok(Answer { verdict, bytes })
+            let answer = run_answer(rt, alloc, &job, question, picker, gate)?;
+            Ok(answer)
         }
         Err(fault) => {
             let bytes = refusal(alloc, fault)?;
@@ -81,24 +80,35 @@ fn run_answer<R: Threads + Sync, P: Pick, G: Gate + Sync>(
     rt: &R,
     alloc: Global,
     job: &Job,
-    input: &[u8],
-    settings: Settings,
+    question: &Question<'_>,
     picker: &mut P,
     gate: &G,
-) -> Result<(Verdict, Vec<u8>), AllocError>
-    requires { length input.now ≤ MAX_INPUT }
-    ensures { IfOk result (λ r. IsRunVerdict job.now input.now settings.limit r.0 r.1.items) }
+) -> Result<Answer<Verdict>, AllocError>
+    requires { length question.now.input.now ≤ MAX_INPUT }
+    ensures { IfOk result (λ answer. IsRunVerdict job.now question.now.input.now question.now.settings.limit answer.verdict answer.bytes.items) }
 {
-    match run(rt, alloc, job, input, settings, picker, gate) {
+    match run(
+        rt,
+        alloc,
+        job,
+        question.input,
+        question.settings,
+        picker,
+        gate,
+    ) {
         Ok(finished) => {
             let verdict = if finished.is_well() {
                 Verdict::Done
             } else {
                 Verdict::Raised
             };
-            Ok((verdict, report(alloc, &finished)?))
+            let bytes = report(alloc, &finished)?;
+            Ok(Answer { verdict, bytes })
         }
-        Err(RunFault::Limit { limit }) => Ok((Verdict::Limit, past_limit(alloc, limit)?)),
+        Err(RunFault::Limit { limit }) => Ok(Answer {
+            verdict: Verdict::Limit,
+            bytes: past_limit(alloc, limit)?,
+        }),
         Err(RunFault::NoMemory) => Err(AllocError),
     }
 }

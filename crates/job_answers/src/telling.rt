@@ -11,7 +11,8 @@ use crate::meaning::{Story, story_of};
 use crate::story_verdict::StoryVerdict;
 use crate::text::text_of_story;
 use job_reader::Job;
-use job_runner::{Gate, Pick, Settings};
+use job_report::{Answer, Question};
+use job_runner::{Gate, Pick};
 use job_story::Event;
 use std::alloc::{AllocError, Global};
 use std::thread::Threads;
@@ -21,16 +22,16 @@ pub(crate) fn job_verdict<R: Threads + Sync, P: Pick, G: Gate + Sync>(
     rt: &R,
     alloc: Global,
     job: &Job,
-    input: &[u8],
-    settings: Settings,
+    question: &Question<'_>,
     task: Option<&[u8]>,
     picker: &mut P,
     gate: &G,
-) -> Result<(StoryVerdict, Vec<u8>), AllocError>
-    requires { length input.now ≤ MAX_INPUT }
-    ensures { IfOk result (λ r. IsJobVerdict job.now input.now settings.limit (option_copied task.entry) r.0 r.1.items) }
+) -> Result<Answer<StoryVerdict>, AllocError>
+    requires { length question.now.input.now ≤ MAX_INPUT }
+    ensures { IfOk result (λ answer. IsJobVerdict job.now question.now.input.now question.now.settings.limit (option_copied task.entry)
+        answer.verdict answer.bytes.items) }
 {
-    let story = story_of(rt, alloc, job, input, settings, picker, gate)?;
+    let story = story_of(rt, alloc, job, question, picker, gate)?;
     let walked = story.walked(alloc)?;
     let answer = story_about(alloc, &story, walked.as_slice(), task)?;
     Ok(answer)
@@ -43,14 +44,17 @@ fn story_about(
     story: &Story,
     walked: &[&Event],
     task: Option<&[u8]>,
-) -> Result<(StoryVerdict, Vec<u8>), AllocError>
-    ensures { IfOk result (λ r. IsTold story.now.clock (table_in story.now.table) story.now.until story.now.ending (option_copied task.entry)
-        (map event_in walked.now) r.0 r.1.items) }
+) -> Result<Answer<StoryVerdict>, AllocError>
+    ensures { IfOk result (λ answer. IsTold story.now.clock (table_in story.now.table) story.now.until story.now.ending (option_copied task.entry)
+        (map event_in walked.now) answer.verdict answer.bytes.items) }
 {
     match about_of(alloc, walked, task)? {
         About::All => {
             let bytes = text_of_story(alloc, story.clock, walked, &story.table, None, story.until)?;
-            Ok((story.ending.verdict(), bytes))
+            Ok(Answer {
+                verdict: story.ending.verdict(),
+                bytes,
+            })
         }
         About::Task(label) => {
             let bytes = text_of_story(
@@ -61,8 +65,14 @@ fn story_about(
                 Some(label),
                 story.until,
             )?;
-            Ok((story.ending.verdict(), bytes))
+            Ok(Answer {
+                verdict: story.ending.verdict(),
+                bytes,
+            })
         }
-        About::NoTask { nearest } => Ok((StoryVerdict::NoTask { nearest }, Vec::new(alloc))),
+        About::NoTask { nearest } => Ok(Answer {
+            verdict: StoryVerdict::NoTask { nearest },
+            bytes: Vec::new(alloc),
+        }),
     }
 }

@@ -8,5 +8,5 @@ use Rattle.commands.proofs.about.story_about.Goals as goal
 pub returns : goal.returns
 returns c =
     told_of_some c.args.story.now.clock c.args.job.now.name (table_in c.args.story.now.table) c.args.story.now.until c.args.story.now.ending
-    (option_copied c.args.task) c.in-Some.text.now (map event_in c.args.walked.now) c.in_ok-answer.answer.0 c.in_ok-answer.answer.1.items
+    (option_copied c.args.task) c.in-Some.text.now (map event_in c.args.walked.now) c.in_ok-answer.answer.verdict c.in_ok-answer.answer.bytes.items
     (ap option_copied c.in-Some.is) c.in_ok-answer.ensures
