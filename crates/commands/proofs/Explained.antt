@@ -21,33 +21,33 @@ use Rattle.job_meaning.specs.Moments.{clock_of}
 use Rattle.job_meaning.specs.declared.clock.Clock.{Clock}
 use Rattle.json_story.specs.Values.{document}
 use Rattle.json_story.specs.Stories.{story_json}
-use Rattle.commands.specs.Explaining.{meaning_story, IsStoryVerdict, IsStory, IsTold}
+use Rattle.commands.specs.Explaining.{meaning_story, IsStoryVerdict, IsStory, IsStoryAbout}
 
 -- ---- which task was asked for
 
-pub told_of_all : (clock : Clock) (name : List ℕ) (table : Table) (until : Tick) (ending : Ending) (asked : Option (List ℕ)) (walked : List Event)
+pub story_about_all : (clock : Clock) (name : List ℕ) (table : Table) (until : Tick) (ending : Ending) (asked : Option (List ℕ)) (walked : List Event)
     (given : StoryVerdict) (bytes : List ℕ) → asked ≡ None → given ≡ verdict_of ending →
-    bytes ≡ document (story_json clock name until table None walked) → IsTold clock name table until ending asked walked given bytes
-told_of_all clock name table until ending None walked given bytes e is text = inl (None, refl, is, text)
-told_of_all clock name table until ending (Some asked) walked given bytes e is text = absurd (let f : Some asked ≡ None = e in cc)
+    bytes ≡ document (story_json clock name until table None walked) → IsStoryAbout clock name table until ending asked walked given bytes
+story_about_all clock name table until ending None walked given bytes e is text = inl (None, refl, is, text)
+story_about_all clock name table until ending (Some asked) walked given bytes e is text = absurd (let f : Some asked ≡ None = e in cc)
 
-pub told_of_task : (clock : Clock) (name : List ℕ) (table : Table) (until : Tick) (ending : Ending) (asked : List ℕ) (walked : List Event)
+pub story_about_one : (clock : Clock) (name : List ℕ) (table : Table) (until : Tick) (ending : Ending) (asked : List ℕ) (walked : List Event)
     (label : Label) (given : StoryVerdict) (bytes : List ℕ) → task_named asked walked ≡ Some label → given ≡ verdict_of ending →
-    bytes ≡ document (story_json clock name until table (Some label) walked) → IsTold clock name table until ending (Some asked) walked given bytes
-told_of_task clock name table until ending asked walked label given bytes found is text = inl (Some label, (refl, sym found), is, text)
+    bytes ≡ document (story_json clock name until table (Some label) walked) → IsStoryAbout clock name table until ending (Some asked) walked given bytes
+story_about_one clock name table until ending asked walked label given bytes found is text = inl (Some label, (refl, sym found), is, text)
 
 -- the verdict and the bytes if a task was asked for that the story does not have
-pub told_of_none : (clock : Clock) (name : List ℕ) (table : Table) (until : Tick) (ending : Ending) (asked : List ℕ) (walked : List Event)
+pub story_about_none : (clock : Clock) (name : List ℕ) (table : Table) (until : Tick) (ending : Ending) (asked : List ℕ) (walked : List Event)
     (nearest : Vec ℕ) (given : StoryVerdict) (bytes : List ℕ) → task_named asked walked ≡ None →
     nearest.items ≡ label_or_nothing (nearest_in asked walked) → given ≡ story.NoTask nearest → bytes ≡ [] →
-    IsTold clock name table until ending (Some asked) walked given bytes
-told_of_none clock name table until ending asked walked nearest given bytes none is told text = inr (nearest, (none, is), told, text)
+    IsStoryAbout clock name table until ending (Some asked) walked given bytes
+story_about_none clock name table until ending asked walked nearest given bytes none is told text = inr (nearest, (none, is), told, text)
 
-pub told_of_some : (clock : Clock) (name : List ℕ) (table : Table) (until : Tick) (ending : Ending) (asked : Option (List ℕ)) (text : List ℕ)
+pub story_about_some : (clock : Clock) (name : List ℕ) (table : Table) (until : Tick) (ending : Ending) (asked : Option (List ℕ)) (text : List ℕ)
     (walked : List Event) (given : StoryVerdict) (bytes : List ℕ) → asked ≡ Some text →
-    IsTold clock name table until ending (Some text) walked given bytes → IsTold clock name table until ending asked walked given bytes
-told_of_some clock name table until ending asked text walked given bytes is =
-    subst (λ (o : Option (List ℕ)). IsTold clock name table until ending o walked given bytes) (sym is)
+    IsStoryAbout clock name table until ending (Some text) walked given bytes → IsStoryAbout clock name table until ending asked walked given bytes
+story_about_some clock name table until ending asked text walked given bytes is =
+    subst (λ (o : Option (List ℕ)). IsStoryAbout clock name table until ending o walked given bytes) (sym is)
 
 -- ---- the verdict on a job
 
@@ -60,7 +60,7 @@ verdict_is job input limit asked Late task bytes h about is = (record { task = t
 
 by_told : (job : Tree) (input : List ℕ) (limit : ℕ) (asked : Option (List ℕ)) (ending : Ending) (given : StoryVerdict)
     (bytes : List ℕ) → IsEnding job input limit ending →
-    IsTold (clock_of job.format) job.name (meaning_table job input) (until_if (nat_le (meaning_end job input) limit) limit) ending asked (story_events limit job input) given bytes →
+    IsStoryAbout (clock_of job.format) job.name (meaning_table job input) (until_if (nat_le (meaning_end job input) limit) limit) ending asked (story_events limit job input) given bytes →
     IsStoryVerdict job input limit asked given bytes
 by_told job input limit asked ending given bytes h (inl t) =
     subst (λ (v : StoryVerdict). IsStoryVerdict job input limit asked v bytes) (sym t.2)
@@ -73,13 +73,13 @@ pub job_explained : (job : Tree) (input : List ℕ) (limit : ℕ) (asked : Optio
     (until : Tick) (walked : List Event) (given : StoryVerdict) (bytes : List ℕ) → IsEnding job input limit ending →
     clock ≡ clock_of job.format → table ≡ meaning_table job input → until ≡ until_if (nat_le (meaning_end job input) limit) limit →
     walked ≡ story_events limit job input →
-    IsTold clock job.name table until ending asked walked given bytes → IsStoryVerdict job input limit asked given bytes
+    IsStoryAbout clock job.name table until ending asked walked given bytes → IsStoryVerdict job input limit asked given bytes
 job_explained job input limit asked ending clock table until walked given bytes h counts same until_is walked_is t =
     by_told job input limit asked ending given bytes h
-    (subst (λ (es : List Event). IsTold (clock_of job.format) job.name (meaning_table job input) (until_if (nat_le (meaning_end job input) limit) limit) ending asked es given bytes) walked_is
-    (subst (λ (u : Tick). IsTold (clock_of job.format) job.name (meaning_table job input) u ending asked walked given bytes) until_is
-    (subst (λ (k : Table). IsTold (clock_of job.format) job.name k until ending asked walked given bytes) same
-    (subst (λ (c : Clock). IsTold c job.name table until ending asked walked given bytes) counts t))))
+    (subst (λ (es : List Event). IsStoryAbout (clock_of job.format) job.name (meaning_table job input) (until_if (nat_le (meaning_end job input) limit) limit) ending asked es given bytes) walked_is
+    (subst (λ (u : Tick). IsStoryAbout (clock_of job.format) job.name (meaning_table job input) u ending asked walked given bytes) until_is
+    (subst (λ (k : Table). IsStoryAbout (clock_of job.format) job.name k until ending asked walked given bytes) same
+    (subst (λ (c : Clock). IsStoryAbout c job.name table until ending asked walked given bytes) counts t))))
 
 -- ---- the verdict on a text
 

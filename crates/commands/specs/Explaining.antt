@@ -55,8 +55,8 @@ IsStory text input limit asked verdict bytes = (job : Tree) × Spells text job �
 
 -- a verdict on a story with these events, and its bytes: of all tasks, or of those that concern one; nothing if no task has the
 -- label
-abbrev pub IsTold : Clock → List ℕ → Table → Tick → Ending → Option (List ℕ) → List Event → StoryVerdict → List ℕ → Type 0
-IsTold clock name table until ending asked walked given bytes =
+abbrev pub IsStoryAbout : Clock → List ℕ → Table → Tick → Ending → Option (List ℕ) → List Event → StoryVerdict → List ℕ → Type 0
+IsStoryAbout clock name table until ending asked walked given bytes =
     ((task : Option Label) × IsAbout asked walked task × (given ≡ verdict_of ending)
     × (bytes ≡ document (story_json clock name until table task walked)))
     ⊎ ((nearest : Vec ℕ) × IsAboutNone asked walked nearest.items × (given ≡ story.NoTask nearest) × (bytes ≡ []))

@@ -11,7 +11,7 @@ use Rattle.commands.specs.Forms.{refusal_in}
 use Rattle.commands.specs.declared.form.Form.{Form}
 use Rattle.commands.specs.declared.form.Form.TheVariants.{Text, Json}
 use Rattle.commands.specs.declared.verdict.FaultsVerdict.{FaultsVerdict}
-use Rattle.commands.specs.declared.verdict.FaultsVerdict.TheVariants.{Told, JobRefused}
+use Rattle.commands.specs.declared.verdict.FaultsVerdict.TheVariants.{Lines, JobRefused}
 
 -- the table of the outcome of a job without a fault, and with each fault
 abbrev pub table_in : Form → ℕ → (brief : Bool) → JobOutcome → List Line → Untried → List ℕ
@@ -33,6 +33,6 @@ pub record IsTable (form : Form) (text input : List ℕ) (limit : ℕ) (o : Opti
 
 -- a verdict and its bytes
 abbrev pub IsVerdict : Form → List ℕ → List ℕ → ℕ → Options → FaultsVerdict → List ℕ → Type 0
-IsVerdict form text input limit o (Told denied) bytes = IsTable form text input limit o denied.items bytes
+IsVerdict form text input limit o (Lines denied) bytes = IsTable form text input limit o denied.items bytes
 IsVerdict form text input limit o (JobRefused fault) bytes =
     IsRefused text fault.kind fault.at × (bytes ≡ refusal_in form text fault)

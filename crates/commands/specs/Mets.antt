@@ -5,9 +5,9 @@ use Rattle.commands.specs.Faults as faults
 use Rattle.commands.specs.Races as races
 use Rattle.commands.specs.declared.form.Form.TheVariants.{Text}
 use Rattle.commands.specs.declared.verdict.FaultsVerdict.{FaultsVerdict}
-use Rattle.commands.specs.declared.verdict.FaultsVerdict.TheVariants as told_faults
+use Rattle.commands.specs.declared.verdict.FaultsVerdict.TheVariants as of_faults
 use Rattle.commands.specs.declared.verdict.RacesVerdict.{RacesVerdict}
-use Rattle.commands.specs.declared.verdict.RacesVerdict.TheVariants as told_races
+use Rattle.commands.specs.declared.verdict.RacesVerdict.TheVariants as of_races
 use Rattle.expect_text.specs.Patterns.{first_match}
 use Rattle.expect_text.specs.Expectations.{Expected, present, absent, no_races, no_faults}
 use Rattle.commands.specs.Outputs.{plain_options}
@@ -47,14 +47,14 @@ denied_answer [] = yes
 denied_answer (b ∷ bs) = denied (b ∷ bs)
 
 abbrev pub races_answer : RacesVerdict → Answer
-races_answer (told_races.Told lines) = denied_answer lines.items
-races_answer (told_races.JobRefused fault) = untold
-races_answer told_races.Limit = untold
-races_answer told_races.NoFinerTicks = untold
+races_answer (of_races.Lines lines) = denied_answer lines.items
+races_answer (of_races.JobRefused fault) = untold
+races_answer of_races.Limit = untold
+races_answer of_races.NoFinerTicks = untold
 
 abbrev pub faults_answer : FaultsVerdict → Answer
-faults_answer (told_faults.Told lines) = denied_answer lines.items
-faults_answer (told_faults.JobRefused fault) = untold
+faults_answer (of_faults.Lines lines) = denied_answer lines.items
+faults_answer (of_faults.JobRefused fault) = untold
 
 -- the answer from the verdict of `races` on a job text over an input, where races are denied
 abbrev pub IsRacesMet : (text input : List ℕ) → (limit : ℕ) → Answer → Type 0

@@ -14,7 +14,7 @@ use Rattle.commands.specs.declared.form.Form.{Form}
 use Rattle.commands.specs.declared.form.Form.TheVariants.{Text}
 use Rattle.commands.specs.declared.verdict.FaultsVerdict.{FaultsVerdict}
 use Rattle.commands.specs.declared.verdict.RacesVerdict.{RacesVerdict}
-use Rattle.commands.specs.declared.verdict.SweepVerdict.TheVariants.{Told, JobRefused}
+use Rattle.commands.specs.declared.verdict.SweepVerdict.TheVariants.{Lines, JobRefused}
 use Rattle.outcomes.specs.Table.{Options}
 use Rattle.outcomes.specs.declared.deny.Deny.{Deny}
 use Rattle.job_edits.specs.declared.number.Target.{Target}
@@ -71,7 +71,7 @@ extension_text Races = codes "races"
 -- the outcomes of the job for these values of one of its numbers, or the refusal of the text in their place
 abbrev pub IsSweep : Form → (text input : List ℕ) → (limit : ℕ) → Target → (values bytes : List ℕ) → Type 0
 IsSweep form text input limit target values bytes =
-    sweeps.IsVerdict form text input limit target values Told bytes
+    sweeps.IsVerdict form text input limit target values Lines bytes
     ⊎ ((fault : JobFault) × sweeps.IsVerdict form text input limit target values (JobRefused fault) bytes)
 
 -- the same, or `None` where the text does not have that number

@@ -11,7 +11,7 @@ use Rattle.commands.specs.Forms.{refusal_in, limit_in}
 use Rattle.commands.specs.declared.form.Form.{Form}
 use Rattle.commands.specs.declared.form.Form.TheVariants.{Text, Json}
 use Rattle.commands.specs.declared.verdict.RacesVerdict.{RacesVerdict}
-use Rattle.commands.specs.declared.verdict.RacesVerdict.TheVariants.{Told, JobRefused, Limit, NoFinerTicks}
+use Rattle.commands.specs.declared.verdict.RacesVerdict.TheVariants.{Lines, JobRefused, Limit, NoFinerTicks}
 
 -- the table of the lines for this number of hairs
 abbrev pub table_in : Form → ℕ → List Line → List ℕ
@@ -30,7 +30,7 @@ IsTable form text input limit deny denied bytes =
 
 -- a verdict and its bytes
 abbrev pub IsVerdict : Form → List ℕ → List ℕ → ℕ → Bool → RacesVerdict → List ℕ → Type 0
-IsVerdict form text input limit deny (Told denied) bytes = IsTable form text input limit deny denied.items bytes
+IsVerdict form text input limit deny (Lines denied) bytes = IsTable form text input limit deny denied.items bytes
 IsVerdict form text input limit deny (JobRefused fault) bytes =
     IsRefused text fault.kind fault.at × (bytes ≡ refusal_in form text fault)
 IsVerdict form text input limit deny Limit bytes = IsLate text input limit × (bytes ≡ limit_in form limit)

@@ -14,17 +14,17 @@ one_if_some [] = 0
 one_if_some (b ∷ bs) = 1
 
 abbrev pub faults_status_of : FaultsVerdict → ℕ
-faults_status_of (of_faults.Told denied) = one_if_some denied.items
+faults_status_of (of_faults.Lines denied) = one_if_some denied.items
 faults_status_of (of_faults.JobRefused fault) = 2
 
 abbrev pub races_status_of : RacesVerdict → ℕ
-races_status_of (of_races.Told denied) = one_if_some denied.items
+races_status_of (of_races.Lines denied) = one_if_some denied.items
 races_status_of (of_races.JobRefused fault) = 2
 races_status_of of_races.Limit = 3
 races_status_of of_races.NoFinerTicks = 2
 
 abbrev pub sweep_status_of : SweepVerdict → ℕ
-sweep_status_of of_sweep.Told = 0
+sweep_status_of of_sweep.Lines = 0
 sweep_status_of (of_sweep.JobRefused fault) = 2
 sweep_status_of (of_sweep.NoTarget missing) = 2
 

@@ -13,7 +13,7 @@ use Rattle.commands.specs.Forms.{refusal_in}
 use Rattle.commands.specs.declared.form.Form.{Form}
 use Rattle.commands.specs.declared.form.Form.TheVariants.{Text, Json}
 use Rattle.commands.specs.declared.verdict.SweepVerdict.{SweepVerdict}
-use Rattle.commands.specs.declared.verdict.SweepVerdict.TheVariants.{Told, JobRefused, NoTarget}
+use Rattle.commands.specs.declared.verdict.SweepVerdict.TheVariants.{Lines, JobRefused, NoTarget}
 
 -- the outcome of a job with its own value, and for each value
 abbrev pub table_in : Form → ℕ → JobOutcome → List Value → List ℕ
@@ -29,7 +29,7 @@ pub record IsSweep (form : Form) (text input : List ℕ) (limit : ℕ) (target :
 
 -- a verdict and its bytes
 abbrev pub IsVerdict : Form → List ℕ → List ℕ → ℕ → Target → List ℕ → SweepVerdict → List ℕ → Type 0
-IsVerdict form text input limit target values Told bytes = IsSweep form text input limit target values bytes
+IsVerdict form text input limit target values Lines bytes = IsSweep form text input limit target values bytes
 IsVerdict form text input limit target values (JobRefused fault) bytes =
     IsRefused text fault.kind fault.at × (bytes ≡ refusal_in form text fault)
 IsVerdict form text input limit target values (NoTarget missing) bytes = IsWithoutTarget text target missing × (bytes ≡ [])

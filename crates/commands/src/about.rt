@@ -5,7 +5,7 @@ ghost use Rattle.story_index.specs.Seen.{event_in};
 ghost use Rattle.story_index.specs.Holds.{label_seen};
 ghost use Rattle.story_index.specs.Nearest.{nearest_in};
 ghost use Rattle.job_answers.specs.Stories.{label_or_nothing};
-ghost use Rattle.commands.specs.Explaining.{IsTold};
+ghost use Rattle.commands.specs.Explaining.{IsStoryAbout};
 
 use exceptions::{Label, push_label};
 use job_answers::{Story, StoryVerdict};
@@ -18,7 +18,7 @@ use story_index::{nearest_task, task_named};
 
 // Returns the verdict on a story with these events, and its document: of all tasks, or of what concerns the one that is
 // requested.
-#[tactic(auto, using(crate::proofs::Explained::told_of_all))]
+#[tactic(auto, using(crate::proofs::Explained::story_about_all))]
 pub(crate) fn story_about(
     alloc: Global,
     job: &Job,
@@ -26,7 +26,7 @@ pub(crate) fn story_about(
     walked: &[&Event],
     task: Option<&[u8]>,
 ) -> Result<Answer<StoryVerdict>, AllocError>
-    ensures { IfOk result (λ answer. IsTold story.now.clock job.now.name (table_in story.now.table) story.now.until story.now.ending
+    ensures { IfOk result (λ answer. IsStoryAbout story.now.clock job.now.name (table_in story.now.table) story.now.until story.now.ending
         (option_copied task.entry) (map event_in walked.now) answer.verdict answer.bytes.items) }
 {
     let Some(text) = task else {
@@ -49,7 +49,7 @@ pub(crate) fn story_about(
 }
 
 // Returns the same for what concerns the task whose label has this text. If there is none, the document is empty.
-#[tactic(auto, using(crate::proofs::Explained::told_of_task, crate::proofs::Explained::told_of_none))]
+#[tactic(auto, using(crate::proofs::Explained::story_about_one, crate::proofs::Explained::story_about_none))]
 fn story_about_task(
     alloc: Global,
     job: &Job,
@@ -57,7 +57,7 @@ fn story_about_task(
     walked: &[&Event],
     text: &[u8],
 ) -> Result<Answer<StoryVerdict>, AllocError>
-    ensures { IfOk result (λ answer. IsTold story.now.clock job.now.name (table_in story.now.table) story.now.until story.now.ending
+    ensures { IfOk result (λ answer. IsStoryAbout story.now.clock job.now.name (table_in story.now.table) story.now.until story.now.ending
         (Some text.now) (map event_in walked.now) answer.verdict answer.bytes.items) }
 {
     let named = task_named(alloc, walked, text)?;

@@ -48,7 +48,7 @@ pub(crate) fn no_races<R: Threads + Sync>(
 {
     let answer = races(rt, alloc, question, true, Form::Text, &NoGate)?;
     match answer.verdict {
-        RacesVerdict::Told { denied } => Ok(denial_or_yes(denied)),
+        RacesVerdict::Lines { denied } => Ok(denial_or_yes(denied)),
         RacesVerdict::JobRefused(_) | RacesVerdict::Limit | RacesVerdict::NoFinerTicks => {
             Ok(Met::Untold)
         }
@@ -68,7 +68,7 @@ pub(crate) fn no_faults<R: Threads + Sync>(
     let options = plain_options(alloc, kinds)?;
     let answer = faults(rt, alloc, question, &options, Form::Text, &NoGate)?;
     match answer.verdict {
-        FaultsVerdict::Told { denied } => Ok(denial_or_yes(denied)),
+        FaultsVerdict::Lines { denied } => Ok(denial_or_yes(denied)),
         FaultsVerdict::JobRefused(_) => Ok(Met::Untold),
     }
 }

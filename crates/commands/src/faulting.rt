@@ -45,7 +45,7 @@ pub fn faults<R: Threads + Sync, G: Gate + Sync>(
         Ok(told) => {
             let (denied, bytes) = table_and_denied(alloc, settings.limit(), options, form, &told)?;
             Ok(Answer {
-                verdict: FaultsVerdict::Told { denied },
+                verdict: FaultsVerdict::Lines { denied },
                 bytes,
             })
         }

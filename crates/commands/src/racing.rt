@@ -60,7 +60,7 @@ fn verdict_and_bytes<R: Threads + Sync, G: Gate + Sync>(
     match race_lines(rt, alloc, job_text, input, settings, gate) {
         Ok(RaceAnswer::Lines(told)) => {
             let (denied, bytes) = table_and_denied(alloc, deny, form, &told)?;
-            Ok((RacesVerdict::Told { denied }, bytes))
+            Ok((RacesVerdict::Lines { denied }, bytes))
         }
         Ok(RaceAnswer::Limit) => {
             let bytes = limit_in(alloc, form, settings.limit())?;

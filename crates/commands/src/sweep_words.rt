@@ -28,7 +28,7 @@ pub fn sweep_of<R: Threads + Sync>(
 {
     let answer = sweep(rt, alloc, question, target, values, form, &NoGate)?;
     match answer.verdict {
-        SweepVerdict::Told | SweepVerdict::JobRefused(_) => Ok(Some(answer.bytes)),
+        SweepVerdict::Lines | SweepVerdict::JobRefused(_) => Ok(Some(answer.bytes)),
         SweepVerdict::NoTarget(_) => Ok(None),
     }
 }

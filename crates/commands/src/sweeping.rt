@@ -49,7 +49,7 @@ pub fn sweep<R: Threads + Sync, G: Gate + Sync>(
             let (limit, values) = (settings.limit(), told.values.as_slice());
             let bytes = table_in(alloc, form, limit, &told.first, values)?;
             Ok(Answer {
-                verdict: SweepVerdict::Told,
+                verdict: SweepVerdict::Lines,
                 bytes,
             })
         }

@@ -8,7 +8,7 @@ use trials::Missing;
 #[derive(Debug, Drop)]
 pub enum FaultsVerdict {
     /// The outcome of the job with each fault.
-    Told {
+    Lines {
         /// The lines that are denied, as they are in the text table. Empty if there are none.
         denied: Vec<u8>,
     },
@@ -23,7 +23,7 @@ impl FaultsVerdict {
         ensures { result ≡ faults_status_of self.now }
     {
         match self {
-            FaultsVerdict::Told { denied } => { if denied.is_empty() { 0 } else { 1 } }
+            FaultsVerdict::Lines { denied } => { if denied.is_empty() { 0 } else { 1 } }
             FaultsVerdict::JobRefused(_) => 2,
         }
     }
@@ -33,7 +33,7 @@ impl FaultsVerdict {
 #[derive(Debug, Drop)]
 pub enum RacesVerdict {
     /// What each hair of each place changes.
-    Told {
+    Lines {
         /// The lines that are races, as they are in the text table, if races are denied. Empty if there are none, and if races
         /// are not denied.
         denied: Vec<u8>,
@@ -53,7 +53,7 @@ impl RacesVerdict {
         ensures { result ≡ races_status_of self.now }
     {
         match self {
-            RacesVerdict::Told { denied } => { if denied.is_empty() { 0 } else { 1 } }
+            RacesVerdict::Lines { denied } => { if denied.is_empty() { 0 } else { 1 } }
             RacesVerdict::JobRefused(_) => 2,
             RacesVerdict::Limit => 3,
             RacesVerdict::NoFinerTicks => 2,
@@ -65,7 +65,7 @@ impl RacesVerdict {
 #[derive(Drop)]
 pub enum SweepVerdict {
     /// The outcome of the job for each value.
-    Told,
+    Lines,
     /// The refusal of the job text.
     JobRefused(JobFault),
     /// Nothing: the text does not have the number that is meant.
@@ -79,7 +79,7 @@ impl SweepVerdict {
         ensures { result ≡ sweep_status_of self.now }
     {
         match self {
-            SweepVerdict::Told => 0,
+            SweepVerdict::Lines => 0,
             SweepVerdict::JobRefused(_) | SweepVerdict::NoTarget(_) => 2,
         }
     }

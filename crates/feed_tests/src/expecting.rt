@@ -32,9 +32,9 @@ pub(crate) fn test_expectations<R: Files + Print + Eprint + Threads + Sync + All
             return Ok(Some(Outcome::Fault));
         }
     };
-    let told = told_of(rt, feed)?;
+    let outputs = outputs_of(rt, feed)?;
     let shown = shown_name(rt.alloc(), name.as_str())?;
-    let lines = unmet_lines(rt, feed, shown.as_str(), &told, bytes.as_slice())?;
+    let lines = unmet_lines(rt, feed, shown.as_str(), &outputs, bytes.as_slice())?;
     Ok(Some(report_unmet(rt, shown.as_str(), lines.as_str())?))
 }
 
@@ -57,18 +57,21 @@ fn report_unmet<R: Print + AllocGlobal>(
 
 // The texts in which patterns are looked for, and the names with which their lines can begin.
 #[derive(Drop)]
-struct Told {
+struct Outputs {
     report: Vec<u8>,
     story: Vec<u8>,
     names: Vec<Name>,
 }
 
 // Returns the report and the story of a feed, and the names that its job text gives.
-fn told_of<R: Threads + Sync + AllocGlobal>(rt: &R, feed: &Feed<'_>) -> Result<Told, AllocError>
+fn outputs_of<R: Threads + Sync + AllocGlobal>(
+    rt: &R,
+    feed: &Feed<'_>,
+) -> Result<Outputs, AllocError>
     requires { length feed.now.question.input.now ≤ MAX_INPUT }
 {
     let (alloc, question) = (rt.alloc(), &feed.question);
-    Ok(Told {
+    Ok(Outputs {
         report: output_of(rt, alloc, question, Output::Report)?,
         story: output_of(rt, alloc, question, Output::Story)?,
         names: given_names(alloc, question.text)?,
@@ -80,7 +83,7 @@ fn unmet_lines<R: Threads + Sync + AllocGlobal>(
     rt: &R,
     feed: &Feed<'_>,
     name: &str,
-    told: &Told,
+    outputs: &Outputs,
     expectations: &[u8],
 ) -> Result<String, TestStop>
     requires { length feed.now.question.input.now ≤ MAX_INPUT }
@@ -90,7 +93,15 @@ fn unmet_lines<R: Threads + Sync + AllocGlobal>(
     }
     let mut lines = String::new(rt.alloc());
     'lines: for (i, line) in expectations.split(|b| *b == b'\n').enumerate() {
-        push_unmet(rt, feed, &mut lines, name, told, i.saturating_add(1), line)?;
+        push_unmet(
+            rt,
+            feed,
+            &mut lines,
+            name,
+            outputs,
+            i.saturating_add(1),
+            line,
+        )?;
     }
     Ok(lines)
 }
@@ -101,7 +112,7 @@ fn push_unmet<R: Threads + Sync + AllocGlobal>(
     feed: &Feed<'_>,
     lines: &mut String,
     name: &str,
-    told: &Told,
+    outputs: &Outputs,
     number: usize,
     line: &[u8],
 ) -> Result<(), TestStop>
@@ -109,7 +120,7 @@ fn push_unmet<R: Threads + Sync + AllocGlobal>(
 {
     let alloc = rt.alloc();
     let said = shown_line(alloc, line)?;
-    match read_expectation(alloc, told.names.as_slice(), line)? {
+    match read_expectation(alloc, outputs.names.as_slice(), line)? {
         ExpectLine::Nothing => Ok(()),
         ExpectLine::Faulty(fault) => {
             let text = fault_line(alloc, name, number, said.as_str(), fault)?;
@@ -122,10 +133,10 @@ fn push_unmet<R: Threads + Sync + AllocGlobal>(
                 alloc,
                 &feed.question,
                 expectation,
-                told.report.as_slice(),
-                told.story.as_slice(),
+                outputs.report.as_slice(),
+                outputs.story.as_slice(),
             )?;
-            let text = met_text(alloc, name, number, said.as_str(), told, met)?;
+            let text = met_text(alloc, name, number, said.as_str(), outputs, met)?;
             lines.push_str(text.as_str())?;
             Ok(())
         }
@@ -162,7 +173,7 @@ fn met_text(
     name: &str,
     number: usize,
     said: &str,
-    told: &Told,
+    outputs: &Outputs,
     met: Met,
 ) -> Result<String, AllocError> {
     match met {
@@ -172,9 +183,9 @@ fn met_text(
         ),
         Met::Found { story, line } => {
             let (text, bytes) = if story {
-                ("story", told.story.as_slice())
+                ("story", outputs.story.as_slice())
             } else {
-                ("report", told.report.as_slice())
+                ("report", outputs.report.as_slice())
             };
             let found = shown_line(alloc, nth_line(bytes, line))?;
             format!(in alloc;

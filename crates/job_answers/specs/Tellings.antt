@@ -36,9 +36,9 @@ text_until clock None table all sorted walked = kept_text clock table all sorted
 text_until clock (Some limit) table all sorted walked = kept_text_to clock table limit all sorted walked
 
 -- the text of a story, from its events in the order of the walk: of all tasks, or of those that concern one task
-abbrev pub story_told : Clock → Table → Option ℕ → Option Label → List Event → List ℕ
-story_told clock table until None walked = text_until clock until table (in_order walked) (in_order walked) walked
-story_told clock table until (Some task) walked =
+abbrev pub story_shown : Clock → Table → Option ℕ → Option Label → List Event → List ℕ
+story_shown clock table until None walked = text_until clock until table (in_order walked) (in_order walked) walked
+story_shown clock table until (Some task) walked =
     let all = in_order walked in
     let tasks = concerned_tasks table all task in
     text_until clock until table all (of_tasks tasks all) (of_tasks tasks walked)
@@ -52,7 +52,7 @@ IsAsked asked es (NoTask nearest) =
 
 -- a verdict on a story with these events, and its text: of all tasks, or of those that concern one task, or nothing where no task
 -- has the label
-abbrev pub IsTold : Clock → Table → Option ℕ → Ending → Option (List ℕ) → List Event → StoryVerdict → List ℕ → Type 0
-IsTold clock table until ending asked walked given bytes =
-    ((task : Option Label) × IsAbout asked walked task × (given ≡ verdict_of ending) × (bytes ≡ story_told clock table until task walked))
+abbrev pub IsStoryAbout : Clock → Table → Option ℕ → Ending → Option (List ℕ) → List Event → StoryVerdict → List ℕ → Type 0
+IsStoryAbout clock table until ending asked walked given bytes =
+    ((task : Option Label) × IsAbout asked walked task × (given ≡ verdict_of ending) × (bytes ≡ story_shown clock table until task walked))
     ⊎ ((nearest : Vec ℕ) × IsAboutNone asked walked nearest.items × (given ≡ verdict.NoTask nearest) × (bytes ≡ []))

@@ -101,7 +101,7 @@ pub fn story_of<R: Threads + Sync, P: Pick, G: Gate + Sync>(
 
 // Returns how the meaning of a job ends, compared with the limit, and the moments from which its scopes and nurseries are
 // cancelled and its events set.
-#[tactic(auto, using(crate::proofs::Told::is_ending, crate::proofs::Tables::is_of_meaning))]
+#[tactic(auto, using(crate::proofs::Stories::is_ending, crate::proofs::Tables::is_of_meaning))]
 fn meaning_of<R: Threads + Sync, P: Pick, G: Gate + Sync>(
     rt: &R,
     alloc: Global,

@@ -39,7 +39,7 @@ pub fn running_at_limit<R: Threads + Sync, P: Pick, G: Gate + Sync>(
 }
 
 // Returns the same for a job that was read.
-#[tactic(auto, using(crate::proofs::Told::none_run, crate::proofs::Told::these_run))]
+#[tactic(auto, using(crate::proofs::Stories::none_run, crate::proofs::Stories::these_run))]
 fn running_of<R: Threads + Sync, P: Pick, G: Gate + Sync>(
     rt: &R,
     alloc: Global,

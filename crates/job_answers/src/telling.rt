@@ -4,7 +4,7 @@ ghost use Rattle.job_meaning.specs.declared.limits.TheConstants.{MAX_INPUT};
 ghost use Rattle.job_story.specs.Froms.{table_in};
 ghost use Rattle.story_index.specs.Seen.{event_in};
 ghost use Rattle.job_answers.specs.Stories.{IsJobVerdict};
-ghost use Rattle.job_answers.specs.Tellings.{IsTold};
+ghost use Rattle.job_answers.specs.Tellings.{IsStoryAbout};
 
 use crate::about::{About, about_of};
 use crate::meaning::{Story, story_of};
@@ -38,14 +38,14 @@ pub(crate) fn job_verdict<R: Threads + Sync, P: Pick, G: Gate + Sync>(
 }
 
 // Returns the verdict on a story, whose events as far as the limit shows them are given, and its text.
-#[tactic(auto, using(crate::proofs::Told::told_of_all, crate::proofs::Told::told_of_task, crate::proofs::Told::told_of_none))]
+#[tactic(auto, using(crate::proofs::Stories::story_about_all, crate::proofs::Stories::story_about_one, crate::proofs::Stories::story_about_none))]
 fn story_about(
     alloc: Global,
     story: &Story,
     walked: &[&Event],
     task: Option<&[u8]>,
 ) -> Result<Answer<StoryVerdict>, AllocError>
-    ensures { IfOk result (λ answer. IsTold story.now.clock (table_in story.now.table) story.now.until story.now.ending (option_copied task.entry)
+    ensures { IfOk result (λ answer. IsStoryAbout story.now.clock (table_in story.now.table) story.now.until story.now.ending (option_copied task.entry)
         (map event_in walked.now) answer.verdict answer.bytes.items) }
 {
     match about_of(alloc, walked, task)? {

@@ -5,7 +5,7 @@ ghost use Rattle.story_index.specs.Knows.{Knows};
 ghost use Rattle.story_index.specs.Seen.{event_in};
 ghost use Rattle.story_index.specs.Holds.{label_seen};
 ghost use Rattle.story_text.specs.Told.{clock_in, events_in, froms_in};
-ghost use Rattle.job_answers.specs.Tellings.{story_told, text_until};
+ghost use Rattle.job_answers.specs.Tellings.{story_shown, text_until};
 
 use exceptions::Label;
 use job_meaning::Clock;
@@ -24,7 +24,7 @@ pub(crate) fn text_of_story<'e>(
     task: Option<&'e Label>,
     until: Option<u64>,
 ) -> Result<Vec<u8>, AllocError>
-    ensures { IfOk result (λ text. text.items ≡ story_told clock (table_in table.entry.now) until (label_seen task.entry) (map event_in walked.now)) }
+    ensures { IfOk result (λ text. text.items ≡ story_shown clock (table_in table.entry.now) until (label_seen task.entry) (map event_in walked.now)) }
 {
     let all = in_order(alloc, walked)?;
     let causes = Causes::of(alloc, all.as_slice(), table)?;

@@ -64,7 +64,7 @@ fn conclude_faults<R: Eprint + AllocGlobal>(
     let status = verdict.status();
     match verdict {
         FaultsVerdict::JobRefused(fault) => tell_refusal(rt, job, text, fault),
-        FaultsVerdict::Told { denied } => tell_denied(rt, denied),
+        FaultsVerdict::Lines { denied } => tell_denied(rt, denied),
     }
     status
 }

@@ -70,7 +70,7 @@ fn conclude_races<R: Eprint + Threads + Sync + AllocGlobal>(
     let status = verdict.status();
     match verdict {
         RacesVerdict::JobRefused(fault) => tell_refusal(rt, job, question.text, fault),
-        RacesVerdict::Told { denied } => tell_denied(rt, denied),
+        RacesVerdict::Lines { denied } => tell_denied(rt, denied),
         RacesVerdict::Limit => tell_running(rt, question),
         RacesVerdict::NoFinerTicks => {
             let _ = rt.eprint(NO_FINER_TICKS);

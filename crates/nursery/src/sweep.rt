@@ -69,7 +69,7 @@ fn conclude_sweep<R: Eprint + AllocGlobal>(
         SweepVerdict::NoTarget(missing) => {
             tell_missing(rt, args.job.as_str(), text, &args.target, &missing)
         }
-        SweepVerdict::Told => {}
+        SweepVerdict::Lines => {}
     }
     status
 }

@@ -83,7 +83,7 @@ fn denied_of<R: Abort + Threads + Sync + AllocGlobal>(
 ) -> Result<Vec<u8>, Fail> {
     let mut out = MemOut::new(rt.alloc(), 100_000, 7, None)?;
     match faults_again(rt, text, workers, &mut out)? {
-        FaultsVerdict::Told { denied } => Ok(denied),
+        FaultsVerdict::Lines { denied } => Ok(denied),
         _ => Err("a refusal")?,
     }
 }

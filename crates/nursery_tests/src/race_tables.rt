@@ -59,7 +59,7 @@ fn denied_of<R: Abort + Threads + Sync + AllocGlobal>(
 ) -> Result<Vec<u8>, Fail> {
     let mut out = MemOut::new(rt.alloc(), 100_000, 7, None)?;
     match races_again(rt, text, workers, &mut out)? {
-        RacesVerdict::Told { denied } => Ok(denied),
+        RacesVerdict::Lines { denied } => Ok(denied),
         _ => Err("no table")?,
     }
 }

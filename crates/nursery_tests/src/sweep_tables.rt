@@ -134,7 +134,7 @@ fn reason_of<R: Abort + Threads + Sync + AllocGlobal>(
     assert!(rt; out.taken().is_empty());
     match verdict {
         SweepVerdict::NoTarget(missing) => words_of(rt.alloc(), &missing),
-        SweepVerdict::Told | SweepVerdict::JobRefused(_) => Err("the number is there")?,
+        SweepVerdict::Lines | SweepVerdict::JobRefused(_) => Err("the number is there")?,
     }
 }
 

@@ -37,6 +37,6 @@ pub use columns::step_of;
 pub use line::{Found, Line};
 pub use meeting::{Meeting, meeting_of};
 pub use outcome::push_outcome;
-pub use runs::{Ran, run_differences};
+pub use runs::{ComparedRun, run_differences};
 pub use table::{hairs_not_tried_in, race_denied, race_table, races_in};
 pub use tasks::{Difference, differences};

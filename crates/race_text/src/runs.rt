@@ -11,7 +11,7 @@ use task_table::Record;
 
 /// A run of a job, to be compared with another one.
 #[derive(Clone, Copy)]
-pub struct Ran<'r> {
+pub struct ComparedRun<'r> {
     /// Its records.
     pub records: &'r [Record<'r>],
     /// Whether the job ended by the limit.
@@ -24,8 +24,8 @@ pub struct Ran<'r> {
 pub fn run_differences(
     alloc: Global,
     scope: Name,
-    before: &Ran<'_>,
-    after: &Ran<'_>,
+    before: &ComparedRun<'_>,
+    after: &ComparedRun<'_>,
 ) -> Result<Vec<Difference>, AllocError>
     ensures { IfOk result (λ found. map difference_held found.items
         ≡ of_runs scope before.now.in_time (map row_in before.now.records.now) after.now.in_time (map row_in after.now.records.now)) }
@@ -42,8 +42,8 @@ pub fn run_differences(
 // Returns how the roots of two runs differ, of which one ended by the limit.
 fn root_difference(
     alloc: Global,
-    before: &Ran<'_>,
-    after: &Ran<'_>,
+    before: &ComparedRun<'_>,
+    after: &ComparedRun<'_>,
 ) -> Result<Vec<Difference>, AllocError>
     ensures { IfOk result (λ found. map difference_held found.items
         ≡ of_roots before.now.in_time (map row_in before.now.records.now) after.now.in_time (map row_in after.now.records.now)) }

@@ -20,66 +20,66 @@ use Rattle.workers.proofs.Answered.{seen_as}
 use Rattle.race_text.specs.Lines as told
 use Rattle.race_text.specs.LineViews.{line_held}
 use Rattle.race_text.specs.declared.line.Line.{Line}
-use Rattle.trials.specs.declared.author.Author.{Author}
-use Rattle.trials.specs.Ran.{Ran, refused, ran, ran_of, found_between}
+use Rattle.trials.specs.declared.original.Original.{Original}
+use Rattle.trials.specs.TextRuns.{TextRun, refused, ran, text_run_of, found_between}
 use Rattle.trials.specs.Lines.{copies_lines}
-use Rattle.trials.specs.Views.{IsMovedBy, AreLinesOf, AreLinesBeside, AreLinesFor, AreLinesOfRefused}
+use Rattle.trials.specs.Views.{IsMovedBy, AreLinesOf, AreLinesOfRun, AreLinesFor, AreLinesOfRefused}
 
 -- the lines of all hairs, as the definitions have them
-pub moves_seen : (author : Author) (input : List ℕ) (before : Ran) (shifts : List Shift) (lines : List Line) →
-    shifts ≡ shifts_of author.sites.now →
-    AreAnswers (λ shift line. IsMovedBy author input before shift (line_held line)) shifts lines →
-    AreAnswers (IsMovedBy author input before) (shifts_of author.sites.now) (map line_held lines)
-moves_seen author input before shifts lines is are =
-    subst (λ (ss : List Shift). AreAnswers (IsMovedBy author input before) ss (map line_held lines)) is
-    (seen_as (IsMovedBy author input before) line_held shifts lines are)
+pub moves_seen : (original : Original) (input : List ℕ) (before : TextRun) (shifts : List Shift) (lines : List Line) →
+    shifts ≡ shifts_of original.sites.now →
+    AreAnswers (λ shift line. IsMovedBy original input before shift (line_held line)) shifts lines →
+    AreAnswers (IsMovedBy original input before) (shifts_of original.sites.now) (map line_held lines)
+moves_seen original input before shifts lines is are =
+    subst (λ (ss : List Shift). AreAnswers (IsMovedBy original input before) ss (map line_held lines)) is
+    (seen_as (IsMovedBy original input before) line_held shifts lines are)
 
 -- the lines of a text in finer ticks and of all hairs, given its run
-pub of_run : (author : Author) (input : List ℕ) (first : Ran) (shown rows : List Row) (end : ℕ) (found : told.Found)
+pub of_run : (original : Original) (input : List ℕ) (first : TextRun) (shown rows : List Row) (end : ℕ) (found : told.Found)
     (moves lines : List told.Line) →
-    shown ≡ rows → end ≡ root_end rows → found ≡ found_between author.scope.now first (ran (nat_le (root_end rows) author.limit) rows) →
-    AreAnswers (IsMovedBy author input (ran (nat_le end author.limit) shown)) (shifts_of author.sites.now) moves →
+    shown ≡ rows → end ≡ root_end rows → found ≡ found_between original.scope.now first (ran (nat_le (root_end rows) original.limit) rows) →
+    AreAnswers (IsMovedBy original input (ran (nat_le end original.limit) shown)) (shifts_of original.sites.now) moves →
     lines ≡ told.finer found ∷ moves →
-    AreLinesBeside author input first (ran (nat_le (root_end rows) author.limit) rows) lines
-of_run author input first shown rows end found moves lines s e f are l =
-    let run : ran (nat_le end author.limit) shown ≡ ran (nat_le (root_end rows) author.limit) rows =
-    ap (λ (n : ℕ). ran (nat_le n author.limit) shown) e ∙ ap (λ (rs : List Row). ran (nat_le (root_end rows) author.limit) rs) s in
+    AreLinesOfRun original input first (ran (nat_le (root_end rows) original.limit) rows) lines
+of_run original input first shown rows end found moves lines s e f are l =
+    let run : ran (nat_le end original.limit) shown ≡ ran (nat_le (root_end rows) original.limit) rows =
+    ap (λ (n : ℕ). ran (nat_le n original.limit) shown) e ∙ ap (λ (rs : List Row). ran (nat_le (root_end rows) original.limit) rs) s in
     record {
       moves = moves;
       moves_are =
-          subst (λ (before : Ran). AreAnswers (IsMovedBy author input before) (shifts_of author.sites.now) moves) run are;
+          subst (λ (before : TextRun). AreAnswers (IsMovedBy original input before) (shifts_of original.sites.now) moves) run are;
       all = l ∙ ap (λ (x : told.Found). told.finer x ∷ moves) f;
     }
 
 -- all lines of a text whose text in finer ticks spells a job, given the run of that job
-pub with_copies : (author : Author) (input : List ℕ) (first : Ran) (job : Tree) (rows : List Row) (lines all : List told.Line) →
+pub with_copies : (original : Original) (input : List ℕ) (first : TextRun) (job : Tree) (rows : List Row) (lines all : List told.Line) →
     rows ≡ meaning_rows job input →
-    AreLinesBeside author input first (ran (nat_le (root_end rows) author.limit) rows) lines →
-    all ≡ lines ++ copies_lines author.clock author.text.now author.limit author.finer (walked_events job input) author.starts.now →
-    AreLinesFor author input first job all
-with_copies author input first job rows lines all r are a =
-    let run : ran (nat_le (root_end rows) author.limit) rows ≡ ran_of author.limit job input =
-    ap (λ (rs : List Row). ran (nat_le (root_end rs) author.limit) rs) r in
+    AreLinesOfRun original input first (ran (nat_le (root_end rows) original.limit) rows) lines →
+    all ≡ lines ++ copies_lines original.clock original.text.now original.limit original.finer (walked_events job input) original.starts.now →
+    AreLinesFor original input first job all
+with_copies original input first job rows lines all r are a =
+    let run : ran (nat_le (root_end rows) original.limit) rows ≡ text_run_of original.limit job input =
+    ap (λ (rs : List Row). ran (nat_le (root_end rs) original.limit) rs) r in
     record {
       moves = are.moves;
       moves_are =
-          subst (λ (before : Ran). AreAnswers (IsMovedBy author input before) (shifts_of author.sites.now) are.moves) run are.moves_are;
+          subst (λ (before : TextRun). AreAnswers (IsMovedBy original input before) (shifts_of original.sites.now) are.moves) run are.moves_are;
       all =
           a
           ∙ ap
-          (λ (ls : List told.Line). ls ++ copies_lines author.clock author.text.now author.limit author.finer (walked_events job input) author.starts.now)
-          (are.all ∙ ap (λ (before : Ran). told.finer (found_between author.scope.now first before) ∷ are.moves) run);
+          (λ (ls : List told.Line). ls ++ copies_lines original.clock original.text.now original.limit original.finer (walked_events job input) original.starts.now)
+          (are.all ∙ ap (λ (before : TextRun). told.finer (found_between original.scope.now first before) ∷ are.moves) run);
     }
 
 -- all lines of a text whose text in finer ticks spells a job
-pub for_job : (author : Author) (input : List ℕ) (first : Ran) (job : Tree) (text : List ℕ) (changes : List Change) (lines : List told.Line) →
-    changes ≡ finer_changes author.clock author.finer author.sites.now → text ≡ changed_text author.text.now changes → Spells text job →
-    AreLinesFor author input first job lines → AreLinesOf author input first lines
-for_job author input first job text changes lines c t spells are =
+pub for_job : (original : Original) (input : List ℕ) (first : TextRun) (job : Tree) (text : List ℕ) (changes : List Change) (lines : List told.Line) →
+    changes ≡ finer_changes original.clock original.finer original.sites.now → text ≡ changed_text original.text.now changes → Spells text job →
+    AreLinesFor original input first job lines → AreLinesOf original input first lines
+for_job original input first job text changes lines c t spells are =
     record {
-      before = ran_of author.limit job input;
+      before = text_run_of original.limit job input;
       events = walked_events job input;
-      before_is = inl (job, subst (λ (x : List ℕ). Spells x job) (t ∙ ap (changed_text author.text.now) c) spells, refl, refl);
+      before_is = inl (job, subst (λ (x : List ℕ). Spells x job) (t ∙ ap (changed_text original.text.now) c) spells, refl, refl);
       moves = are.moves;
       moves_are = are.moves_are;
       all = are.all;
@@ -90,26 +90,26 @@ no_copies : (clock : Clock) (text : List ℕ) (limit : ℕ) (f : Finer) (starts 
 no_copies clock text limit f [] = refl
 no_copies clock text limit f (c ∷ cs) = no_copies clock text limit f cs
 
-all_of_refused : (author : Author) (fault : JobFault) (moves : List told.Line) →
+all_of_refused : (original : Original) (fault : JobFault) (moves : List told.Line) →
     told.finer (told.not_tried fault) ∷ moves
     ≡ told.finer (told.not_tried fault)
-    ∷ (moves ++ copies_lines author.clock author.text.now author.limit author.finer [] author.starts.now)
-all_of_refused author fault moves =
-    let none = no_copies author.clock author.text.now author.limit author.finer author.starts.now in
+    ∷ (moves ++ copies_lines original.clock original.text.now original.limit original.finer [] original.starts.now)
+all_of_refused original fault moves =
+    let none = no_copies original.clock original.text.now original.limit original.finer original.starts.now in
     ap (λ (ls : List told.Line). told.finer (told.not_tried fault) ∷ ls)
     (sym (append-nil moves) ∙ ap (λ (ls : List told.Line). moves ++ ls) (sym none))
 
 -- all lines of a text whose text in finer ticks is refused
-pub for_refused : (author : Author) (input : List ℕ) (in_time : Bool) (rows : List Row) (fault : JobFault) (text : List ℕ) (changes : List Change) (lines : List told.Line) →
-    changes ≡ finer_changes author.clock author.finer author.sites.now → text ≡ changed_text author.text.now changes →
-    IsRefused text fault.kind fault.at → AreLinesOfRefused author input fault lines → AreLinesOf author input (ran in_time rows) lines
-for_refused author input in_time rows fault text changes lines c t is are =
+pub for_refused : (original : Original) (input : List ℕ) (in_time : Bool) (rows : List Row) (fault : JobFault) (text : List ℕ) (changes : List Change) (lines : List told.Line) →
+    changes ≡ finer_changes original.clock original.finer original.sites.now → text ≡ changed_text original.text.now changes →
+    IsRefused text fault.kind fault.at → AreLinesOfRefused original input fault lines → AreLinesOf original input (ran in_time rows) lines
+for_refused original input in_time rows fault text changes lines c t is are =
     record {
       before = refused fault;
       events = [];
       before_is =
-          inr (fault, subst (λ (x : List ℕ). IsRefused x fault.kind fault.at) (t ∙ ap (changed_text author.text.now) c) is, refl, refl);
+          inr (fault, subst (λ (x : List ℕ). IsRefused x fault.kind fault.at) (t ∙ ap (changed_text original.text.now) c) is, refl, refl);
       moves = are.moves;
       moves_are = are.moves_are;
-      all = are.all ∙ all_of_refused author fault are.moves;
+      all = are.all ∙ all_of_refused original fault are.moves;
     }

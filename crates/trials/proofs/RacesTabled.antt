@@ -19,7 +19,7 @@ use Rattle.job_edits.specs.declared.site.Site.{Site}
 use Rattle.job_edits.specs.declared.copied.CopiedStart.{CopiedStart}
 use Rattle.job_edits.specs.declared.finer.Finer.{Finer}
 use Rattle.race_text.specs.Lines as told
-use Rattle.trials.specs.Ran.{Ran, ran, ran_of}
+use Rattle.trials.specs.TextRuns.{TextRun, ran, text_run_of}
 use Rattle.trials.specs.Lines.{AreLines}
 use Rattle.trials.specs.Races.{AreRaceLines, IsLate, HasNoFiner}
 
@@ -32,7 +32,7 @@ in_time end last l limit e at soon = omega (arith, e, at, soon)
 
 -- the run of a job that ends by the limit
 pub ran_in_time : (job : Tree) (input : List ℕ) (limit : ℕ) (rows : List Row) → rows ≡ meaning_rows job input →
-    meaning_end job input ≤ limit → ran true rows ≡ ran_of limit job input
+    meaning_end job input ≤ limit → ran true rows ≡ text_run_of limit job input
 ran_in_time job input limit rows same soon =
     ap (λ (rs : List Row). ran true rs) same
     ∙ ap (λ (b : Bool). ran b (meaning_rows job input)) (sym (le_test (meaning_end job input) limit soon))
@@ -52,10 +52,10 @@ clock_is format job clock same is = is ∙ ap clock_of same
 
 -- the lines, if the clock is that of the job, and places and starts of copies are those of the text's tokens
 pub are_lines : (text input : List ℕ) (limit l : ℕ) (job : Tree) (tokens : List Token) (format : Format) (clock : Clock) (f : Finer)
-    (scope : List ℕ) (sites : List Site) (starts : List CopiedStart) (first : Ran) (lines : List told.Line) (hairs : ℕ) →
+    (scope : List ℕ) (sites : List Site) (starts : List CopiedStart) (first : TextRun) (lines : List told.Line) (hairs : ℕ) →
     Spells text job → meaning_end job input ≤ limit → HasTokens text tokens None → format ≡ job.format → clock ≡ clock_of format →
     scope ≡ hair_scope tokens → sites ≡ sites_in tokens → starts ≡ copied_in tokens →
-    Some f ≡ finer_for clock limit sites → l ≡ u64_saturate (limit * f.factor) → first ≡ ran_of limit job input →
+    Some f ≡ finer_for clock limit sites → l ≡ u64_saturate (limit * f.factor) → first ≡ text_run_of limit job input →
     AreLines clock text input l f scope sites starts first lines → hairs ≡ length (shifts_of sites) → AreRaceLines text input limit hairs lines
 are_lines text input limit l job tokens format clock f scope sites starts first lines hairs spells soon has as_read counted named s c finer at same are h =
     let by = clock_is format job clock as_read counted in
@@ -76,7 +76,7 @@ are_lines text input limit l job tokens format clock f scope sites starts first 
       f = f;
       finer_is = ap (λ (k : Clock). finer_for k limit (sites_in tokens)) (sym by) ∙ ap (finer_for clock limit) (sym s) ∙ sym finer;
       lines_are =
-          subst (λ (r : Ran). AreLines (clock_of job.format) text input (u64_saturate (limit * f.factor)) f (hair_scope tokens) (sites_in tokens) (copied_in tokens) r lines) same by_starts;
+          subst (λ (r : TextRun). AreLines (clock_of job.format) text input (u64_saturate (limit * f.factor)) f (hair_scope tokens) (sites_in tokens) (copied_in tokens) r lines) same by_starts;
       hairs_are = h ∙ ap (λ (ss : List Site). length (shifts_of ss)) s;
     }
 

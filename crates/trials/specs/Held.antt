@@ -19,7 +19,7 @@ use Rattle.job_edits.specs.declared.fault.Fault.{Fault}
 use Rattle.job_edits.specs.declared.fault.Variant.{Variant}
 use Rattle.job_edits.specs.declared.waiting.Waiting.{Waiting}
 use Rattle.trials.specs.declared.summary.Summary.{Summary}
-use Rattle.trials.specs.declared.fault_work.Author.{Author}
+use Rattle.trials.specs.declared.fault_work.Original.{Original}
 use Rattle.trials.specs.declared.trial.Trial.{Trial}
 use Rattle.trials.specs.declared.trial.Tried.{Tried}
 
@@ -37,11 +37,11 @@ root_ending [] = well
 root_ending (r ∷ rs) = r.ending
 
 -- the input is not longer than the maximum, and the plan, the blocks and the steps are those of the tokens
-pub record HasRoom (author : Author) : Type 0 where
-  pub room : length author.trial.input.now ≤ MAX_INPUT
-  pub plan : author.trial.plan ≡ plan_of author.tokens.now
-  pub blocks : author.blocks.now ≡ repeated_in author.tokens.now
-  pub steps : author.steps.now ≡ waiting_in author.tokens.now
+pub record HasRoom (original : Original) : Type 0 where
+  pub room : length original.trial.input.now ≤ MAX_INPUT
+  pub plan : original.trial.plan ≡ plan_of original.tokens.now
+  pub blocks : original.blocks.now ≡ repeated_in original.tokens.now
+  pub steps : original.steps.now ≡ waiting_in original.tokens.now
 
 -- what becomes of a text with a fault of a step
 abbrev pub IsTrial : Trial → Waiting → Fault → Tried → Type 0
@@ -50,13 +50,13 @@ IsTrial trial step fault t =
     t.reached t.differs t.cuts
 
 -- what becomes of the original text with a fault
-abbrev pub IsTrialWhere : Author → Variant → Tried → Type 0
-IsTrialWhere author v t =
-    IsTriedWhere author.trial.text.now author.trial.input.now author.trial.limit author.tokens.now author.roles.now
-    (job_outcome_held author.trial.before.now) v v.part (job_outcome_held t.job_outcome) t.reached t.differs t.cuts
+abbrev pub IsTrialWhere : Original → Variant → Tried → Type 0
+IsTrialWhere original v t =
+    IsTriedWhere original.trial.text.now original.trial.input.now original.trial.limit original.tokens.now original.roles.now
+    (job_outcome_held original.trial.before.now) v v.part (job_outcome_held t.job_outcome) t.reached t.differs t.cuts
 
 -- a line is that of a fault of a step of the original text
-abbrev pub IsLineOf : Author → Variant → Line → Type 0
-IsLineOf author v l =
-    IsLine author.trial.text.now author.trial.input.now author.trial.limit author.is_named author.tokens.now author.roles.now
-    (job_outcome_held author.trial.before.now) v (line_held l)
+abbrev pub IsLineOf : Original → Variant → Line → Type 0
+IsLineOf original v l =
+    IsLine original.trial.text.now original.trial.input.now original.trial.limit original.is_named original.tokens.now original.roles.now
+    (job_outcome_held original.trial.before.now) v (line_held l)

@@ -5,7 +5,7 @@ pub mod Nearest
 pub mod Targets
 pub mod Values
 pub mod Sweeps
-pub mod Ran
+pub mod TextRuns
 pub mod Lines
 pub mod Races
 pub mod Views

@@ -12,15 +12,15 @@ use Rattle.basics.specs.Places.{line_of, column_of}
 use Rattle.workers.specs.Answers.{AreAnswers}
 use Rattle.race_text.specs.Copies.{Meeting, meeting_in}
 use Rattle.race_text.specs.Lines.{Found, Line, finer, moved, copies}
-use Rattle.trials.specs.Ran.{Ran, IsRan, IsBeside, found_between}
+use Rattle.trials.specs.TextRuns.{TextRun, IsTextRun, IsComparison, found_between}
 
 -- ---- one place moved by a hair
 
 -- A line compares the text in finer ticks, with one place moved by a hair, with the text in finer ticks alone. The limit is in
 -- finer ticks. `scope` is the name of the scope in which a hair before a `set` is.
-abbrev pub IsMoved : Clock → List ℕ → List ℕ → ℕ → Finer → (scope : List ℕ) → List Site → Ran → Shift → Line → Type 0
+abbrev pub IsMoved : Clock → List ℕ → List ℕ → ℕ → Finer → (scope : List ℕ) → List Site → TextRun → Shift → Line → Type 0
 IsMoved clock text input limit f scope sites before shift line =
-    (found : Found) × IsBeside scope (changed_text text (shifted_changes clock f scope shift sites)) input limit before found
+    (found : Found) × IsComparison scope (changed_text text (shifted_changes clock f scope shift sites)) input limit before found
     × (line ≡ moved (line_of text shift.site.from) (column_of text shift.site.from) shift.site.moment shift.hair found)
 
 -- ---- copies that meet
@@ -44,10 +44,10 @@ copies_lines clock text limit f events (c ∷ cs) =
 -- The lines of a text with these places and starts of copies, whose time is counted by this clock and whose run is the first one:
 -- its text in finer ticks, compared with the original text; then each hair of each place, once and in the order of places; then
 -- the copies that meet.
-pub record AreLines (clock : Clock) (text input : List ℕ) (limit : ℕ) (f : Finer) (scope : List ℕ) (sites : List Site) (starts : List CopiedStart) (first : Ran) (lines : List Line) : Type 0 where
-  pub before : Ran
+pub record AreLines (clock : Clock) (text input : List ℕ) (limit : ℕ) (f : Finer) (scope : List ℕ) (sites : List Site) (starts : List CopiedStart) (first : TextRun) (lines : List Line) : Type 0 where
+  pub before : TextRun
   pub events : List Event
-  pub before_is : IsRan (changed_text text (finer_changes clock f sites)) input limit before events
+  pub before_is : IsTextRun (changed_text text (finer_changes clock f sites)) input limit before events
   pub moves : List Line
   pub moves_are : AreAnswers (IsMoved clock text input limit f scope sites before) (shifts_of sites) moves
   pub all : lines ≡ finer (found_between scope first before) ∷ (moves ++ copies_lines clock text limit f events starts)

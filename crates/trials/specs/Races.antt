@@ -12,7 +12,7 @@ use Rattle.job_edits.specs.Finer.{finer_for, hair_scope, shifts_of}
 use Rattle.job_edits.specs.declared.finer.Finer.{Finer}
 use Rattle.race_text.specs.Lines.{Line}
 use Rattle.race_text.specs.LineViews.{line_held}
-use Rattle.trials.specs.Ran.{ran_of}
+use Rattle.trials.specs.TextRuns.{text_run_of}
 use Rattle.trials.specs.Lines.{AreLines}
 use Rattle.trials.specs.declared.races.RaceAnswer.{RaceAnswer}
 use Rattle.trials.specs.declared.races.RaceAnswer.TheVariants.{Lines, Limit, NoFinerTicks}
@@ -28,7 +28,7 @@ pub record AreRaceLines (text input : List ℕ) (limit : ℕ) (hairs : ℕ) (lin
   pub finer_is : finer_for (clock_of job.format) limit (sites_in tokens) ≡ Some f
   pub lines_are :
       AreLines (clock_of job.format) text input (u64_saturate (limit * f.factor)) f (hair_scope tokens) (sites_in tokens) (copied_in tokens)
-      (ran_of limit job input) lines
+      (text_run_of limit job input) lines
   pub hairs_are : hairs ≡ length (shifts_of (sites_in tokens))
 
 -- the job that the text spells does not end by the limit

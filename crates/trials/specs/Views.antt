@@ -11,60 +11,60 @@ use Rattle.job_edits.specs.declared.shift.Shift.{Shift}
 use Rattle.workers.specs.Answers.{AreAnswers}
 use Rattle.job_runner.specs.Runs.{rows_of, root_end}
 use Rattle.job_runner.specs.declared.finished.Run.{Run}
-use Rattle.race_text.specs.declared.runs.Ran as held
+use Rattle.race_text.specs.declared.runs.ComparedRun as held
 use Rattle.race_text.specs.Lines as told
 use Rattle.race_text.specs.LineViews.{line_held}
 use Rattle.race_text.specs.declared.line.Line.{Line}
-use Rattle.trials.specs.Ran.{Ran, refused, ran, ran_of, found_between}
+use Rattle.trials.specs.TextRuns.{TextRun, refused, ran, text_run_of, found_between}
 use Rattle.trials.specs.Lines.{IsMoved, copies_lines, AreLines}
-use Rattle.trials.specs.declared.author.Author.{Author}
+use Rattle.trials.specs.declared.original.Original.{Original}
 use Rattle.trials.specs.declared.moves.Moves.{Moves}
 
-abbrev pub ran_seen : held.Ran → Ran
-ran_seen r = ran r.in_time (map row_in r.records.now)
+abbrev pub text_run_seen : held.ComparedRun → TextRun
+text_run_seen r = ran r.in_time (map row_in r.records.now)
 
 -- a run that is borrowed, or the refusal of the text
-abbrev pub ran_held : Result (Bor held.Ran) JobFault → Ran
-ran_held (Ok r) = ran_seen r.now
-ran_held (Err fault) = refused fault
+abbrev pub text_run_held : Result (Bor held.ComparedRun) JobFault → TextRun
+text_run_held (Ok r) = text_run_seen r.now
+text_run_held (Err fault) = refused fault
 
 -- a run up to a limit
-abbrev pub ran_by : ℕ → Run → Ran
-ran_by limit run = ran (nat_le (root_end (rows_of run)) limit) (rows_of run)
+abbrev pub text_run_by : ℕ → Run → TextRun
+text_run_by limit run = ran (nat_le (root_end (rows_of run)) limit) (rows_of run)
 
 -- the input is not longer than the maximum
 abbrev pub HasRoom : Moves → Type 0
 HasRoom moves = length moves.input.now ≤ MAX_INPUT
 
 -- the line of a place that is moved by a hair is right
-abbrev pub IsMovedBy : Author → List ℕ → Ran → Shift → told.Line → Type 0
-IsMovedBy author input before shift line =
-    IsMoved author.clock author.text.now input author.limit author.finer author.scope.now author.sites.now before shift line
+abbrev pub IsMovedBy : Original → List ℕ → TextRun → Shift → told.Line → Type 0
+IsMovedBy original input before shift line =
+    IsMoved original.clock original.text.now input original.limit original.finer original.scope.now original.sites.now before shift line
 
 abbrev pub IsMovedOf : Moves → Shift → Line → Type 0
-IsMovedOf moves shift line = IsMovedBy moves.author moves.input.now (ran_held moves.before) shift (line_held line)
+IsMovedOf moves shift line = IsMovedBy moves.original moves.input.now (text_run_held moves.before) shift (line_held line)
 
 -- all lines of a text
-abbrev pub AreLinesOf : Author → List ℕ → Ran → List told.Line → Type 0
-AreLinesOf author input first lines =
-    AreLines author.clock author.text.now input author.limit author.finer author.scope.now author.sites.now author.starts.now first lines
+abbrev pub AreLinesOf : Original → List ℕ → TextRun → List told.Line → Type 0
+AreLinesOf original input first lines =
+    AreLines original.clock original.text.now input original.limit original.finer original.scope.now original.sites.now original.starts.now first lines
 
 -- the lines of a text in finer ticks and of all hairs, given its own run and the one in finer ticks
-pub record AreLinesBeside (author : Author) (input : List ℕ) (first before : Ran) (lines : List told.Line) : Type 0 where
+pub record AreLinesOfRun (original : Original) (input : List ℕ) (first before : TextRun) (lines : List told.Line) : Type 0 where
   pub moves : List told.Line
-  pub moves_are : AreAnswers (IsMovedBy author input before) (shifts_of author.sites.now) moves
-  pub all : lines ≡ told.finer (found_between author.scope.now first before) ∷ moves
+  pub moves_are : AreAnswers (IsMovedBy original input before) (shifts_of original.sites.now) moves
+  pub all : lines ≡ told.finer (found_between original.scope.now first before) ∷ moves
 
 -- all lines of a text whose text in finer ticks spells this job
-pub record AreLinesFor (author : Author) (input : List ℕ) (first : Ran) (job : Tree) (lines : List told.Line) : Type 0 where
+pub record AreLinesFor (original : Original) (input : List ℕ) (first : TextRun) (job : Tree) (lines : List told.Line) : Type 0 where
   pub moves : List told.Line
-  pub moves_are : AreAnswers (IsMovedBy author input (ran_of author.limit job input)) (shifts_of author.sites.now) moves
+  pub moves_are : AreAnswers (IsMovedBy original input (text_run_of original.limit job input)) (shifts_of original.sites.now) moves
   pub all :
-      lines ≡ told.finer (found_between author.scope.now first (ran_of author.limit job input))
-      ∷ (moves ++ copies_lines author.clock author.text.now author.limit author.finer (walked_events job input) author.starts.now)
+      lines ≡ told.finer (found_between original.scope.now first (text_run_of original.limit job input))
+      ∷ (moves ++ copies_lines original.clock original.text.now original.limit original.finer (walked_events job input) original.starts.now)
 
 -- all lines of a text whose text in finer ticks is refused
-pub record AreLinesOfRefused (author : Author) (input : List ℕ) (fault : JobFault) (lines : List told.Line) : Type 0 where
+pub record AreLinesOfRefused (original : Original) (input : List ℕ) (fault : JobFault) (lines : List told.Line) : Type 0 where
   pub moves : List told.Line
-  pub moves_are : AreAnswers (IsMovedBy author input (refused fault)) (shifts_of author.sites.now) moves
+  pub moves_are : AreAnswers (IsMovedBy original input (refused fault)) (shifts_of original.sites.now) moves
   pub all : lines ≡ told.finer (told.not_tried fault) ∷ moves

@@ -5,7 +5,7 @@ ghost use Rattle.race_text.specs.CopyViews.{meeting_held};
 ghost use Rattle.race_text.specs.LineViews.{line_held};
 ghost use Rattle.trials.specs.Lines.{met_line, copies_lines};
 
-use crate::author::Author;
+use crate::original::Original;
 use basics::{column_of, line_of};
 use job_edits::CopiedStart;
 use job_story::Event;
@@ -16,16 +16,22 @@ use std::alloc::{AllocError, Global};
 pub(crate) fn push_copies(
     alloc: Global,
     lines: &mut Vec<Line>,
-    author: &Author<'_>,
+    original: &Original<'_>,
     walked: &[&Event],
 ) -> Result<(), AllocError>
-    requires { 0 < author.now.finer.factor }
+    requires { 0 < original.now.finer.factor }
     ensures { OnOk result (map line_held lines.new.items ≡ map line_held lines.old.items
-        ++ copies_lines author.now.clock author.now.text.now author.now.limit author.now.finer (map event_in walked.now) author.now.starts.now) }
+        ++ copies_lines original.now.clock original.now.text.now original.now.limit original.now.finer (map event_in walked.now) original.now.starts.now) }
 {
-    'starts: for start in author.starts {
-        let met = meeting_of(alloc, author.clock, author.finer.hair, start.name, walked)?;
-        push_met(lines, author, start, met)?;
+    'starts: for start in original.starts {
+        let met = meeting_of(
+            alloc,
+            original.clock,
+            original.finer.hair,
+            start.name,
+            walked,
+        )?;
+        push_met(lines, original, start, met)?;
     }
     Ok(())
 }
@@ -33,29 +39,29 @@ pub(crate) fn push_copies(
 // Appends the line of a meeting, if there is one by the limit.
 fn push_met(
     lines: &mut Vec<Line>,
-    author: &Author<'_>,
+    original: &Original<'_>,
     start: &CopiedStart,
     met: Option<Meeting>,
 ) -> Result<(), AllocError>
-    requires { 0 < author.now.finer.factor }
+    requires { 0 < original.now.finer.factor }
     ensures { OnOk result (map line_held lines.new.items ≡ map line_held lines.old.items
-        ++ met_line author.now.text.now author.now.limit author.now.finer start.now (option_map meeting_held met)) }
+        ++ met_line original.now.text.now original.now.limit original.now.finer start.now (option_map meeting_held met)) }
 {
     let Some(Meeting { one, other, tick }) = met else {
         return Ok(());
     };
-    if tick > author.limit {
+    if tick > original.limit {
         return Ok(());
     }
     let name = start.name;
     lines.push(Line::Copies {
-        line: line_of(author.text, start.from),
-        column: column_of(author.text, start.from),
+        line: line_of(original.text, start.from),
+        column: column_of(original.text, start.from),
         name,
         count: start.count,
         one,
         other,
-        tick: tick / author.finer.factor,
+        tick: tick / original.finer.factor,
     })?;
     Ok(())
 }

@@ -14,7 +14,7 @@ use workers::Work;
 
 /// What all lines have in common.
 #[derive(Clone, Copy)]
-pub(crate) struct Author<'a> {
+pub(crate) struct Original<'a> {
     /// The original job text.
     pub trial: Trial<'a>,
     /// Whether the names of exceptions are printed.
@@ -29,7 +29,7 @@ pub(crate) struct Author<'a> {
     pub steps: &'a [Waiting],
 }
 
-impl Work for Author<'_> {
+impl Work for Original<'_> {
     type Item = Variant;
 
     type Answer = Line;
@@ -82,15 +82,15 @@ fn part_of(variant: &Variant) -> Option<BlockPart>
 fn tried_with<R: Threads + Sync>(
     rt: &R,
     alloc: Global,
-    author: &Author<'_>,
+    original: &Original<'_>,
     variant: &Variant,
 ) -> Result<Tried, AllocError>
-    requires { HasRoom author.now }
-    ensures { IfOk result (IsTrialWhere author.now variant.now) }
+    requires { HasRoom original.now }
+    ensures { IfOk result (IsTrialWhere original.now variant.now) }
 {
     match &variant.part {
-        Some(part) => try_in_part(rt, alloc, author, part, variant),
-        None => try_fault(rt, alloc, &author.trial, &variant.step, &variant.fault),
+        Some(part) => try_in_part(rt, alloc, original, part, variant),
+        None => try_fault(rt, alloc, &original.trial, &variant.step, &variant.fault),
     }
 }
 
@@ -98,16 +98,16 @@ fn tried_with<R: Threads + Sync>(
 fn line_with<R: Threads + Sync>(
     rt: &R,
     alloc: Global,
-    author: &Author<'_>,
+    original: &Original<'_>,
     variant: &Variant,
 ) -> Result<Line, AllocError>
-    requires { HasRoom author.now }
-    ensures { IfOk result (IsLineOf author.now variant.now) }
+    requires { HasRoom original.now }
+    ensures { IfOk result (IsLineOf original.now variant.now) }
 {
     let from = variant.step.from;
-    let line = line_of(author.trial.text, from);
-    let column = column_of(author.trial.text, from);
-    let tried = tried_with(rt, alloc, author, variant)?;
+    let line = line_of(original.trial.text, from);
+    let column = column_of(original.trial.text, from);
+    let tried = tried_with(rt, alloc, original, variant)?;
     let Tried {
         job_outcome,
         reached,
@@ -120,7 +120,7 @@ fn line_with<R: Threads + Sync>(
         variant: twin(variant),
         job_outcome,
         reached,
-        is_named: author.is_named,
+        is_named: original.is_named,
         differs,
         cuts,
     })

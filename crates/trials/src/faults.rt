@@ -4,7 +4,7 @@ ghost use Rattle.job_reader.specs.Refusals.{Spells, IsFair};
 ghost use Rattle.outcomes.specs.Views.{job_outcome_held, line_held};
 ghost use Rattle.trials.specs.Faults.{has_items, found_each, tried_in, untried_in, AreFaultLines};
 
-use crate::fault_work::Author;
+use crate::fault_work::Original;
 use crate::job_outcome::outcome_of_job;
 use crate::parts::token_roles;
 use crate::trial::Trial;
@@ -92,7 +92,7 @@ fn lines_of_job<R: Threads + Sync, G: Gate + Sync>(
     let (variants, untried) = tried_variants(alloc, each, has_input, names, read)?;
     let (limit, workers) = (settings.limit(), settings.workers());
     let first = outcome_of_job(rt, alloc, job, input, limit, None)?;
-    let author = Author {
+    let original = Original {
         trial: Trial {
             text: job_text,
             input,
@@ -106,7 +106,7 @@ fn lines_of_job<R: Threads + Sync, G: Gate + Sync>(
         blocks: blocks.as_slice(),
         steps: steps.as_slice(),
     };
-    let lines = answers_for(rt, alloc, &author, variants.as_slice(), workers, gate)?;
+    let lines = answers_for(rt, alloc, &original, variants.as_slice(), workers, gate)?;
     Ok(FaultLines {
         first,
         lines,

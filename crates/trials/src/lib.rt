@@ -22,8 +22,7 @@
 //! number of workers changes no line. `commands` writes the table.
 #![tactic(auto)]
 
-mod author;
-mod beside;
+mod comparing;
 mod copies;
 mod fault_work;
 mod faults;
@@ -32,6 +31,7 @@ mod missing;
 mod moves;
 mod nearest;
 mod number;
+mod original;
 mod outcome;
 mod parts;
 mod race_work;

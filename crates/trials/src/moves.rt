@@ -3,15 +3,15 @@ ghost use Rattle.job_meaning.specs.declared.limits.TheConstants.{MAX_INPUT};
 ghost use Rattle.job_edits.specs.Changes.{changed_text};
 ghost use Rattle.job_edits.specs.Finer.{shifted_changes};
 ghost use Rattle.race_text.specs.LineViews.{found_held};
-ghost use Rattle.trials.specs.Ran.{IsBeside};
-ghost use Rattle.trials.specs.Views.{IsMovedOf, ran_held};
+ghost use Rattle.trials.specs.TextRuns.{IsComparison};
+ghost use Rattle.trials.specs.Views.{IsMovedOf, text_run_held};
 
-use crate::author::Author;
-use crate::beside::found_in_text;
+use crate::comparing::found_in_text;
+use crate::original::Original;
 use basics::{column_of, line_of};
 use job_edits::{Shift, changed_text, shifted_changes};
 use job_reader::JobFault;
-use race_text::{Found, Line, Ran};
+use race_text::{ComparedRun, Found, Line};
 use std::alloc::{AllocError, Global};
 use std::thread::Threads;
 use workers::Work;
@@ -20,11 +20,11 @@ use workers::Work;
 #[derive(Clone, Copy)]
 pub(crate) struct Moves<'a> {
     /// The text.
-    pub author: Author<'a>,
+    pub original: Original<'a>,
     /// The input.
     pub input: &'a [u8],
     /// The run of the text in finer ticks, or the refusal of that text.
-    pub before: Result<&'a Ran<'a>, JobFault>,
+    pub before: Result<&'a ComparedRun<'a>, JobFault>,
 }
 
 impl Work for Moves<'_> {
@@ -61,8 +61,8 @@ fn line_with<R: Threads + Sync>(
     let found = found_with(rt, alloc, moves, shift)?;
     let from = shift.site.from;
     let moment = shift.site.moment;
-    let line = line_of(moves.author.text, from);
-    let column = column_of(moves.author.text, from);
+    let line = line_of(moves.original.text, from);
+    let column = column_of(moves.original.text, from);
     Ok(Line::Moved {
         line,
         column,
@@ -80,20 +80,20 @@ fn found_with<R: Threads + Sync>(
     shift: &Shift,
 ) -> Result<Found, AllocError>
     requires { length moves.now.input.now ≤ MAX_INPUT }
-    ensures { IfOk result (λ found. IsBeside moves.now.author.scope.now (changed_text moves.now.author.text.now
-        (shifted_changes moves.now.author.clock moves.now.author.finer moves.now.author.scope.now shift.now moves.now.author.sites.now)) moves.now.input.now moves.now.author.limit (ran_held moves.now.before) (found_held found)) }
+    ensures { IfOk result (λ found. IsComparison moves.now.original.scope.now (changed_text moves.now.original.text.now
+        (shifted_changes moves.now.original.clock moves.now.original.finer moves.now.original.scope.now shift.now moves.now.original.sites.now)) moves.now.input.now moves.now.original.limit (text_run_held moves.now.before) (found_held found)) }
 {
-    let author = moves.author;
-    let scope = *author.scope;
+    let original = moves.original;
+    let scope = *original.scope;
     let changes = shifted_changes(
         alloc,
-        author.clock,
-        author.finer,
+        original.clock,
+        original.finer,
         scope,
         shift,
-        author.sites,
+        original.sites,
     )?;
-    let text = changed_text(alloc, author.text, changes.as_slice())?;
+    let text = changed_text(alloc, original.text, changes.as_slice())?;
     found_in_text(
         rt,
         alloc,
@@ -101,6 +101,6 @@ fn found_with<R: Threads + Sync>(
         moves.before,
         text.as_slice(),
         moves.input,
-        author.limit,
+        original.limit,
     )
 }

@@ -4,7 +4,7 @@ ghost use Rattle.job_reader.specs.Refusals.{Spells};
 ghost use Rattle.outcomes.specs.Views.{job_outcome_held};
 ghost use Rattle.trials.specs.JobOutcomes.{token_roles, text_if, number_if, IsTriedJob, IsNotTried};
 
-use crate::fault_work::Author;
+use crate::fault_work::Original;
 use crate::job_outcome::outcome_of_job;
 use crate::trial::{Trial, Tried, copy_of, try_fault};
 use job_edits::{BlockPart, Plan, Variant, Waiting, waiting_steps, written_at, written_out};
@@ -35,24 +35,24 @@ pub(crate) fn token_roles(
 pub(crate) fn try_in_part<R: Threads + Sync>(
     rt: &R,
     alloc: Global,
-    author: &Author<'_>,
+    original: &Original<'_>,
     part: &BlockPart,
     variant: &Variant,
 ) -> Result<Tried, AllocError>
-    requires { length author.now.trial.input.now ≤ MAX_INPUT }
+    requires { length original.now.trial.input.now ≤ MAX_INPUT }
     ensures { IfOk result (λ t.
-        IsTriedJob (text_if (slice_get author.now.blocks.now part.now.block) author.now.trial.text.now author.now.tokens.now author.now.roles.now part.now.index)
-        author.now.trial.input.now author.now.trial.limit
-        (number_if (slice_get author.now.blocks.now part.now.block) part.now.index variant.now.step.from author.now.steps.now) variant.now.step variant.now.fault
+        IsTriedJob (text_if (slice_get original.now.blocks.now part.now.block) original.now.trial.text.now original.now.tokens.now original.now.roles.now part.now.index)
+        original.now.trial.input.now original.now.trial.limit
+        (number_if (slice_get original.now.blocks.now part.now.block) part.now.index variant.now.step.from original.now.steps.now) variant.now.step variant.now.fault
         (job_outcome_held t.job_outcome) t.reached t.differs t.cuts
-        ⊎ IsNotTried (text_if (slice_get author.now.blocks.now part.now.block) author.now.trial.text.now author.now.tokens.now author.now.roles.now part.now.index)
+        ⊎ IsNotTried (text_if (slice_get original.now.blocks.now part.now.block) original.now.trial.text.now original.now.tokens.now original.now.roles.now part.now.index)
         (job_outcome_held t.job_outcome) t.reached t.differs t.cuts) }
 {
-    let text = text_apart(alloc, author, part)?;
-    let number = number_apart(author, part, variant.step.from);
+    let text = text_apart(alloc, original, part)?;
+    let number = number_apart(original, part, variant.step.from);
     match read_job(alloc, text.as_slice()) {
         Ok(job) => {
-            let tried = try_in_job(rt, alloc, author, text.as_slice(), &job, number, variant)?;
+            let tried = try_in_job(rt, alloc, original, text.as_slice(), &job, number, variant)?;
             Ok(tried)
         }
         Err(fault) => match fault.kind {
@@ -71,18 +71,18 @@ pub(crate) fn try_in_part<R: Threads + Sync>(
 fn try_in_job<R: Threads + Sync>(
     rt: &R,
     alloc: Global,
-    author: &Author<'_>,
+    original: &Original<'_>,
     text: &[u8],
     job: &Job,
     number: usize,
     variant: &Variant,
 ) -> Result<Tried, AllocError>
-    requires room { length author.now.trial.input.now ≤ MAX_INPUT }
+    requires room { length original.now.trial.input.now ≤ MAX_INPUT }
     requires spells { Spells text.now job.now }
-    ensures { IfOk result (λ t. IsTriedJob text.now author.now.trial.input.now author.now.trial.limit number variant.now.step variant.now.fault
+    ensures { IfOk result (λ t. IsTriedJob text.now original.now.trial.input.now original.now.trial.limit number variant.now.step variant.now.fault
         (job_outcome_held t.job_outcome) t.reached t.differs t.cuts) }
 {
-    let (input, limit) = (author.trial.input, author.trial.limit);
+    let (input, limit) = (original.trial.input, original.trial.limit);
     let tokens = spelled_tokens(alloc, text, job)?;
     let steps = waiting_steps(alloc, tokens.as_slice())?;
     let step = step_at(steps.as_slice(), number, &variant.step);
@@ -109,13 +109,24 @@ fn step_at(steps: &[Waiting], number: usize, other: &Waiting) -> Waiting
 }
 
 // Returns the text in which a copy or pass is written out.
-fn text_apart(alloc: Global, author: &Author<'_>, part: &BlockPart) -> Result<Vec<u8>, AllocError>
+fn text_apart(
+    alloc: Global,
+    original: &Original<'_>,
+    part: &BlockPart,
+) -> Result<Vec<u8>, AllocError>
     ensures { IfOk result (λ text. text.items
-        ≡ text_if (slice_get author.now.blocks.now part.now.block) author.now.trial.text.now author.now.tokens.now author.now.roles.now part.now.index) }
+        ≡ text_if (slice_get original.now.blocks.now part.now.block) original.now.trial.text.now original.now.tokens.now original.now.roles.now part.now.index) }
 {
-    let text = author.trial.text;
-    match author.blocks.get(part.block) {
-        Some(block) => written_out(alloc, text, author.tokens, author.roles, block, part.index),
+    let text = original.trial.text;
+    match original.blocks.get(part.block) {
+        Some(block) => written_out(
+            alloc,
+            text,
+            original.tokens,
+            original.roles,
+            block,
+            part.index,
+        ),
         None => {
             let mut same = Vec::new(alloc);
             same.extend_from_slice(text)?;
@@ -125,11 +136,11 @@ fn text_apart(alloc: Global, author: &Author<'_>, part: &BlockPart) -> Result<Ve
 }
 
 // Returns the number, in the text in which a copy or pass is written out, of the step that begins at a place of the original text.
-fn number_apart(author: &Author<'_>, part: &BlockPart, from: usize) -> usize
-    ensures { result ≡ number_if (slice_get author.now.blocks.now part.now.block) part.now.index from author.now.steps.now }
+fn number_apart(original: &Original<'_>, part: &BlockPart, from: usize) -> usize
+    ensures { result ≡ number_if (slice_get original.now.blocks.now part.now.block) part.now.index from original.now.steps.now }
 {
-    match author.blocks.get(part.block) {
-        Some(block) => written_at(block, part.index, from, author.steps),
+    match original.blocks.get(part.block) {
+        Some(block) => written_at(block, part.index, from, original.steps),
         None => 0,
     }
 }

@@ -7,18 +7,18 @@ ghost use Rattle.workers.specs.Answers.{AreAnswers};
 ghost use Rattle.race_text.specs.Lines as told;
 ghost use Rattle.race_text.specs.LineViews.{found_held, line_held};
 ghost use Rattle.trials.specs.Lines.{copies_lines};
-ghost use Rattle.trials.specs.Ran.{ran};
-ghost use Rattle.trials.specs.Views.{IsMovedBy, AreLinesOf, AreLinesBeside, AreLinesFor, AreLinesOfRefused, ran_by, ran_held, ran_seen};
+ghost use Rattle.trials.specs.TextRuns.{ran};
+ghost use Rattle.trials.specs.Views.{IsMovedBy, AreLinesOf, AreLinesOfRun, AreLinesFor, AreLinesOfRefused, text_run_by, text_run_held, text_run_seen};
 
-use crate::author::Author;
-use crate::beside::found_in_run;
+use crate::comparing::found_in_run;
 use crate::copies::push_copies;
 use crate::moves::Moves;
+use crate::original::Original;
 use crate::summary_of;
 use job_edits::{changed_text, finer_changes, shifts};
 use job_reader::{Job, JobFault, JobKind, read_job};
 use job_runner::{Forward, Gate, NoGate, Run, run_to_end};
-use race_text::{Found, Line, Ran};
+use race_text::{ComparedRun, Found, Line};
 use std::alloc::{AllocError, Global};
 use std::thread::Threads;
 use story_index::events_until;
@@ -29,31 +29,31 @@ use workers::answers_for;
 pub(crate) fn lines_for<R: Threads + Sync, G: Gate + Sync>(
     rt: &R,
     alloc: Global,
-    author: &Author<'_>,
+    original: &Original<'_>,
     input: &[u8],
     own: &Run<'_>,
     workers: usize,
     gate: &G,
 ) -> Result<Vec<Line>, AllocError>
     requires input { length input.now ≤ MAX_INPUT }
-    requires ticks { 0 < author.now.finer.factor }
+    requires ticks { 0 < original.now.finer.factor }
     requires some_workers { 1 ≤ workers }
-    ensures { IfOk result (λ lines. AreLinesOf author.now input.now (ran true (rows_of own.now)) (map line_held lines.items)) }
+    ensures { IfOk result (λ lines. AreLinesOf original.now input.now (ran true (rows_of own.now)) (map line_held lines.items)) }
 {
-    let changes = finer_changes(alloc, author.clock, author.finer, author.sites)?;
-    let text = changed_text(alloc, author.text, changes.as_slice())?;
-    let first = Ran {
+    let changes = finer_changes(alloc, original.clock, original.finer, original.sites)?;
+    let text = changed_text(alloc, original.text, changes.as_slice())?;
+    let first = ComparedRun {
         records: own.records(),
         in_time: true,
     };
     match read_job(alloc, text.as_slice()) {
         Ok(job) => {
-            let lines = lines_of_job(rt, alloc, author, input, &first, &job, workers, gate)?;
+            let lines = lines_of_job(rt, alloc, original, input, &first, &job, workers, gate)?;
             Ok(lines)
         }
         Err(fault) => match fault.kind {
             JobKind::NoMemory => Err(AllocError),
-            _ => lines_of_refused(rt, alloc, author, input, fault, workers, gate),
+            _ => lines_of_refused(rt, alloc, original, input, fault, workers, gate),
         },
     }
 }
@@ -62,7 +62,7 @@ pub(crate) fn lines_for<R: Threads + Sync, G: Gate + Sync>(
 fn lines_of_refused<R: Threads + Sync, G: Gate + Sync>(
     rt: &R,
     alloc: Global,
-    author: &Author<'_>,
+    original: &Original<'_>,
     input: &[u8],
     fault: JobFault,
     workers: usize,
@@ -70,9 +70,9 @@ fn lines_of_refused<R: Threads + Sync, G: Gate + Sync>(
 ) -> Result<Vec<Line>, AllocError>
     requires input { length input.now ≤ MAX_INPUT }
     requires some_workers { 1 ≤ workers }
-    ensures { IfOk result (λ lines. AreLinesOfRefused author.now input.now fault (map line_held lines.items)) }
+    ensures { IfOk result (λ lines. AreLinesOfRefused original.now input.now fault (map line_held lines.items)) }
 {
-    let moves = moves_for(rt, alloc, author, input, Err(fault), workers, gate)?;
+    let moves = moves_for(rt, alloc, original, input, Err(fault), workers, gate)?;
     after_first(alloc, Found::NotTried(fault), moves)
 }
 
@@ -80,21 +80,21 @@ fn lines_of_refused<R: Threads + Sync, G: Gate + Sync>(
 fn lines_of_job<R: Threads + Sync, G: Gate + Sync>(
     rt: &R,
     alloc: Global,
-    author: &Author<'_>,
+    original: &Original<'_>,
     input: &[u8],
-    first: &Ran<'_>,
+    first: &ComparedRun<'_>,
     job: &Job,
     workers: usize,
     gate: &G,
 ) -> Result<Vec<Line>, AllocError>
     requires input { length input.now ≤ MAX_INPUT }
-    requires ticks { 0 < author.now.finer.factor }
+    requires ticks { 0 < original.now.finer.factor }
     requires some_workers { 1 ≤ workers }
-    ensures { IfOk result (λ lines. AreLinesFor author.now input.now (ran_seen first.now) job.now (map line_held lines.items)) }
+    ensures { IfOk result (λ lines. AreLinesFor original.now input.now (text_run_seen first.now) job.now (map line_held lines.items)) }
 {
     let run = run_to_end(rt, alloc, job, input, 1, &mut Forward, &NoGate)?;
-    let mut lines = lines_of_run(rt, alloc, author, input, first, &run, workers, gate)?;
-    push_copies_of(rt, alloc, &mut lines, author, input, job)?;
+    let mut lines = lines_of_run(rt, alloc, original, input, first, &run, workers, gate)?;
+    push_copies_of(rt, alloc, &mut lines, original, input, job)?;
     Ok(lines)
 }
 
@@ -102,24 +102,24 @@ fn lines_of_job<R: Threads + Sync, G: Gate + Sync>(
 fn lines_of_run<R: Threads + Sync, G: Gate + Sync>(
     rt: &R,
     alloc: Global,
-    author: &Author<'_>,
+    original: &Original<'_>,
     input: &[u8],
-    first: &Ran<'_>,
+    first: &ComparedRun<'_>,
     run: &Run<'_>,
     workers: usize,
     gate: &G,
 ) -> Result<Vec<Line>, AllocError>
     requires input { length input.now ≤ MAX_INPUT }
     requires some_workers { 1 ≤ workers }
-    ensures { IfOk result (λ lines. AreLinesBeside author.now input.now (ran_seen first.now) (ran_by author.now.limit run.now)
+    ensures { IfOk result (λ lines. AreLinesOfRun original.now input.now (text_run_seen first.now) (text_run_by original.now.limit run.now)
         (map line_held lines.items)) }
 {
-    let before = Ran {
+    let before = ComparedRun {
         records: run.records(),
-        in_time: run.end() <= author.limit,
+        in_time: run.end() <= original.limit,
     };
-    let found = found_in_run(alloc, *author.scope, first, run, author.limit)?;
-    let moves = moves_for(rt, alloc, author, input, Ok(&before), workers, gate)?;
+    let found = found_in_run(alloc, *original.scope, first, run, original.limit)?;
+    let moves = moves_for(rt, alloc, original, input, Ok(&before), workers, gate)?;
     after_first(alloc, found, moves)
 }
 
@@ -127,20 +127,20 @@ fn lines_of_run<R: Threads + Sync, G: Gate + Sync>(
 fn moves_for<R: Threads + Sync, G: Gate + Sync>(
     rt: &R,
     alloc: Global,
-    author: &Author<'_>,
+    original: &Original<'_>,
     input: &[u8],
-    before: Result<&Ran<'_>, JobFault>,
+    before: Result<&ComparedRun<'_>, JobFault>,
     workers: usize,
     gate: &G,
 ) -> Result<Vec<Line>, AllocError>
     requires input { length input.now ≤ MAX_INPUT }
     requires some_workers { 1 ≤ workers }
-    ensures { IfOk result (λ lines. AreAnswers (IsMovedBy author.now input.now (ran_held before.entry)) (shifts_of author.now.sites.now)
+    ensures { IfOk result (λ lines. AreAnswers (IsMovedBy original.now input.now (text_run_held before.entry)) (shifts_of original.now.sites.now)
         (map line_held lines.items)) }
 {
-    let shifts = shifts(alloc, author.sites)?;
+    let shifts = shifts(alloc, original.sites)?;
     let moves = Moves {
-        author: *author,
+        original: *original,
         input,
         before,
     };
@@ -163,19 +163,19 @@ fn push_copies_of<R: Threads + Sync>(
     rt: &R,
     alloc: Global,
     lines: &mut Vec<Line>,
-    author: &Author<'_>,
+    original: &Original<'_>,
     input: &[u8],
     job: &Job,
 ) -> Result<(), AllocError>
     requires input { length input.now ≤ MAX_INPUT }
-    requires ticks { 0 < author.now.finer.factor }
-    ensures { OnOk result (map line_held lines.new.items ≡ map line_held lines.old.items ++ copies_lines author.now.clock
-        author.now.text.now author.now.limit author.now.finer (walked_events job.now input.now) author.now.starts.now) }
+    requires ticks { 0 < original.now.finer.factor }
+    ensures { OnOk result (map line_held lines.new.items ≡ map line_held lines.old.items ++ copies_lines original.now.clock
+        original.now.text.now original.now.limit original.now.finer (walked_events job.now input.now) original.now.starts.now) }
 {
-    if author.starts.is_empty() {
+    if original.starts.is_empty() {
         return Ok(());
     }
     let summary = summary_of(rt, alloc, job, input)?;
     let walked = events_until(alloc, summary.clock, summary.events.as_slice(), None)?;
-    push_copies(alloc, lines, author, walked.as_slice())
+    push_copies(alloc, lines, original, walked.as_slice())
 }

@@ -4,7 +4,7 @@ ghost use Rattle.job_reader.specs.Refusals.{Spells, IsFair};
 ghost use Rattle.job_edits.specs.Finer.{shifts_of};
 ghost use Rattle.trials.specs.Races.{IsRaceAnswer};
 
-use crate::author::Author;
+use crate::original::Original;
 use crate::race_work::lines_for;
 use job_edits::{Finer, Site, copied_starts, hair_scope, shifts, sites};
 use job_meaning::Clock;
@@ -88,7 +88,7 @@ fn answer_for_job<R: Threads + Sync, G: Gate + Sync>(
     };
     let scope = hair_scope(alloc, tokens.as_slice())?;
     let starts = copied_starts(alloc, tokens.as_slice())?;
-    let author = Author {
+    let original = Original {
         text: job_text,
         clock,
         limit: limit.saturating_mul(finer.factor),
@@ -97,8 +97,8 @@ fn answer_for_job<R: Threads + Sync, G: Gate + Sync>(
         sites: sites.as_slice(),
         starts: starts.as_slice(),
     };
-    let lines = lines_for(rt, alloc, &author, input, &run, settings.workers(), gate)?;
-    let hairs = hairs_of(alloc, author.sites)?;
+    let lines = lines_for(rt, alloc, &original, input, &run, settings.workers(), gate)?;
+    let hairs = hairs_of(alloc, original.sites)?;
     Ok(RaceAnswer::Lines(RaceLines { hairs, lines }))
 }
 

@@ -1,6 +1,6 @@
 use Rattle.std.proofs.Common.{ap, ◌∙◌, map}
 use Rattle.story_index.specs.Seen.{event_in}
-use Rattle.job_answers.proofs.Told.{job_told}
+use Rattle.job_answers.proofs.Stories.{job_told}
 use Rattle.job_answers.proofs.telling.job_verdict.Goals as goal
 
 pub returns : goal.returns

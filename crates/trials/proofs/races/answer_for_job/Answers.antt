@@ -6,7 +6,7 @@ use Rattle.job_edits.specs.Sites.{sites_in}
 use Rattle.job_edits.specs.Copied.{copied_in}
 use Rattle.job_edits.specs.Finer.{finer_for, hair_scope}
 use Rattle.race_text.specs.LineViews.{line_held}
-use Rattle.trials.specs.Ran.{ran}
+use Rattle.trials.specs.TextRuns.{ran}
 use Rattle.trials.proofs.RacesTabled.{in_time, ran_in_time, are_lines}
 use Rattle.trials.proofs.races.answer_for_job.Goals as goal
 

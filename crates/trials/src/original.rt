@@ -4,7 +4,7 @@ use job_tree::Name;
 
 /// What all lines have in common.
 #[derive(Clone, Copy)]
-pub(crate) struct Author<'a> {
+pub(crate) struct Original<'a> {
     /// The original job text.
     pub text: &'a [u8],
     /// How the time of the original job is counted.

@@ -12,29 +12,29 @@ use Rattle.race_text.specs.Lines as told
 use Rattle.race_text.specs.Lines.{Found}
 
 -- the text is refused; or its job ended by the limit or did not, with these records
-pub data Ran : Type 0 where
-  refused : (fault : JobFault) → Ran
-  ran : (in_time : Bool) → (rows : List Row) → Ran
+pub data TextRun : Type 0 where
+  refused : (fault : JobFault) → TextRun
+  ran : (in_time : Bool) → (rows : List Row) → TextRun
 
-abbrev pub ran_of : ℕ → Tree → List ℕ → Ran
-ran_of limit job input = ran (nat_le (meaning_end job input) limit) (meaning_rows job input)
+abbrev pub text_run_of : ℕ → Tree → List ℕ → TextRun
+text_run_of limit job input = ran (nat_le (meaning_end job input) limit) (meaning_rows job input)
 
 -- the outcome of a text, by the meaning of the job that it spells, and the events of the job's story in the order of the walk;
 -- no events if the text is refused
-abbrev pub IsRan : List ℕ → List ℕ → ℕ → Ran → List Event → Type 0
-IsRan text input limit r events =
-    ((job : Tree) × Spells text job × (r ≡ ran_of limit job input) × (events ≡ walked_events job input))
+abbrev pub IsTextRun : List ℕ → List ℕ → ℕ → TextRun → List Event → Type 0
+IsTextRun text input limit r events =
+    ((job : Tree) × Spells text job × (r ≡ text_run_of limit job input) × (events ≡ walked_events job input))
     ⊎ ((fault : JobFault) × IsRefused text fault.kind fault.at × (r ≡ refused fault) × (events ≡ []))
 
 -- what a run shows that another one does not show, apart from ticks and from the exits of scopes with the name `scope`, which are
 -- those of hairs; nothing is compared where a text is refused
-abbrev pub found_between : (scope : List ℕ) → Ran → Ran → Found
+abbrev pub found_between : (scope : List ℕ) → TextRun → TextRun → Found
 found_between scope (refused fault) r = told.not_tried fault
 found_between scope (ran a before) (refused fault) = told.not_tried fault
 found_between scope (ran a before) (ran b after) = told.differs (of_runs scope a before b after)
 
 -- what the job that a text spells shows that a run does not show; or the refusal of a text, with which nothing is compared
-abbrev pub IsBeside : (scope : List ℕ) → List ℕ → List ℕ → ℕ → Ran → Found → Type 0
-IsBeside scope text input limit before found =
-    ((job : Tree) × Spells text job × (found ≡ found_between scope before (ran_of limit job input)))
+abbrev pub IsComparison : (scope : List ℕ) → List ℕ → List ℕ → ℕ → TextRun → Found → Type 0
+IsComparison scope text input limit before found =
+    ((job : Tree) × Spells text job × (found ≡ found_between scope before (text_run_of limit job input)))
     ⊎ ((fault : JobFault) × IsRefused text fault.kind fault.at × (found ≡ found_between scope before (refused fault)))

@@ -27,7 +27,7 @@ use Rattle.job_answers.specs.declared.meaning.Ending.TheVariants.{Done, Raised, 
 use Rattle.job_answers.specs.Stories.{story_events, story_events_if, story_if, until_if, meaning_story, label_or_nothing, IsAbout, IsAboutNone, IsJobVerdict}
 use Rattle.job_answers.specs.Running.{running_lines, IsJobRunning}
 use Rattle.job_answers.specs.Endings.{IsEnding, ending_by, until_of}
-use Rattle.job_answers.specs.Tellings.{IsAsked, IsTold, verdict_of, story_told}
+use Rattle.job_answers.specs.Tellings.{IsAsked, IsStoryAbout, verdict_of, story_shown}
 
 le_test : (m n : ℕ) → m ≤ n → nat_le m n ≡ true
 le_test m n h = grind (arith, nat_tests)
@@ -97,7 +97,7 @@ cut_is job input limit given ending until h cut is = cut ∙ ap (until_of ending
 
 -- and so is their text
 story_if_is : (b : Bool) (job : Tree) (input : List ℕ) (limit : ℕ) (task : Option Label) →
-    story_told (clock_of job.format) (meaning_table job input) (until_if b limit) task (story_events_if b limit job input) ≡ story_if b limit job input task
+    story_shown (clock_of job.format) (meaning_table job input) (until_if b limit) task (story_events_if b limit job input) ≡ story_if b limit job input task
 story_if_is true job input limit None = refl
 story_if_is true job input limit (Some task) = refl
 story_if_is false job input limit None = refl
@@ -145,25 +145,25 @@ about_none : (asked : Option (List ℕ)) (es : List Event) (nearest text : List 
     nearest ≡ label_or_nothing (nearest_in text es) → IsAboutNone asked es nearest
 about_none asked es nearest text e none is = subst (λ (o : Option (List ℕ)). IsAboutNone o es nearest) (sym e) (none, is)
 
-pub told_of_all : (clock : Clock) (table : Table) (until : Option ℕ) (ending : Ending) (asked : Option (List ℕ)) (walked : List Event) (about : About)
+pub story_about_all : (clock : Clock) (table : Table) (until : Option ℕ) (ending : Ending) (asked : Option (List ℕ)) (walked : List Event) (about : About)
     (given : StoryVerdict) (bytes : List ℕ) → IsAsked asked walked about → about ≡ All → given ≡ verdict_of ending →
-    bytes ≡ story_told clock table until None walked → IsTold clock table until ending asked walked given bytes
-told_of_all clock table until ending asked walked about given bytes h e is text =
+    bytes ≡ story_shown clock table until None walked → IsStoryAbout clock table until ending asked walked given bytes
+story_about_all clock table until ending asked walked about given bytes h e is text =
     inl (None, about_all asked walked (subst (IsAsked asked walked) e h), is, text)
 
 -- the verdict and the bytes if a task was asked for, and the story has it
-pub told_of_task : (clock : Clock) (table : Table) (until : Option ℕ) (ending : Ending) (asked : Option (List ℕ)) (walked : List Event) (about : About)
+pub story_about_one : (clock : Clock) (table : Table) (until : Option ℕ) (ending : Ending) (asked : Option (List ℕ)) (walked : List Event) (about : About)
     (label : Bor Label) (given : StoryVerdict) (bytes : List ℕ) → IsAsked asked walked about → about ≡ Task label →
-    given ≡ verdict_of ending → bytes ≡ story_told clock table until (Some label.now) walked →
-    IsTold clock table until ending asked walked given bytes
-told_of_task clock table until ending asked walked about label given bytes h e is text =
+    given ≡ verdict_of ending → bytes ≡ story_shown clock table until (Some label.now) walked →
+    IsStoryAbout clock table until ending asked walked given bytes
+story_about_one clock table until ending asked walked about label given bytes h e is text =
     let k = subst (IsAsked asked walked) e h in inl (Some label.now, about_task asked walked label.now k.0 k.1 k.2, is, text)
 
 -- the verdict and the bytes if a task was asked for that the story does not have
-pub told_of_none : (clock : Clock) (table : Table) (until : Option ℕ) (ending : Ending) (asked : Option (List ℕ)) (walked : List Event) (about : About)
+pub story_about_none : (clock : Clock) (table : Table) (until : Option ℕ) (ending : Ending) (asked : Option (List ℕ)) (walked : List Event) (about : About)
     (nearest : Vec ℕ) (given : StoryVerdict) (bytes : List ℕ) → IsAsked asked walked about → about ≡ NoTask nearest →
-    given ≡ verdict.NoTask nearest → bytes ≡ [] → IsTold clock table until ending asked walked given bytes
-told_of_none clock table until ending asked walked about nearest given bytes h e is text =
+    given ≡ verdict.NoTask nearest → bytes ≡ [] → IsStoryAbout clock table until ending asked walked given bytes
+story_about_none clock table until ending asked walked about nearest given bytes h e is text =
     let k = subst (IsAsked asked walked) e h in inr (nearest, about_none asked walked nearest.items k.0 k.1 k.2 k.3, is, text)
 
 -- ---- the verdict on a job
@@ -177,7 +177,7 @@ verdict_is job input limit asked Late task bytes h about is = (record { task = t
 
 by_told : (job : Tree) (input : List ℕ) (limit : ℕ) (asked : Option (List ℕ)) (ending : Ending) (given : StoryVerdict) (bytes : List ℕ) →
     IsEnding job input limit ending →
-    IsTold (clock_of job.format) (meaning_table job input) (until_if (nat_le (meaning_end job input) limit) limit) ending asked (story_events limit job input) given bytes →
+    IsStoryAbout (clock_of job.format) (meaning_table job input) (until_if (nat_le (meaning_end job input) limit) limit) ending asked (story_events limit job input) given bytes →
     IsJobVerdict job input limit asked given bytes
 by_told job input limit asked ending given bytes h (inl t) =
     subst (λ (v : StoryVerdict). IsJobVerdict job input limit asked v bytes) (sym t.2)
@@ -190,10 +190,10 @@ pub job_told : (job : Tree) (input : List ℕ) (limit : ℕ) (asked : Option (Li
     (until : Option ℕ) (walked : List Event) (given : StoryVerdict) (bytes : List ℕ) → IsEnding job input limit ending →
     clock ≡ clock_of job.format → table ≡ meaning_table job input → until ≡ until_if (nat_le (meaning_end job input) limit) limit →
     walked ≡ story_events limit job input →
-    IsTold clock table until ending asked walked given bytes → IsJobVerdict job input limit asked given bytes
+    IsStoryAbout clock table until ending asked walked given bytes → IsJobVerdict job input limit asked given bytes
 job_told job input limit asked ending clock table until walked given bytes h counts same until_is walked_is t =
     by_told job input limit asked ending given bytes h
-    (subst (λ (es : List Event). IsTold (clock_of job.format) (meaning_table job input) (until_if (nat_le (meaning_end job input) limit) limit) ending asked es given bytes) walked_is
-    (subst (λ (u : Option ℕ). IsTold (clock_of job.format) (meaning_table job input) u ending asked walked given bytes) until_is
-    (subst (λ (k : Table). IsTold (clock_of job.format) k until ending asked walked given bytes) same
-    (subst (λ (c : Clock). IsTold c table until ending asked walked given bytes) counts t))))
+    (subst (λ (es : List Event). IsStoryAbout (clock_of job.format) (meaning_table job input) (until_if (nat_le (meaning_end job input) limit) limit) ending asked es given bytes) walked_is
+    (subst (λ (u : Option ℕ). IsStoryAbout (clock_of job.format) (meaning_table job input) u ending asked walked given bytes) until_is
+    (subst (λ (k : Table). IsStoryAbout (clock_of job.format) k until ending asked walked given bytes) same
+    (subst (λ (c : Clock). IsStoryAbout c table until ending asked walked given bytes) counts t))))

@@ -1,13 +1,13 @@
 ghost use Rattle.std.specs.Prelude.{◌≡◌, ◌≤◌, ℕ, List, length, IfOk};
 ghost use Rattle.job_meaning.specs.declared.limits.TheConstants.{MAX_INPUT};
 ghost use Rattle.race_text.specs.LineViews.{found_held};
-ghost use Rattle.trials.specs.Ran.{refused, ran_of, found_between, IsBeside};
-ghost use Rattle.trials.specs.Views.{ran_by, ran_held, ran_seen};
+ghost use Rattle.trials.specs.TextRuns.{refused, text_run_of, found_between, IsComparison};
+ghost use Rattle.trials.specs.Views.{text_run_by, text_run_held, text_run_seen};
 
 use job_reader::{Job, JobFault, JobKind, read_job};
 use job_runner::{Forward, NoGate, Run, run_to_end};
 use job_tree::Name;
-use race_text::{Found, Ran, run_differences};
+use race_text::{ComparedRun, Found, run_differences};
 use std::alloc::{AllocError, Global};
 use std::thread::Threads;
 
@@ -18,13 +18,13 @@ pub(crate) fn found_in_text<R: Threads + Sync>(
     rt: &R,
     alloc: Global,
     scope: Name,
-    before: Result<&Ran<'_>, JobFault>,
+    before: Result<&ComparedRun<'_>, JobFault>,
     text: &[u8],
     input: &[u8],
     limit: u64,
 ) -> Result<Found, AllocError>
     requires { length input.now ≤ MAX_INPUT }
-    ensures { IfOk result (λ found. IsBeside scope text.now input.now limit (ran_held before.entry) (found_held found)) }
+    ensures { IfOk result (λ found. IsComparison scope text.now input.now limit (text_run_held before.entry) (found_held found)) }
 {
     match read_job(alloc, text) {
         Ok(job) => {
@@ -44,13 +44,13 @@ fn found_in_job<R: Threads + Sync>(
     rt: &R,
     alloc: Global,
     scope: Name,
-    before: Result<&Ran<'_>, JobFault>,
+    before: Result<&ComparedRun<'_>, JobFault>,
     job: &Job,
     input: &[u8],
     limit: u64,
 ) -> Result<Found, AllocError>
     requires { length input.now ≤ MAX_INPUT }
-    ensures { IfOk result (λ found. found_held found ≡ found_between scope (ran_held before.entry) (ran_of limit job.now input.now)) }
+    ensures { IfOk result (λ found. found_held found ≡ found_between scope (text_run_held before.entry) (text_run_of limit job.now input.now)) }
 {
     match before {
         Ok(before) => {
@@ -62,8 +62,8 @@ fn found_in_job<R: Threads + Sync>(
 }
 
 // Returns that nothing was compared, since a text is refused; or since the text of the other run is.
-fn not_tried(before: Result<&Ran<'_>, JobFault>, fault: JobFault) -> Found
-    ensures { (scope : List ℕ) → found_held result ≡ found_between scope (ran_held before.entry) (refused fault) }
+fn not_tried(before: Result<&ComparedRun<'_>, JobFault>, fault: JobFault) -> Found
+    ensures { (scope : List ℕ) → found_held result ≡ found_between scope (text_run_held before.entry) (refused fault) }
 {
     match before {
         Ok(_) => Found::NotTried(fault),
@@ -75,13 +75,13 @@ fn not_tried(before: Result<&Ran<'_>, JobFault>, fault: JobFault) -> Found
 pub(crate) fn found_in_run(
     alloc: Global,
     scope: Name,
-    before: &Ran<'_>,
+    before: &ComparedRun<'_>,
     run: &Run<'_>,
     limit: u64,
 ) -> Result<Found, AllocError>
-    ensures { IfOk result (λ found. found_held found ≡ found_between scope (ran_seen before.now) (ran_by limit run.now)) }
+    ensures { IfOk result (λ found. found_held found ≡ found_between scope (text_run_seen before.now) (text_run_by limit run.now)) }
 {
-    let after = Ran {
+    let after = ComparedRun {
         records: run.records(),
         in_time: run.end() <= limit,
     };
