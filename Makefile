@@ -11,7 +11,7 @@ BASH = $(ROOT)/share/bash-completion/completions
 ZSH = $(ROOT)/share/zsh/site-functions
 FISH = $(ROOT)/share/fish/vendor_completions.d
 MAN = $(ROOT)/share/man/man1
-VERSION = $(shell sed -n 's/^pub const VERSION.*"\(.*\)";/\1/p' crates/nursery_cli/src/parser.rt)
+VERSION = $(shell sed -n 's/^pub const VERSION.*"\(.*\)";/\1/p' crates/cli/src/parser.rt)
 DIST_DIR ?= dist
 RELEASE = nursery-$(VERSION)-x86_64-linux
 
