@@ -5,11 +5,11 @@ use Rattle.std.specs.List.{remove}
 use Rattle.std.proofs.lemmas.List.Elements.{All-cons, All-head, All-nil, All-tail}
 use Rattle.std.proofs.lemmas.List.Edits.{length-remove}
 use Rattle.std.proofs.lemmas.Option.{same_Some, slice_get_within}
-use Rattle.batch_commit.specs.declared.entry.Call.{Call}
-use Rattle.batch_commit.specs.declared.entry.Call.TheVariants.{Begin, Due, Seen, Settled, Ask}
-use Rattle.batch_commit.specs.declared.entry.Entry.{Entry}
-use Rattle.batch_commit.specs.Batch.{Batches, HandsOut}
-use Rattle.batch_commit.specs.Entries.{AllPlaced, NonePlaced, answers_placed, request_in, requests_of, answers_after, with_placed, without_answer}
+use Rattle.task_table.specs.declared.entry.Call.{Call}
+use Rattle.task_table.specs.declared.entry.Call.TheVariants.{Begin, Due, Seen, Settled, Ask}
+use Rattle.task_table.specs.declared.entry.Entry.{Entry}
+use Rattle.task_table.specs.Batch.{Batches, HandsOut}
+use Rattle.task_table.specs.Entries.{AllPlaced, NonePlaced, answers_placed, request_in, requests_of, answers_after, with_placed, without_answer}
 use Rattle.input_lines.specs.declared.answers.Answer.{Answer}
 use Rattle.workers.specs.Slots.{AreAnswers}
 use Rattle.task_machine.specs.declared.stop.Wake.{Wake}

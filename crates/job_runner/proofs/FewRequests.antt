@@ -2,10 +2,10 @@
 use Rattle.std.proofs.Common.{◌≡◌, inl, inr, ℕ, suc, ◌+◌, ◌≤◌, Option, Some, None, List, [], ◌∷◌, length, refl, ap, sym, ◌∙◌, subst, arith}
 use Rattle.std.specs.Prelude.{All, IsSome, is_some, ◌==◌, map}
 use Rattle.std.proofs.lemmas.List.Elements.{All-head, All-tail, All-weaker}
-use Rattle.batch_commit.specs.declared.entry.Call.{Call}
-use Rattle.batch_commit.specs.declared.entry.Call.TheVariants.{Begin, Due, Seen, Settled, Ask}
-use Rattle.batch_commit.specs.declared.entry.Entry.{Entry}
-use Rattle.batch_commit.specs.Entries.{requests_of}
+use Rattle.task_table.specs.declared.entry.Call.{Call}
+use Rattle.task_table.specs.declared.entry.Call.TheVariants.{Begin, Due, Seen, Settled, Ask}
+use Rattle.task_table.specs.declared.entry.Entry.{Entry}
+use Rattle.task_table.specs.Entries.{requests_of}
 use Rattle.input_lines.specs.declared.answers.Answer.{Answer}
 use Rattle.interleavings.specs.Interleaving.{In}
 use Rattle.run_refinement.specs.Laws.{AreDistinct}

@@ -3,9 +3,9 @@ use Rattle.std.proofs.Common.{◌≡◌, ◌⊎◌, inl, inr, ℕ, suc, ◌<◌,
 use Rattle.std.specs.Prelude.{IsSomeAnd, nat_le, nat_lt}
 use Rattle.std.proofs.lemmas.Bool.{cases_lt, leb-true, leb-false}
 use Rattle.std.proofs.lemmas.Option.{none-some, same_Some}
-use Rattle.batch_commit.specs.declared.entry.Call.{Call}
-use Rattle.batch_commit.specs.declared.entry.Call.TheVariants as calls
-use Rattle.batch_commit.specs.Entries.{wake_of}
+use Rattle.task_table.specs.declared.entry.Call.{Call}
+use Rattle.task_table.specs.declared.entry.Call.TheVariants as calls
+use Rattle.task_table.specs.Entries.{wake_of}
 use Rattle.cancel_scopes.specs.Sight.{is_reached, seen}
 use Rattle.cancel_scopes.specs.Tree.{outer_of}
 use Rattle.input_lines.specs.declared.answers.Answer.{Answer}

@@ -5,9 +5,9 @@ use Rattle.std.specs.Option.{option_map}
 use Rattle.std.proofs.lemmas.List.Elements.{All-map, All-nil}
 use Rattle.clock.specs.Clock as timers
 use Rattle.clock.specs.Clock.{now_of, limit_of, HasTimer, AllLater, JumpsTo, MeetsLimit}
-use Rattle.batch_commit.specs.declared.entry.Entry.{Entry}
-use Rattle.batch_commit.specs.Batch.{Batches}
-use Rattle.batch_commit.specs.Entries.{Added, NonePlaced, without_answer}
+use Rattle.task_table.specs.declared.entry.Entry.{Entry}
+use Rattle.task_table.specs.Batch.{Batches}
+use Rattle.task_table.specs.Entries.{Added, NonePlaced, without_answer}
 use Rattle.cancel_scopes.specs.Sight.{Tick}
 use Rattle.job_meaning.specs.Meaning.{meaning_end}
 use Rattle.job_meaning.specs.Moments.{clock_of, tick_of}

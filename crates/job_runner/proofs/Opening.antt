@@ -5,9 +5,9 @@ use Rattle.std.proofs.lemmas.Bool.Decides.{eqb_tells}
 use Rattle.std.proofs.lemmas.List.Elements.{All-cons, All-nil}
 use Rattle.std.proofs.lemmas.Option.{same_Some, none-some}
 use Rattle.clock.specs.Clock.{due_of, limit_of, now_of}
-use Rattle.batch_commit.specs.declared.entry.Call.TheVariants.{Begin}
-use Rattle.batch_commit.specs.declared.entry.Entry.{Entry}
-use Rattle.batch_commit.specs.Entries.{Added, NonePlaced, without_answer}
+use Rattle.task_table.specs.declared.entry.Call.TheVariants.{Begin}
+use Rattle.task_table.specs.declared.entry.Entry.{Entry}
+use Rattle.task_table.specs.Entries.{Added, NonePlaced, without_answer}
 use Rattle.job_meaning.specs.Log.{Table}
 use Rattle.job_meaning.specs.Moments.{clock_of}
 use Rattle.job_meaning.specs.declared.clock.Clock.{Clock}

@@ -5,9 +5,9 @@ use Rattle.std.specs.Option.{ForSome}
 use Rattle.std.proofs.lemmas.List.{append-nil, append_assoc, map-append}
 use Rattle.std.proofs.lemmas.List.Elements.{All-append, All-cons, All-nil}
 use Rattle.clock.specs.Clock.{due_of}
-use Rattle.batch_commit.specs.declared.entry.Call.{Call}
-use Rattle.batch_commit.specs.Entries.{Added}
-use Rattle.batch_commit.specs.declared.entry.Call.TheVariants as calls
+use Rattle.task_table.specs.declared.entry.Call.{Call}
+use Rattle.task_table.specs.Entries.{Added}
+use Rattle.task_table.specs.declared.entry.Call.TheVariants as calls
 use Rattle.job_meaning.specs.Moments.{a_round_after}
 use Rattle.job_meaning.specs.declared.clock.Clock.{Clock}
 use Rattle.job_meaning.specs.declared.clock.Clock.TheVariants.{ByTicks as by_ticks, ByRounds as by_rounds}

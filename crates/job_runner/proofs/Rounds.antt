@@ -2,7 +2,7 @@
 use Rattle.std.proofs.Common.{◌≡◌, ℕ, ◌+◌, ◌*◌, ◌<◌, ◌≤◌, List, [], ◌∷◌, Option, Some, None, length, ap, ◌∙◌, arith}
 use Rattle.job_tree.specs.Names.{size_of}
 use Rattle.job_tree.specs.Tree.{Tree}
-use Rattle.batch_commit.specs.declared.entry.Entry.{Entry}
+use Rattle.task_table.specs.declared.entry.Entry.{Entry}
 use Rattle.run_refinement.specs.RunState.{Gone}
 use Rattle.job_runner.specs.declared.runner.Phase.{Phase}
 use Rattle.job_runner.specs.declared.runner.Phase.TheVariants.{Ready, Blocked, Over}

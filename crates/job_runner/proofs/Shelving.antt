@@ -7,10 +7,10 @@ use Rattle.std.proofs.lemmas.List.{map-append}
 use Rattle.std.proofs.lemmas.List.Elements.{All-push}
 use Rattle.std.proofs.lemmas.Option.{none-some}
 use Rattle.clock.specs.Clock.{Clock, due_of}
-use Rattle.batch_commit.specs.declared.entry.Call.{Call}
-use Rattle.batch_commit.specs.declared.entry.Entry.{Entry}
-use Rattle.batch_commit.specs.Batch.{Batches}
-use Rattle.batch_commit.specs.Entries.{Added}
+use Rattle.task_table.specs.declared.entry.Call.{Call}
+use Rattle.task_table.specs.declared.entry.Entry.{Entry}
+use Rattle.task_table.specs.Batch.{Batches}
+use Rattle.task_table.specs.Entries.{Added}
 use Rattle.job_runner.specs.declared.runner.Runner.{Runner}
 use Rattle.task_table.specs.Rows.{times}
 use Rattle.task_table.specs.TaskTable.{running_at}

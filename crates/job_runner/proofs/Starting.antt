@@ -6,7 +6,7 @@ use Rattle.std.proofs.lemmas.Bool.Decides.{eqb_tells}
 use Rattle.std.proofs.lemmas.List.{append-nil, append_assoc, length_push}
 use Rattle.std.proofs.lemmas.Option.{none-some, same_Some, slice_get_past, slice_get_within}
 use Rattle.clock.specs.Clock.{now_of, due_of}
-use Rattle.batch_commit.specs.declared.entry.Call.TheVariants.{Begin}
+use Rattle.task_table.specs.declared.entry.Call.TheVariants.{Begin}
 use Rattle.job_meaning.specs.Moments.{tick_of, a_round_after}
 use Rattle.job_meaning.specs.declared.clock.Clock.{Clock}
 use Rattle.task_machine.specs.declared.task.Task.{Task}

@@ -7,9 +7,9 @@ use Rattle.std.proofs.lemmas.Bool.Decides.{eqb_tells}
 use Rattle.std.proofs.lemmas.Option.{none-some, same_Some}
 use Rattle.clock.specs.Clock.{now_of, due_of, Updates, SameTime}
 use Rattle.clock.specs.Clock as timers
-use Rattle.batch_commit.specs.declared.entry.Call.{Call}
-use Rattle.batch_commit.specs.declared.entry.Call.TheVariants as calls
-use Rattle.batch_commit.specs.Batch.{Batches}
+use Rattle.task_table.specs.declared.entry.Call.{Call}
+use Rattle.task_table.specs.declared.entry.Call.TheVariants as calls
+use Rattle.task_table.specs.Batch.{Batches}
 use Rattle.job_meaning.specs.Moments.{a_round_after}
 use Rattle.job_meaning.specs.declared.clock.Clock.{Clock}
 use Rattle.job_meaning.specs.declared.clock.Clock.TheVariants.{ByTicks as by_ticks, ByRounds as by_rounds}

@@ -3,7 +3,7 @@
 use Rattle.std.proofs.Common.{◌≡◌, inl, inr, ℕ, ◌<◌, Bool, true, false, Option, Some, None, List, length, refl, ap, sym, ◌∙◌, subst}
 use Rattle.std.specs.Prelude.{◌⊎◌}
 use Rattle.std.specs.Option.{ForSome}
-use Rattle.batch_commit.specs.declared.entry.Call.{Call}
+use Rattle.task_table.specs.declared.entry.Call.{Call}
 use Rattle.cancel_scopes.specs.Sight.{Tick, sight}
 use Rattle.cancel_scopes.specs.Tree.{Tree, stack_of, is_changed, IsOpen, SameMarks, OtherMarksKeep, TakesChanged}
 use Rattle.std.proofs.lemmas.Bool.{cases_eq}

@@ -5,10 +5,10 @@ use Rattle.std.specs.Prelude.{All, IsSome, is_some, IsSomeAnd, ◌⊎◌, slice_
 use Rattle.std.proofs.lemmas.Bool.{cases_eq, cases_lt}
 use Rattle.std.proofs.lemmas.Option.{none-some, same_Some, slice_get_within}
 use Rattle.clock.specs.Clock.{now_of, due_of}
-use Rattle.batch_commit.specs.declared.entry.Call.{Call}
-use Rattle.batch_commit.specs.declared.entry.Call.TheVariants as calls
-use Rattle.batch_commit.specs.declared.entry.Entry.{Entry}
-use Rattle.batch_commit.specs.Entries.{Added}
+use Rattle.task_table.specs.declared.entry.Call.{Call}
+use Rattle.task_table.specs.declared.entry.Call.TheVariants as calls
+use Rattle.task_table.specs.declared.entry.Entry.{Entry}
+use Rattle.task_table.specs.Entries.{Added}
 use Rattle.cancel_scopes.specs.Sight.{seen}
 use Rattle.cancel_scopes.specs.Tree.{Tree, outer_of, IsOwn, IsChain, IsApart}
 use Rattle.job_tree.specs.Tree.{Tree as Job}

@@ -8,7 +8,7 @@ use Rattle.std.proofs.lemmas.Bool.{cases_eq}
 use Rattle.std.proofs.lemmas.Bool.Decides.{eqb_tells}
 use Rattle.std.proofs.lemmas.Option.{none-some, same_Some}
 use Rattle.clock.specs.Clock.{due_of}
-use Rattle.batch_commit.specs.declared.entry.Call.TheVariants as calls
+use Rattle.task_table.specs.declared.entry.Call.TheVariants as calls
 use Rattle.exceptions.specs.Exceptions.{Exc}
 use Rattle.exceptions.specs.Held.{exc_of}
 use Rattle.exceptions.specs.declared.exc.Exc as held

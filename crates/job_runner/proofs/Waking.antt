@@ -7,8 +7,8 @@ use Rattle.std.proofs.lemmas.Bool.Decides.{eqb_tells, leb_tells}
 use Rattle.std.proofs.lemmas.List.Elements.{All-nil, All-push}
 use Rattle.std.proofs.lemmas.Option.{same_Some, none-some}
 use Rattle.clock.specs.Clock.{Clock, now_of, due_of, SameTime, Updates, TakesDue, NoneDue}
-use Rattle.batch_commit.specs.declared.entry.Call.{Call}
-use Rattle.batch_commit.specs.declared.entry.Call.TheVariants as calls
+use Rattle.task_table.specs.declared.entry.Call.{Call}
+use Rattle.task_table.specs.declared.entry.Call.TheVariants as calls
 use Rattle.cancel_scopes.specs.Sight.{Tick, is_reached}
 use Rattle.task_machine.specs.declared.stop.TaskState.{TaskState}
 use Rattle.task_machine.specs.declared.stop.TaskState.TheVariants.{ToBegin, Asked, Asleep, Waiting, GivingUp, Awaits, Over}

@@ -3,8 +3,8 @@ use Rattle.std.specs.Prelude.{◌≡◌, ◌≢◌, ◌⊎◌, ℕ, suc, ◌<◌
 use Rattle.std.specs.Option.{option_map}
 use Rattle.clock.specs.Clock.{due_of}
 use Rattle.clock.specs.Clock as timers
-use Rattle.batch_commit.specs.declared.entry.Call.{Call}
-use Rattle.batch_commit.specs.declared.entry.Call.TheVariants.{Due, Seen}
+use Rattle.task_table.specs.declared.entry.Call.{Call}
+use Rattle.task_table.specs.declared.entry.Call.TheVariants.{Due, Seen}
 use Rattle.cancel_scopes.specs.Sight.{Tick, is_reached, sight}
 use Rattle.cancel_scopes.specs.Tree.{outer_of}
 use Rattle.task_machine.specs.declared.stop.TaskState.{TaskState}

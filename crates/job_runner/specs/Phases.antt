@@ -1,6 +1,6 @@
 -- What clauses state about a runner.
 use Rattle.std.specs.Prelude.{Option, Some, None, List, [], ◌∷◌}
-use Rattle.batch_commit.specs.declared.entry.Entry.{Entry}
+use Rattle.task_table.specs.declared.entry.Entry.{Entry}
 use Rattle.run_refinement.specs.RunState.{Gone}
 use Rattle.task_table.specs.TaskTable.{gone_of}
 use Rattle.job_runner.specs.declared.runner.Phase.{Phase}

@@ -4,11 +4,11 @@ use Rattle.std.specs.Prelude.{◌≡◌, ◌≢◌, ℕ, ◌⊎◌, ◌+◌, ◌
 use Rattle.std.specs.Option.{ForSome}
 use Rattle.clock.specs.Clock.{now_of, limit_of, due_of}
 use Rattle.clock.specs.Clock as timers
-use Rattle.batch_commit.specs.declared.entry.Call.{Call}
-use Rattle.batch_commit.specs.declared.entry.Call.TheVariants.{Ask}
-use Rattle.batch_commit.specs.declared.entry.Entry.{Entry}
-use Rattle.batch_commit.specs.Batch.{Batches}
-use Rattle.batch_commit.specs.Entries.{Added, NonePlaced, wake_of}
+use Rattle.task_table.specs.declared.entry.Call.{Call}
+use Rattle.task_table.specs.declared.entry.Call.TheVariants.{Ask}
+use Rattle.task_table.specs.declared.entry.Entry.{Entry}
+use Rattle.task_table.specs.Batch.{Batches}
+use Rattle.task_table.specs.Entries.{Added, NonePlaced, wake_of}
 use Rattle.cancel_scopes.specs.Sight.{Tick, seen}
 use Rattle.cancel_scopes.specs.Tree.{outer_of, is_changed}
 use Rattle.job_tree.specs.Tree.{Tree}

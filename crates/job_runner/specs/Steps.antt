@@ -5,9 +5,9 @@ use Rattle.cancel_scopes.specs.Sight.{Tick, sight}
 use Rattle.cancel_scopes.specs.Tree.{stack_of}
 use Rattle.exceptions.specs.Exceptions.{Exc}
 use Rattle.clock.specs.Clock.{due_of, Updates, SameTime}
-use Rattle.batch_commit.specs.declared.entry.Call.{Call}
-use Rattle.batch_commit.specs.declared.entry.Call.TheVariants.{Begin, Settled}
-use Rattle.batch_commit.specs.Entries.{Added}
+use Rattle.task_table.specs.declared.entry.Call.{Call}
+use Rattle.task_table.specs.declared.entry.Call.TheVariants.{Begin, Settled}
+use Rattle.task_table.specs.Entries.{Added}
 use Rattle.job_meaning.specs.Follow.{IsSettled}
 use Rattle.job_meaning.specs.Log.{Table}
 use Rattle.job_meaning.specs.Moments.{clock_of, tick_of, a_round_after}

@@ -1,9 +1,9 @@
 -- The turns of a batch, one after another, in the order of the picks.
 use Rattle.std.specs.Prelude.{◌≡◌, ℕ, ◌+◌, Bool, true, false, nat_le, Option, Some, None, List, [], map}
-use Rattle.batch_commit.specs.declared.entry.Call.{Call}
-use Rattle.batch_commit.specs.declared.entry.Call.TheVariants.{Due, Seen}
-use Rattle.batch_commit.specs.Batch.{Batches, HandsOut}
-use Rattle.batch_commit.specs.Entries.{answers_placed, without_answer}
+use Rattle.task_table.specs.declared.entry.Call.{Call}
+use Rattle.task_table.specs.declared.entry.Call.TheVariants.{Due, Seen}
+use Rattle.task_table.specs.Batch.{Batches, HandsOut}
+use Rattle.task_table.specs.Entries.{answers_placed, without_answer}
 use Rattle.input_lines.specs.declared.answers.Answer.{Answer}
 use Rattle.cancel_scopes.specs.Sight.{seen}
 use Rattle.cancel_scopes.specs.Tree.{outer_of}

@@ -10,9 +10,9 @@ ghost use Rattle.job_runner.specs.Shelves.{AreShelved, IsSameJob, IsUnderway};
 
 use crate::fault::RunFault;
 use crate::runner::Runner;
-use batch_commit::Call;
 use clock::{Jump, TaskId};
 use std::alloc::AllocError;
+use task_table::Call;
 
 impl<'a> Runner<'a> {
     /// Lets the clock jump to the next moment in which a task continues: the first in which the moment of a task has come, or

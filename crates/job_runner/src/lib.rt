@@ -16,7 +16,6 @@ mod settings;
 mod stopping;
 mod waiting;
 
-pub use batch_commit::{Forward, Pick, Reverse, Turn};
 pub use fault::RunFault;
 pub use finished::Run;
 pub use job_meaning::{LAST_TICK, MAX_INPUT};
@@ -25,5 +24,5 @@ pub use runner::{Phase, Runner};
 pub use running::{run, run_to_end};
 pub use settings::Settings;
 pub use task_machine::{Entry, ScopeFrom};
-pub use task_table::{Outcome, Record};
+pub use task_table::{Forward, Outcome, Pick, Record, Reverse, Turn};
 pub use workers::{Gate, NoGate};

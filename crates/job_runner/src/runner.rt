@@ -1,6 +1,6 @@
 ghost use Rattle.std.specs.Prelude.{◌≡◌, ℕ, ◌+◌, ◌≤◌, ◌<◌, ◌^◌, None, Some, [], ◌∷◌, IsSome, IsSomeAnd, IfOk, OnOk, length};
 ghost use Rattle.clock.specs.Clock.{now_of, due_of};
-ghost use Rattle.batch_commit.specs.Entries.{requests_of};
+ghost use Rattle.task_table.specs.Entries.{requests_of};
 ghost use Rattle.job_meaning.specs.declared.limits.TheConstants.{MAX_INPUT};
 ghost use Rattle.job_meaning.specs.Clocks.{clock_of};
 ghost use Rattle.job_meaning.specs.Meaning.{meaning_end};
@@ -17,7 +17,6 @@ ghost use Rattle.job_runner.specs.Turns.{GoesOn, TakesTurn, Commits};
 
 use crate::finished::Run;
 use crate::limits::last_of;
-use batch_commit::{Call, Pick, ReadyBatch};
 use cancel_scopes::stacks_are_chains;
 use clock::{EventWaiters, MockClock, Sleepers, TaskId};
 use input_lines::{Answer, Part, Request};
@@ -25,7 +24,7 @@ use job_meaning::Clock;
 use job_reader::{Job, spelled_jobs_are_sound};
 use std::alloc::{AllocError, Global};
 use task_machine::{Stop, Task, Wake, World};
-use task_table::{TaskTable, records_of};
+use task_table::{Call, Pick, ReadyBatch, TaskTable, records_of};
 
 /// What a run waits for.
 #[derive(Clone, Copy, Debug, PartialEq, Eq)]

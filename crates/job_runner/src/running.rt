@@ -17,11 +17,11 @@ use crate::finished::Run;
 use crate::limits::last_tick;
 use crate::runner::{Phase, Runner};
 use crate::settings::Settings;
-use batch_commit::Pick;
 use job_meaning::Clock;
 use job_reader::{Job, spelled_jobs_are_sound};
 use std::alloc::{AllocError, Global};
 use std::thread::Threads;
+use task_table::Pick;
 use workers::{Gate, work};
 
 /// Runs a job over an input of at most `MAX_INPUT` bytes, in turns of its tasks, one moment after another. The result is that of

@@ -15,7 +15,6 @@ ghost use Rattle.job_runner.specs.Steps.{IsStopping, IsSameTurn, PutsToSleep, Te
 ghost use Rattle.job_runner.specs.Turns.{ComesOf, call_at_once};
 
 use crate::runner::Runner;
-use batch_commit::Call;
 use cancel_scopes::ScopeId;
 use clock::TaskId;
 use exceptions::Exc;
@@ -24,6 +23,7 @@ use job_meaning::Clock;
 use nursery_book::{NurseryId, Place};
 use std::alloc::{AllocError, Global};
 use task_machine::Stop;
+use task_table::Call;
 
 impl<'a> Runner<'a> {
     // Handles the stop of the task with an id and a row.

@@ -1,15 +1,15 @@
-//! `batch_commit`: the turns of a batch come as the picker picks, with the answers to their requests, and ids are reused.
+//! `task_table`: the turns of a batch come as the picker picks, with the answers to their requests, and ids are reused.
 
 ghost use Rattle.std.specs.Prelude.{◌≡◌, ◌<◌, [], IfOk, OnOk, length};
-ghost use Rattle.batch_commit.specs.Entries.{AllPlaced, NonePlaced};
+ghost use Rattle.task_table.specs.Entries.{AllPlaced, NonePlaced};
 
 use crate::fixtures::{push_bytes, push_number, same};
-use batch_commit::{Call, Forward, Live, Pick, ReadyBatch, Reverse, Turn};
 use clock::TaskId;
 use input_lines::{Answer, Kernel, Part, Request};
 use std::alloc::{AllocError, Global};
 use std::test::Fail;
 use task_machine::Wake;
+use task_table::{Call, Forward, Live, Pick, ReadyBatch, Reverse, Turn};
 
 // A request that is identified by its number.
 fn head_request(number: u64) -> Request<'static> {

@@ -5,11 +5,10 @@
 //! With enough memory each call is made once. tests/shortage/refused_growths.py refuses each growth in turn.
 
 ghost use Rattle.std.specs.Prelude.{◌≡◌, ◌<◌, ◌^◌, [], true, None, IfOk, OnOk};
-ghost use Rattle.batch_commit.specs.Entries.{AllPlaced, NonePlaced};
+ghost use Rattle.task_table.specs.Entries.{AllPlaced, NonePlaced};
 ghost use Rattle.nursery_book.specs.Nursery.{with_start, is_settled};
 ghost use Rattle.nursery_book.specs.Book.{HasNursery, Changes};
 
-use batch_commit::{Call, Forward, Live, ReadyBatch};
 use cancel_scopes::{ScopeId, ScopeTree};
 use clock::TaskId;
 use exceptions::{Exc, Label};
@@ -17,6 +16,7 @@ use job_reader::Name;
 use nursery_book::{NurseryBook, NurseryId, Place};
 use std::alloc::{AllocError, Global};
 use std::test::Fail;
+use task_table::{Call, Forward, Live, ReadyBatch};
 
 // Opens an outermost scope with a deadline, again if memory runs out.
 fn open_outermost(tree: &mut ScopeTree, deadline: u64) -> Result<ScopeId, AllocError>

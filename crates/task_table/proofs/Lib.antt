@@ -1,3 +1,9 @@
+pub mod HalvesLemmas
+pub mod PlaceLemmas
+pub mod SlotLemmas
+pub mod EntryLemmas
+pub mod BatchLemmas
+pub mod LiveLemmas
 pub mod Lists
 pub mod Inverse
 pub mod Times

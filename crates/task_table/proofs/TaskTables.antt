@@ -5,8 +5,8 @@ use Rattle.std.specs.Option.{option_map}
 use Rattle.std.proofs.lemmas.List.{length_push, length-set}
 use Rattle.std.proofs.lemmas.Option.{none-some, same_Some, slice_get_past, slice_get_within}
 use Rattle.exceptions.specs.declared.exc.Exc as held
-use Rattle.batch_commit.specs.declared.live.Live.{Live}
-use Rattle.batch_commit.specs.Live.{live_at, UpdatesLive}
+use Rattle.task_table.specs.declared.live.Live.{Live}
+use Rattle.task_table.specs.Live.{live_at, UpdatesLive}
 use Rattle.task_machine.specs.declared.task.Task.{Task}
 use Rattle.task_machine.specs.Frames.{unboxed_exc}
 use Rattle.task_table.specs.declared.rows.TaskRow.{TaskRow}

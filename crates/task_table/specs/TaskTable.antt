@@ -4,8 +4,8 @@ use Rattle.std.specs.Prelude.{◌≡◌, ◌≢◌, ℕ, ◌+◌, ◌<◌, Optio
 use Rattle.std.specs.Option.{option_map}
 use Rattle.exceptions.specs.Held.{exc_of}
 use Rattle.exceptions.specs.declared.exc.Exc as held
-use Rattle.batch_commit.specs.declared.live.Live.{Live}
-use Rattle.batch_commit.specs.Live.{live_at}
+use Rattle.task_table.specs.declared.live.Live.{Live}
+use Rattle.task_table.specs.Live.{live_at}
 use Rattle.task_machine.specs.States.{state_of}
 use Rattle.task_machine.specs.declared.stop.Stop.{Stop}
 use Rattle.task_machine.specs.declared.stop.Wake.{Wake}

@@ -7,8 +7,8 @@ ghost use Rattle.task_machine.specs.Worlds.{event_at};
 ghost use Rattle.task_table.specs.Rows.{IsNewRow};
 ghost use Rattle.task_table.specs.TaskTable.{running_at, task_count, row_at, gone_of, id_of, parent_of, IsTaskTable, HasRoot, Starts, MayTurn, HasTurn, Ends};
 
+use crate::Live;
 use crate::rows::{Ended, TaskRow};
-use batch_commit::Live;
 use cancel_scopes::ScopeId;
 use clock::TaskId;
 use exceptions::Exc;

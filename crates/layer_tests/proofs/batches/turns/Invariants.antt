@@ -1,5 +1,5 @@
 use Rattle.std.proofs.Common.{length}
-use Rattle.batch_commit.specs.Entries.{AllPlaced}
+use Rattle.task_table.specs.Entries.{AllPlaced}
 use Rattle.layer_tests.proofs.batches.turns.Given as goal
 
 abbrev pub invariant-turns : goal.invariant-turns

@@ -1,5 +1,5 @@
 use Rattle.std.proofs.Common.{refl}
-use Rattle.batch_commit.specs.declared.entry.Call.TheVariants.{Due}
+use Rattle.task_table.specs.declared.entry.Call.TheVariants.{Due}
 use Rattle.job_runner.specs.declared.runner.Runner.{Runner}
 use Rattle.job_runner.proofs.Waking.{WakesOne, due_first, due_next, due_fewer, due_shelved, due_some, due_only}
 use Rattle.job_runner.proofs.runner.Runner.wake_due.Goals as goal

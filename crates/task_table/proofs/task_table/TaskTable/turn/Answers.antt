@@ -1,6 +1,6 @@
 use Rattle.std.proofs.Common.{◌≡◌, Some, refl, sym}
-use Rattle.batch_commit.proofs.LiveLemmas.{UpdatesLive-with_live}
-use Rattle.batch_commit.specs.Lending.{with_live}
+use Rattle.task_table.proofs.LiveLemmas.{UpdatesLive-with_live}
+use Rattle.task_table.specs.Lending.{with_live}
 use Rattle.task_table.specs.declared.task_table.Running.{Running}
 use Rattle.task_table.specs.declared.task_table.TaskTable.{TaskTable}
 use Rattle.task_table.specs.TaskTable.{running_at}

@@ -1,5 +1,0 @@
-use Rattle.batch_commit.proofs.BatchLemmas.{nothing_left}
-use Rattle.batch_commit.proofs.batch.ReadyBatch.is_empty.Goals as goal
-
-pub returns : goal.returns
-returns c = nothing_left c.args.self.now.current c.count_left.result c.count_left.ensures

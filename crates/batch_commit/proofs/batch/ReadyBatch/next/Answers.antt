@@ -1,8 +1,0 @@
-use Rattle.std.proofs.Common.{subst, sym}
-use Rattle.batch_commit.specs.Entries.{AllPlaced}
-use Rattle.batch_commit.proofs.EntryLemmas.{placed_after}
-use Rattle.batch_commit.proofs.batch.ReadyBatch.next.Goals as goal
-
-pub returns-clause-placed : goal.returns-clause-placed
-returns-clause-placed g c =
-    subst AllPlaced (sym c.take-entry.ensures.rest) (placed_after c.args.self.now.current _ c.requires)

@@ -1,4 +1,0 @@
-use Rattle.batch_commit.proofs.halves.+draw.Given as goal
-
-abbrev pub decreases-draw : goal.decreases-draw
-decreases-draw l = l.depth

@@ -1,7 +1,0 @@
-use Rattle.std.proofs.Common.{◌≡◌, ◌++◌, drop}
-use Rattle.batch_commit.specs.Slots.{values_in}
-use Rattle.batch_commit.specs.Entries.{requests_of}
-use Rattle.batch_commit.proofs.slots.requests_in.Given as goal
-
-abbrev pub invariant-slots : goal.invariant-slots
-invariant-slots l = requests_of (values_in l.slots) ≡ l.requests.items ++ requests_of (values_in (drop l.slot-index l.slots))

@@ -1,9 +1,0 @@
-pub mod Picks
-pub mod Live
-pub mod Lending
-pub mod Halves
-pub mod Places
-pub mod Slots
-pub mod Entries
-pub mod Placing
-pub mod Batch
