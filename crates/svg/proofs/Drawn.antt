@@ -19,7 +19,7 @@ use Rattle.svg.specs.Rows.{rows}
 use Rattle.svg.specs.Arrows.{arrows}
 use Rattle.svg.specs.Legend.{legend}
 use Rattle.svg.specs.Drawing.{style, definitions, tick_lines, note, limit_note, axis_note, rows_note, notes, title_bytes, bottom_of, width_of, height_of, svg_attributes, inside_of, document, chart_svg}
-use Rattle.svg.proofs.Pieces.{element_is}
+use Rattle.svg.proofs.Elements.{element_is}
 
 -- the three notes, one after the other
 pub notes_drawn : {T E : Type 0} (result : Result T E) (until : Tick) (bottom : ℕ) (linear : Bool) (n : ℕ) (said old a b new : List ℕ) →

@@ -1,6 +1,6 @@
 pub mod Contents
 pub mod CharData
-pub mod Pieces
+pub mod Elements
 pub mod Taken
 pub mod WellFormed
 pub mod Drawn

@@ -1,5 +1,5 @@
 use Rattle.std.specs.Prelude.{codes, decimal}
-use Rattle.svg.proofs.Pieces.{three}
+use Rattle.svg.proofs.Elements.{three}
 use Rattle.svg.proofs.bars.push_left.Goals as goal
 
 pub returns : goal.returns

@@ -4,7 +4,7 @@ use Rattle.svg.specs.Sheets.{x_by, middle_of}
 use Rattle.svg.specs.Rows.{used}
 use Rattle.svg.specs.Arrows.{deadline_title}
 use Rattle.svg.specs.Held.{sheet_held}
-use Rattle.svg.proofs.Pieces.{element_ok, at_place}
+use Rattle.svg.proofs.Elements.{element_ok, at_place}
 use Rattle.svg.proofs.deadlines.push_deadline.Goals as goal
 
 pub returns : goal.returns

@@ -2,7 +2,7 @@ use Rattle.std.specs.Prelude.{codes}
 use Rattle.svg.specs.Content.{attribute}
 use Rattle.svg.specs.declared.names.Tag.TheVariants as tags
 use Rattle.svg.specs.declared.names.Attr.TheVariants as attrs
-use Rattle.svg.proofs.Pieces.{start_of_four}
+use Rattle.svg.proofs.Elements.{start_of_four}
 use Rattle.svg.proofs.definitions.begin_fill.Goals as goal
 
 pub returns : goal.returns

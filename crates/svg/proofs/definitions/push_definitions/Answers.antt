@@ -3,7 +3,7 @@ use Rattle.std.specs.Prelude.{codes}
 use Rattle.svg.specs.Content.{nothing}
 use Rattle.svg.specs.declared.names.Tag.TheVariants as tags
 use Rattle.svg.specs.Drawing.{arrow_head, fill, mark_paths}
-use Rattle.svg.proofs.Pieces.{element_around, begun}
+use Rattle.svg.proofs.Elements.{element_around, begun}
 use Rattle.svg.proofs.definitions.push_definitions.Goals as goal
 
 pub returns : goal.returns

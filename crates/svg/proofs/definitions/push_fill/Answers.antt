@@ -4,7 +4,7 @@ use Rattle.svg.specs.Content.{nothing, attribute}
 use Rattle.svg.specs.declared.names.Tag.TheVariants as tags
 use Rattle.svg.specs.declared.names.Attr.TheVariants as attrs
 use Rattle.svg.specs.Drawing.{path}
-use Rattle.svg.proofs.Pieces.{element_around}
+use Rattle.svg.proofs.Elements.{element_around}
 use Rattle.svg.proofs.definitions.push_fill.Goals as goal
 
 pub returns : goal.returns

@@ -4,7 +4,7 @@ use Rattle.svg.specs.declared.names.Tag.TheVariants as tags
 use Rattle.svg.specs.Sheets.{x_of, middle_of, events_title}
 use Rattle.svg.specs.Rows.{cross}
 use Rattle.svg.specs.Held.{sheet_held}
-use Rattle.svg.proofs.Pieces.{element_ok, at_place}
+use Rattle.svg.proofs.Elements.{element_ok, at_place}
 use Rattle.svg.proofs.marks.push_cross.Goals as goal
 
 pub returns : goal.returns

@@ -4,7 +4,7 @@ use Rattle.svg.specs.declared.names.Tag.TheVariants as tags
 use Rattle.svg.specs.Sheets.{x_of, middle_of, events_title}
 use Rattle.svg.specs.Rows.{dot}
 use Rattle.svg.specs.Held.{sheet_held}
-use Rattle.svg.proofs.Pieces.{element_ok, at_place}
+use Rattle.svg.proofs.Elements.{element_ok, at_place}
 use Rattle.svg.proofs.marks.push_dot.Goals as goal
 
 pub returns : goal.returns

@@ -8,7 +8,7 @@ use Rattle.svg.specs.declared.names.Tag.TheVariants as tags
 use Rattle.svg.specs.Sheets.{outcome_x, y_of}
 use Rattle.svg.specs.Rows.{size_of, class_of, bar_title, start_x, end_x, rectangle, words, cancelled_part, marks}
 use Rattle.svg.specs.Held.{sheet_held}
-use Rattle.svg.proofs.Pieces.{text_before}
+use Rattle.svg.proofs.Elements.{text_before}
 use Rattle.svg.proofs.rows.push_row.Goals as goal
 
 pub returns : goal.returns

@@ -2,7 +2,7 @@ use Rattle.std.specs.Prelude.{codes, decimal}
 use Rattle.svg.specs.Content.{attribute}
 use Rattle.svg.specs.declared.names.Tag.TheVariants as tags
 use Rattle.svg.specs.declared.names.Attr.TheVariants as attrs
-use Rattle.svg.proofs.Pieces.{start_of_six}
+use Rattle.svg.proofs.Elements.{start_of_six}
 use Rattle.svg.proofs.shapes.begin_box.Goals as goal
 
 pub returns : goal.returns

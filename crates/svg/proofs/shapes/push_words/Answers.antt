@@ -3,7 +3,7 @@ use Rattle.std.specs.Prelude.{decimal}
 use Rattle.svg.specs.Content.{nothing, text, attribute}
 use Rattle.svg.specs.declared.names.Tag.TheVariants as tags
 use Rattle.svg.specs.declared.names.Attr.TheVariants as attrs
-use Rattle.svg.proofs.Pieces.{element_ok, text_is}
+use Rattle.svg.proofs.Elements.{element_ok, text_is}
 use Rattle.svg.proofs.shapes.push_words.Goals as goal
 
 pub returns : goal.returns

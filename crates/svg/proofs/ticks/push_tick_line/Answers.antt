@@ -4,7 +4,7 @@ use Rattle.std.proofs.lemmas.Result.{on_ok_weaker}
 use Rattle.svg.specs.Content.{text}
 use Rattle.svg.specs.declared.layout.TheConstants.{TOP}
 use Rattle.svg.specs.Rows.{words}
-use Rattle.svg.proofs.Pieces.{text_before}
+use Rattle.svg.proofs.Elements.{text_before}
 use Rattle.svg.proofs.ticks.push_tick_line.Goals as goal
 
 pub returns : goal.returns
