@@ -54,8 +54,8 @@ story_about_some clock name table until ending asked text walked given bytes is 
 verdict_is : (job : Tree) (input : List ℕ) (limit : ℕ) (asked : Option (List ℕ)) (ending : Ending) (task : Option Label)
     (bytes : List ℕ) → IsEnding job input limit ending → IsAbout asked (story_events limit job input) task →
     bytes ≡ meaning_story limit job input task → IsStoryVerdict job input limit asked (verdict_of ending) bytes
-verdict_is job input limit asked Done task bytes h about is = (record { task = task; about = about; story = is }, h.0, h.1)
-verdict_is job input limit asked Raised task bytes h about is = (record { task = task; about = about; story = is }, h.0, h.1)
+verdict_is job input limit asked Done task bytes h about is = (record { task = task; about = about; story = is }, h)
+verdict_is job input limit asked Raised task bytes h about is = (record { task = task; about = about; story = is }, h)
 verdict_is job input limit asked Late task bytes h about is = (record { task = task; about = about; story = is }, h)
 
 by_told : (job : Tree) (input : List ℕ) (limit : ℕ) (asked : Option (List ℕ)) (ending : Ending) (given : StoryVerdict)
