@@ -6,7 +6,7 @@ ghost use Rattle.commands.specs.Mets.{IsFaultsMet, IsRacesMet, answer_of, denied
 
 use crate::met::Met;
 use crate::{FaultsVerdict, Form, RacesVerdict, faults, races};
-use job_answers::Question;
+use job_answers::{Answer, Question};
 use job_reader::Name;
 use job_runner::NoGate;
 use outcomes::{Deny, Options};
@@ -46,8 +46,8 @@ pub(crate) fn no_races<R: Threads + Sync>(
     requires { length question.now.input.now ≤ MAX_INPUT }
     ensures { IfOk result (λ met. IsRacesMet question.now.text.now question.now.input.now question.now.settings.limit (answer_of met)) }
 {
-    let answer = races(rt, alloc, question, true, Form::Text, &NoGate)?;
-    match answer.verdict {
+    let Answer { verdict, bytes: _ } = races(rt, alloc, question, true, Form::Text, &NoGate)?;
+    match verdict {
         RacesVerdict::Lines { denied } => Ok(denial_or_yes(denied)),
         RacesVerdict::JobRefused(_) | RacesVerdict::Limit | RacesVerdict::NoFinerTicks => {
             Ok(Met::Untold)
@@ -66,8 +66,8 @@ pub(crate) fn no_faults<R: Threads + Sync>(
     ensures { IfOk result (λ met. IsFaultsMet question.now.text.now question.now.input.now question.now.settings.limit kinds (answer_of met)) }
 {
     let options = plain_options(alloc, kinds)?;
-    let answer = faults(rt, alloc, question, &options, Form::Text, &NoGate)?;
-    match answer.verdict {
+    let Answer { verdict, bytes: _ } = faults(rt, alloc, question, &options, Form::Text, &NoGate)?;
+    match verdict {
         FaultsVerdict::Lines { denied } => Ok(denial_or_yes(denied)),
         FaultsVerdict::JobRefused(_) => Ok(Met::Untold),
     }
