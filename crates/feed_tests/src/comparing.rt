@@ -20,7 +20,7 @@ use std::thread::Threads;
 // Compares an output of a feed with the file that is kept of it, and returns what that came to, or `None` if there is none.
 pub(crate) fn test_output<R: Files + Print + Eprint + Threads + Sync + AllocGlobal>(
     rt: &R,
-    feed: &Feed<'_>,
+    feed: &Feed<'_, '_>,
     kind: Output,
 ) -> Result<Option<Outcome>, TestStop>
     requires { length feed.now.question.input.now ≤ MAX_INPUT }
@@ -65,7 +65,7 @@ pub(crate) enum Beside {
 // error.
 pub(crate) fn open_kept<R: Files + Eprint + AllocGlobal>(
     rt: &R,
-    feed: &Feed<'_>,
+    feed: &Feed<'_, '_>,
     extension: &str,
 ) -> Result<Beside, TestStop> {
     let name = name_beside(rt.alloc(), feed.stem, extension)?;
@@ -96,7 +96,7 @@ pub(crate) fn open_kept<R: Files + Eprint + AllocGlobal>(
 // bytes, as it was before it was read.
 fn test_kept<R: Files + Print + Eprint + Threads + Sync + AllocGlobal>(
     rt: &R,
-    feed: &Feed<'_>,
+    feed: &Feed<'_, '_>,
     kind: Output,
     name: &str,
     target: Result<Target, ReplaceFault>,

@@ -18,7 +18,7 @@ use std::thread::Threads;
 // Tests a feed by the expectations that are kept beside it, and returns what that came to, or `None` if there are none.
 pub(crate) fn test_expectations<R: Files + Print + Eprint + Threads + Sync + AllocGlobal>(
     rt: &R,
-    feed: &Feed<'_>,
+    feed: &Feed<'_, '_>,
 ) -> Result<Option<Outcome>, TestStop>
     requires { length feed.now.question.input.now ≤ MAX_INPUT }
 {
@@ -66,7 +66,7 @@ struct Outputs {
 // Returns the report and the story of a feed, and the names that its job text gives.
 fn outputs_of<R: Threads + Sync + AllocGlobal>(
     rt: &R,
-    feed: &Feed<'_>,
+    feed: &Feed<'_, '_>,
 ) -> Result<Outputs, AllocError>
     requires { length feed.now.question.input.now ≤ MAX_INPUT }
 {
@@ -81,7 +81,7 @@ fn outputs_of<R: Threads + Sync + AllocGlobal>(
 // Returns the lines about what is not as expected; none if all is. A file that demands nothing is not as expected.
 fn unmet_lines<R: Threads + Sync + AllocGlobal>(
     rt: &R,
-    feed: &Feed<'_>,
+    feed: &Feed<'_, '_>,
     name: &str,
     outputs: &Outputs,
     expectations: &[u8],
@@ -109,7 +109,7 @@ fn unmet_lines<R: Threads + Sync + AllocGlobal>(
 // Appends the lines about one line of a file of expectations, if it is not met.
 fn push_unmet<R: Threads + Sync + AllocGlobal>(
     rt: &R,
-    feed: &Feed<'_>,
+    feed: &Feed<'_, '_>,
     lines: &mut String,
     name: &str,
     outputs: &Outputs,

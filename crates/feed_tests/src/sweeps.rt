@@ -23,7 +23,7 @@ use std::thread::Threads;
 // came to, or `None` if there is no such file.
 pub(crate) fn test_sweep<R: Files + Print + Eprint + Threads + Sync + AllocGlobal>(
     rt: &R,
-    feed: &Feed<'_>,
+    feed: &Feed<'_, '_>,
 ) -> Result<Option<Outcome>, TestStop>
     requires { length feed.now.question.input.now ≤ MAX_INPUT }
 {
@@ -67,7 +67,7 @@ fn first_line(text: &[u8]) -> &[u8] {
 // Compares the sweep that these words ask for with the file that is kept of it, and returns what that came to.
 fn test_asked<R: Files + Print + Eprint + Threads + Sync + AllocGlobal>(
     rt: &R,
-    feed: &Feed<'_>,
+    feed: &Feed<'_, '_>,
     args: &SweepArgs,
     name: &str,
     target: Result<Target, ReplaceFault>,

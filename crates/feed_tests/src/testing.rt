@@ -98,11 +98,11 @@ pub(crate) fn complain<R: Eprint>(rt: &R, line: &str) {
 
 /// A feed that is tested.
 #[derive(Clone, Copy)]
-pub(crate) struct Feed<'a> {
+pub(crate) struct Feed<'n, 'q> {
     /// Its name without `.feed`.
-    pub stem: &'a str,
+    pub stem: &'n str,
     /// Its job text, its input, which is no longer than an input may be, and how it is run.
-    pub question: Question<'a>,
+    pub question: Question<'q>,
     /// Whether new outputs are kept.
     pub accept: bool,
 }
@@ -155,7 +155,7 @@ fn test_feed<R: Files + Print + Eprint + Threads + Sync + AllocGlobal>(
 // Tests a feed by each file that is kept beside it.
 fn test_parts<R: Files + Print + Eprint + Threads + Sync + AllocGlobal>(
     rt: &R,
-    feed: &Feed<'_>,
+    feed: &Feed<'_, '_>,
     tally: &mut Tally,
 ) -> Result<(), TestStop>
     requires { length feed.now.question.input.now ≤ MAX_INPUT }
@@ -175,7 +175,7 @@ fn test_parts<R: Files + Print + Eprint + Threads + Sync + AllocGlobal>(
 // Tests a feed by each output that is kept beside it, and returns whether there is one.
 fn test_outputs<R: Files + Print + Eprint + Threads + Sync + AllocGlobal>(
     rt: &R,
-    feed: &Feed<'_>,
+    feed: &Feed<'_, '_>,
     tally: &mut Tally,
 ) -> Result<bool, TestStop>
     requires { length feed.now.question.input.now ≤ MAX_INPUT }
@@ -191,7 +191,7 @@ fn test_outputs<R: Files + Print + Eprint + Threads + Sync + AllocGlobal>(
 // Keeps the report of a feed with nothing beside it if new outputs are kept, or prints to standard error that nothing is kept.
 fn test_nothing<R: Files + Print + Eprint + Threads + Sync + AllocGlobal>(
     rt: &R,
-    feed: &Feed<'_>,
+    feed: &Feed<'_, '_>,
 ) -> Result<Outcome, TestStop>
     requires { length feed.now.question.input.now ≤ MAX_INPUT }
     ensures { IfOk result IsKept }
