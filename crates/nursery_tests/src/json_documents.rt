@@ -1,5 +1,7 @@
 //! The JSON documents of `faults`, `sweep`, `races` and `lint`, of small jobs. The expected documents are worked out by hand.
 
+ghost use Rattle.std.specs.Prelude.{◌≡◌, []};
+
 use crate::fixtures::{LIMIT, wrong};
 use commands::{Form, faults, lints_json, races, sweep};
 use job_edits::Target;
@@ -46,7 +48,9 @@ const SWEEP: &[u8] =
     b"{\"as_it_is\":{\"result\":{\"cancelled\":[],\"cut\":[],\"end\":3,\"exception\":null,\"lost\":false,\"outcome\":\"done\"}},\"counts\":{\"cut\":0,\"refused\":0,\"stuck\":0,\"values\":2},\"lines\":[{\"result\":{\"cancelled\":[],\"cut\":[],\"end\":1,\"exception\":null,\"lost\":false,\"outcome\":\"done\"},\"value\":1},{\"result\":{\"cancelled\":[],\"cut\":[],\"end\":2,\"exception\":null,\"lost\":false,\"outcome\":\"done\"},\"value\":2}]}\n";
 
 // Returns the question about a job that sleeps for three ticks.
-fn sleeping(settings: Settings) -> Question<'static> {
+fn sleeping(settings: Settings) -> Question<'static>
+    ensures { result.input.now ≡ [] }
+{
     Question {
         text: b"trio-job 1\njob m{sleep 3;}",
         input: b"",

@@ -1,5 +1,7 @@
 //! What `nursery test` compares: the outputs of a feed, texts that differ, and expectations. The expected values are worked out by hand.
 
+ghost use Rattle.std.specs.Prelude.{◌≡◌, []};
+
 use crate::fixtures::{LIMIT, wrong};
 use commands::{Form, Met, Output, given_names, meets, output_of, sweep_of};
 use expect_text::{
@@ -202,7 +204,9 @@ const OUTPUTS: &[(Output, &[u8])] = &[
 ];
 
 // Returns the question about the job over an empty input.
-fn question_of(settings: Settings) -> Question<'static> {
+fn question_of(settings: Settings) -> Question<'static>
+    ensures { result.input.now ≡ [] }
+{
     Question {
         text: JOB,
         input: b"",
@@ -213,9 +217,9 @@ fn question_of(settings: Settings) -> Question<'static> {
 #[test]
 fn an_output_is_what_the_command_writes(rt: HostRuntime) -> Result<(), Fail> {
     let settings = Settings::new(3, LIMIT).ok_or("settings")?;
-    let question = question_of(settings);
     for i in 0..OUTPUTS.len() {
         let (kind, wanted) = OUTPUTS[i];
+        let question = question_of(settings);
         let bytes = output_of(&rt, rt.alloc(), &question, kind)?;
         if bytes.as_slice() != wanted {
             return Err(wrong(i));
