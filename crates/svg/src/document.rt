@@ -126,7 +126,7 @@ fn push_inside(
 {
     push_head(alloc, out, bars)?;
     push_lines(alloc, out, sheet, bars)?;
-    push_shown(alloc, out, sheet, causes, shown_of(bars))?;
+    push_shown(alloc, out, sheet, causes, shown_rows(bars))?;
     push_noted(alloc, out, sheet, until, bars)?;
     push_legend(out, bottom_of(bars) + ROW * 3 + 12)
 }
@@ -231,11 +231,11 @@ fn bottom_of(bars: &[Bar<'_, '_>]) -> u64
     ensures value { result ≡ bottom_of (map bar_of bars.now) }
     ensures bound { result ≤ 48044 }
 {
-    y_of(shown_of(bars).len())
+    y_of(shown_rows(bars).len())
 }
 
-// Returns the bars that are shown.
-fn shown_of<'b, 'i, 'e>(bars: &'b [Bar<'i, 'e>]) -> &'b [Bar<'i, 'e>]
+/// Returns the bars of a chart that have a row in its drawing: the first `MAX_ROWS`.
+pub fn shown_rows<'b, 'i, 'e>(bars: &'b [Bar<'i, 'e>]) -> &'b [Bar<'i, 'e>]
     ensures { map bar_of result.now ≡ take MAX_ROWS (map bar_of bars.now) }
 {
     let (shown, _) = bars.split_at(MAX_ROWS.min(bars.len()));

@@ -37,7 +37,9 @@ mod ticks;
 mod titles;
 mod waits;
 
-pub use document::chart_svg;
+pub use document::{chart_svg, shown_rows};
 pub use laws::law_escaped;
+pub use layout::MAX_ROWS;
 pub use names::{Attr, Tag};
 pub use pieces::{attribute, begin, end, inside, number, text};
+pub use sheet::y_of;

@@ -1,7 +1,7 @@
 ghost use Rattle.std.specs.Prelude.{◌≡◌};
 ghost use Rattle.svg.specs.Content.{tag_name, attr_name};
 
-/// The elements of SVG that charts use.
+/// The elements of SVG that charts use, and those of HTML that pages use.
 #[derive(Clone, Copy, Debug, PartialEq, Eq)]
 pub enum Tag {
     /// The whole document, `svg`.
@@ -28,10 +28,54 @@ pub enum Tag {
     Circle,
     /// A copy of an element that is defined elsewhere.
     Use,
+    /// The whole page, `html`.
+    Html,
+    /// What a page has before its content.
+    Head,
+    /// The content of a page.
+    Body,
+    /// The main content of a page.
+    Main,
+    /// A section of a page.
+    Section,
+    /// The heading of a page.
+    H1,
+    /// The heading of a section.
+    H2,
+    /// A paragraph.
+    P,
+    /// Text whose lines and spaces are kept.
+    Pre,
+    /// A link.
+    A,
+    /// A part of a line.
+    Span,
+    /// A part of a page.
+    Div,
+    /// A part of a page that can be folded.
+    Details,
+    /// What is shown of a part that is folded.
+    Summary,
+    /// What stands below the content.
+    Footer,
+    /// Links to the sections of a page.
+    Nav,
+    /// A table.
+    Table,
+    /// The head of a table.
+    Thead,
+    /// The rows of a table below its head.
+    Tbody,
+    /// A row of a table.
+    Tr,
+    /// A cell of the head of a table.
+    Th,
+    /// A cell of a table.
+    Td,
 }
 
 impl Tag {
-    // Returns the name of the element, as in SVG.
+    // Returns the name of the element, as in SVG or HTML.
     pub(crate) fn name(self) -> &'static [u8]
         ensures { result.now ≡ tag_name self }
     {
@@ -48,11 +92,33 @@ impl Tag {
             Tag::Line => b"line",
             Tag::Circle => b"circle",
             Tag::Use => b"use",
+            Tag::Html => b"html",
+            Tag::Head => b"head",
+            Tag::Body => b"body",
+            Tag::Main => b"main",
+            Tag::Section => b"section",
+            Tag::H1 => b"h1",
+            Tag::H2 => b"h2",
+            Tag::P => b"p",
+            Tag::Pre => b"pre",
+            Tag::A => b"a",
+            Tag::Span => b"span",
+            Tag::Div => b"div",
+            Tag::Details => b"details",
+            Tag::Summary => b"summary",
+            Tag::Footer => b"footer",
+            Tag::Nav => b"nav",
+            Tag::Table => b"table",
+            Tag::Thead => b"thead",
+            Tag::Tbody => b"tbody",
+            Tag::Tr => b"tr",
+            Tag::Th => b"th",
+            Tag::Td => b"td",
         }
     }
 }
 
-/// The attributes of elements that charts use.
+/// The attributes of elements that charts and pages use.
 #[derive(Clone, Copy, Debug, PartialEq, Eq)]
 pub enum Attr {
     /// The namespace of the element's names.
@@ -103,10 +169,16 @@ pub enum Attr {
     Orient,
     /// The unit in which a pattern is measured.
     PatternUnits,
+    /// The language of the text.
+    Lang,
+    /// The style of this element alone.
+    Style,
+    /// What the head of a table is about: its column or its row.
+    Scope,
 }
 
 impl Attr {
-    // Returns the name of the attribute, as in SVG.
+    // Returns the name of the attribute, as in SVG or HTML.
     pub(crate) fn name(self) -> &'static [u8]
         ensures { result.now ≡ attr_name self }
     {
@@ -135,6 +207,9 @@ impl Attr {
             Attr::MarkerHeight => b"markerHeight",
             Attr::Orient => b"orient",
             Attr::PatternUnits => b"patternUnits",
+            Attr::Lang => b"lang",
+            Attr::Style => b"style",
+            Attr::Scope => b"scope",
         }
     }
 }

@@ -74,8 +74,8 @@ impl<'s, 'k, 'e> Sheet<'s, 'k, 'e> {
     }
 }
 
-// Returns the y coordinate of a row, in pixels.
-pub(crate) fn y_of(row: usize) -> u64
+/// Returns the y coordinate at which a row of a drawing begins, in pixels: rows after the first `MAX_ROWS` are not drawn.
+pub fn y_of(row: usize) -> u64
     ensures value { result ≡ y_of row }
     ensures bound { result ≤ 48044 }
 {
