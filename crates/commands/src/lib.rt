@@ -76,7 +76,7 @@ pub use job_layout::{FormatFault, format_text};
 pub use linting::lints_json;
 pub use meeting::meets;
 pub use met::Met;
-pub use names::given_names;
+pub use names::{given_after, given_names};
 pub use outputs::Output;
 pub use racing::races;
 pub use scaling::{ScaleFault, scaled_text};

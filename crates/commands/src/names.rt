@@ -52,11 +52,18 @@ fn names_in(alloc: Global, tokens: &[Token]) -> Result<Vec<Name>, AllocError>
 fn push_given(names: &mut Vec<Name>, token: Token, after: &[Token]) -> Result<(), AllocError>
     ensures { OnOk result (names.new.items ≡ names.old.items ++ with_name (given_after token after.now) []) }
 {
-    let Some(name) = given_if(keyword_in(token), after) else {
+    let Some(name) = given_after(token, after) else {
         return Ok(());
     };
     names.push(name)?;
     Ok(())
+}
+
+/// Returns the name that comes after a token, if the token is a keyword before a name that is given.
+pub fn given_after(token: Token, after: &[Token]) -> Option<Name>
+    ensures { result ≡ given_after token after.now }
+{
+    given_if(keyword_in(token), after)
 }
 
 // Returns the keyword that a token is, if it is one.

@@ -50,7 +50,7 @@ pub use lasts::sleeping_forever;
 pub use line::Line;
 pub use lines::{denied_text, table};
 pub use lost::{is_lost, is_lost_so_far, is_raised};
-pub use notes::{differs, push_names_note, push_not_tried};
+pub use notes::{differs, push_job_outcome, push_names_note, push_not_tried};
 pub use options::{Options, Untried};
 pub use pieces::{push_left, push_right};
 pub use sweep_lines::sweep_table;

@@ -11,8 +11,9 @@ use exceptions::{Exc, Label, push_label, push_raised};
 use job_reader::JobFault;
 use std::alloc::{AllocError, Global};
 
-// Appends the outcome of a job up to the limit, and notes. `reached` says whether the fault was reached.
-pub(crate) fn push_job_outcome(
+/// Appends the outcome of a job up to the limit, and notes. `reached` says whether the fault was reached. The only error is that
+/// memory runs out.
+pub fn push_job_outcome(
     out: &mut Vec<u8>,
     limit: u64,
     reached: bool,
