@@ -1,0 +1,4 @@
+pub mod Appended
+pub mod WellFormed
+pub mod Drawn
+pub mod Answered
