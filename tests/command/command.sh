@@ -138,7 +138,7 @@ wants 0 '' '' lint feed.feed
 words='trio feed.feed'
 holds 0 out 'import trio'
 two='error: `feed.feed` has its input after the line `%%input`: leave out INPUT, which is `log.txt`\n'
-for command in run explain chart faults races; do
+for command in run explain chart faults races page; do
     wants 2 '' "$two" $command feed.feed log.txt
 done
 wants 2 '' "$two" sweep feed.feed log.txt --at 1:10 --values 1..2
@@ -349,6 +349,24 @@ wants 1 "$both" '' chart both.job
 helps chart "$both"
 words='chart both.job --svg'
 holds 1 out '<svg xmlns="http://www.w3.org/2000/svg"' '<title>both</title>' 'nursery calls is cancelled from 3' '</svg>'
+
+# ---- page
+
+printf '<script>alert(1)</script>\n]]>\n' > markup.txt
+printf 'trio-job 3\njob main { find "<"; find "]]>"; }\n' > markup.job
+words='page markup.job markup.txt'
+holds 0 out '<!DOCTYPE html>' '<h1>main</h1>' '  line 0+25 &lt;script&gt;alert(1)&lt;/script&gt;' '  line 26+3 ]]&gt;' \
+    'nursery page markup.job markup.txt --limit 1000000</footer>'
+if "$nursery" page markup.job markup.txt | grep -q '<script'; then fail 'a line of the input is markup in a page'; fi
+words='page both.job --workers 64'
+holds 1 out '<p class="outcome">both: 3 raised calls[Refused(user@3)]; cancelled: mail</p>' '<a href="#line-5">5:23</a>'
+name='nursery page forever.job --limit 7' got=0
+"$nursery" page forever.job --limit 7 > out 2> err || got=$?
+[ "$got" = 3 ] || fail "status $got, wanted 3"
+shows out '<summary>Report</summary><pre>limit 7'
+shows err 'main  sleeping forever since 0'
+wants 4 '' 'cannot read the input file\nnone.txt: no such file\n' page both.job none.txt
+wants 2 'refused J6 Syntax at 28\n' "$wrong" page wrong.job
 
 # ---- faults
 

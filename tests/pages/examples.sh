@@ -37,3 +37,9 @@ for name in retry shutdown supervisor; do
     draws "examples/$name.feed" "docs/pictures/$name.svg"
     draws "tests/ticks/$name.feed" "tests/ticks/$name.svg"
 done
+
+# A page about a job, which does not depend on the number of workers.
+for workers in 1 64; do
+    "$nursery" page examples/supervisor.feed --workers "$workers" | cmp - examples/supervisor.html
+done
+echo "examples/supervisor.html is the page about examples/supervisor.feed"

@@ -6,7 +6,7 @@ use Rattle.std.specs.Str.{bytes_eq}
 use Rattle.job_tree.specs.Formats.{extends_format_1}
 use Rattle.job_syntax.specs.Keywords.{keyword_of}
 use Rattle.cli.specs.declared.command.Command.{Command}
-use Rattle.cli.specs.declared.command.Command.TheVariants.{Feed, Run, Explain, Chart, Faults, Races, Sweep, Fmt, Lint, Test, Trio, Check, Upgrade, Scale, Completions, Man, Help}
+use Rattle.cli.specs.declared.command.Command.TheVariants.{Feed, Run, Explain, Chart, Faults, Races, Page, Sweep, Fmt, Lint, Test, Trio, Check, Upgrade, Scale, Completions, Man, Help}
 use Rattle.std.specs.String.{string_bytes}
 use Rattle.cli.specs.declared.command.FormatMode.{FormatMode}
 use Rattle.cli.specs.declared.command.FormatMode.TheVariants as modes
@@ -57,6 +57,7 @@ IsFit (Explain args) = IsLabel (option_map string_bytes args.task)
 IsFit (Chart args) = IsWidth args.width
 IsFit (Faults args) = IsTrue (list_all may_be_raised args.options.names.items)
 IsFit (Races args) = Unit {0}
+IsFit (Page args) = Unit {0}
 IsFit (Sweep args) = AreValues args.values.items
 IsFit (Fmt job mode) = IsWritten (string_bytes job) mode
 IsFit (Lint job json) = Unit {0}

@@ -46,6 +46,17 @@ pub struct ChartArgs {
     pub settings: Settings,
 }
 
+/// The arguments of `page`.
+#[derive(Drop)]
+pub struct PageArgs {
+    /// The job file, or `-` for standard input.
+    pub job: String,
+    /// The input file, or `-` for standard input. `None` is the input that the job file holds, or else an empty one.
+    pub input: Option<String>,
+    /// The number of workers, and the last tick of the chart and the story.
+    pub settings: Settings,
+}
+
 /// The arguments of `faults`.
 #[derive(Drop)]
 pub struct FaultsArgs {

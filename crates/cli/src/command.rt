@@ -1,7 +1,9 @@
 ghost use Rattle.std.specs.Prelude.{◌≡◌};
 ghost use Rattle.cli.specs.declared.command.CommandFault.TheVariants.{NoMemory};
 
-use crate::arguments::{ChartArgs, ExplainArgs, FaultsArgs, RacesArgs, RunArgs, SweepArgs};
+use crate::arguments::{
+    ChartArgs, ExplainArgs, FaultsArgs, PageArgs, RacesArgs, RunArgs, SweepArgs,
+};
 use job_runner::Settings;
 use job_tree::Format;
 use std::alloc::AllocError;
@@ -41,6 +43,8 @@ pub enum Command {
     Explain(ExplainArgs),
     /// Draws a picture of the run of a job over an input.
     Chart(ChartArgs),
+    /// Writes a page about a job over an input, as one HTML file.
+    Page(PageArgs),
     /// Prints the outcome of a job over an input with each fault of its waiting steps.
     Faults(FaultsArgs),
     /// Prints the places of a job on which its outcome over an input depends by a hair.

@@ -8,6 +8,7 @@ pub(crate) fn example_of(command: &str) -> &'static str {
         "run" => RUN_EXAMPLE,
         "explain" => EXPLAIN_EXAMPLE,
         "chart" => CHART_EXAMPLE,
+        "page" => PAGE_EXAMPLE,
         "faults" => FAULTS_EXAMPLE,
         "races" => RACES_EXAMPLE,
         "sweep" => SWEEP_EXAMPLE,
@@ -104,6 +105,16 @@ Example: one of two calls fails.
     mail             |--x cancelled
 
 Exit status: that of `run`; 3 if the job ends later than the limit, and is drawn up to it.";
+
+const PAGE_EXAMPLE: &str =
+    "The page has no scripts and needs no other file. Sentences of the story and lines of the tables are links to the
+lines of the job, and tasks to their rows in the chart.
+
+Example:
+
+    $ nursery page both.job > both.html
+
+Exit status: that of `run`; 3 if the job ends later than the limit, and is shown up to it.";
 
 const FAULTS_EXAMPLE: &str =
     "A fault is a change of one waiting step: an exception is raised in its place (`fails`) or after it

@@ -42,7 +42,7 @@ mod sweeping;
 mod table;
 mod zsh;
 
-pub use arguments::{ChartArgs, ExplainArgs, FaultsArgs, RacesArgs, RunArgs, SweepArgs};
+pub use arguments::{ChartArgs, ExplainArgs, FaultsArgs, PageArgs, RacesArgs, RunArgs, SweepArgs};
 pub use command::{Command, CommandFault, FormatMode, Shell};
 pub use completing::completions;
 pub use manual::man_page;

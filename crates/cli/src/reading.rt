@@ -8,7 +8,9 @@ ghost use Rattle.cli.specs.Named.{format_named, shell_named};
 ghost use Rattle.cli.specs.Reads.{Reads};
 ghost use Rattle.cli.specs.Words.{IsFit, IsAsked, IsLabel, IsWidth, is_label, spelled_label, may_be_raised};
 
-use crate::arguments::{ChartArgs, ExplainArgs, FaultsArgs, RacesArgs, RunArgs, SweepArgs};
+use crate::arguments::{
+    ChartArgs, ExplainArgs, FaultsArgs, PageArgs, RacesArgs, RunArgs, SweepArgs,
+};
 use crate::command::{Command, CommandFault, FormatMode, Shell};
 use crate::common::{OUT_OF_RANGE, owned_copy, refusal, settings_of};
 use crate::denying::denied_kinds;
@@ -172,6 +174,7 @@ fn job_command(alloc: Global, name: &str, inner: &ArgMatches<'_>) -> Result<Comm
         "run" => run_command(alloc, job, inner),
         "explain" => explain_command(alloc, job, inner),
         "chart" => chart_command(alloc, job, inner),
+        "page" => page_command(alloc, job, inner),
         "faults" => faults_command(alloc, job, inner),
         "races" => races_command(alloc, job, inner),
         "sweep" => sweep_command(alloc, job, inner),
@@ -286,6 +289,18 @@ fn chart_command(
         input: run.input,
         width,
         svg: matches.get_flag("svg"),
+        settings: run.settings,
+    }))
+}
+
+// Returns the command `page` with its settings.
+fn page_command(alloc: Global, job: &str, matches: &ArgMatches<'_>) -> Result<Command, CommandFault>
+    ensures { IfOk result IsAsked }
+{
+    let run = job_run(alloc, job, matches)?;
+    Ok(Command::Page(PageArgs {
+        job: run.job,
+        input: run.input,
         settings: run.settings,
     }))
 }

@@ -45,6 +45,12 @@ const RUNS: &[CommandRow] = &[
         args: &[JOB, INPUT, WIDTH, SVG, WORKERS, LIMIT],
         group: None,
     },
+    CommandRow {
+        name: "page",
+        about: "Writes one HTML file about a job: its text, chart, story, faults and races",
+        args: &[JOB, INPUT, WORKERS, LIMIT],
+        group: None,
+    },
 ];
 
 // The commands that compare many runs of a job.

@@ -14,6 +14,7 @@ mod exports;
 mod faults;
 mod formats;
 mod lints;
+mod pages;
 mod progress;
 mod races;
 mod scales;
@@ -32,6 +33,7 @@ use crate::exports::trio_job;
 use crate::faults::faults_job;
 use crate::formats::format_job_file;
 use crate::lints::lint_job;
+use crate::pages::page_job;
 use crate::races::races_job;
 use crate::scales::scale_job;
 use crate::stop::Stop;
@@ -75,6 +77,7 @@ where
         Ok(Command::Run(args)) => run_job(rt, &args),
         Ok(Command::Explain(args)) => explain_job(rt, &args),
         Ok(Command::Chart(args)) => chart_job(rt, &args),
+        Ok(Command::Page(args)) => page_job(rt, &args, at_terminal),
         Ok(Command::Faults(args)) => faults_job(rt, &args, at_terminal),
         Ok(Command::Races(args)) => races_job(rt, &args, at_terminal),
         Ok(Command::Sweep(args)) => sweep_job(rt, &args, at_terminal),
