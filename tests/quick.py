@@ -21,6 +21,7 @@ PAGES = [
     ["tests/pages/layers.py"],
     ["tests/pages/columns.py"],
     ["tests/pages/clauses.py"],
+    ["tests/pages/editors.py"],
     ["tests/edits/try.py", "--read"],
 ]
 RESULT = re.compile(rb"^test result: .*?(\d+) passed; (\d+) failed", re.M)
