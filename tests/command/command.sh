@@ -359,7 +359,7 @@ holds 0 out '<!DOCTYPE html>' '<h1>main</h1>' '  line 0+25 &lt;script&gt;alert(1
     'nursery page markup.job markup.txt --limit 1000000</footer>'
 if "$nursery" page markup.job markup.txt | grep -q '<script'; then fail 'a line of the input is markup in a page'; fi
 words='page both.job --workers 64'
-holds 1 out '<p class="outcome">both: 3 raised calls[Refused(user@3)]; cancelled: mail</p>' '<a href="#line-5">5:23</a>'
+holds 1 out '<p class="outcome">both: 3 raised calls[Refused(user@3)]; cancelled: mail</p>' '<a href="#line-5">5:7</a>'
 name='nursery page forever.job --limit 7' got=0
 "$nursery" page forever.job --limit 7 > out 2> err || got=$?
 [ "$got" = 3 ] || fail "status $got, wanted 3"
