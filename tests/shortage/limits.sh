@@ -76,7 +76,7 @@ from_little_to_enough explain grid.job lines.txt --json
 from_little_to_enough chart grid.job lines.txt
 from_little_to_enough chart grid.job lines.txt --svg
 from_little_to_enough faults few.job lines.txt
-from_little_to_enough page few.job lines.txt
+from_little_to_enough page pair.job lines.txt
 from_little_to_enough races pair.job lines.txt
 from_little_to_enough sweep few.job lines.txt --at 2:40 --values 1..9
 from_little_to_enough check wide.job
