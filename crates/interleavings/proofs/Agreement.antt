@@ -1,6 +1,7 @@
 -- If a run agrees with a table, the table and the froms that the run keeps agree in the present moment; and the jump: nothing
 -- that was not done yet happens before the moment to which the clock jumps.
 use Rattle.std.proofs.Common.{◌≡◌, ◌⊎◌, ℕ, zero, suc, ◌+◌, ◌-◌, ◌<◌, ◌≤◌, min, max, Bool, true, Option, Some, None, List, [], ◌∷◌, refl, sym, ap, ◌∙◌, subst, inl, inr, arith}
+use Rattle.turn_semantics.specs.Lists.{IsAmong}
 use Rattle.exceptions.specs.Exceptions.{Label, Exc}
 use Rattle.cancel_scopes.specs.Sight.{Tick, Level, sight}
 use Rattle.job_meaning.specs.Log.{Member, Result, Table, least_sign}
@@ -13,10 +14,10 @@ use Rattle.job_meaning.proofs.MomentLemmas.{round_after}
 use Rattle.job_meaning.proofs.Late.{Timed}
 use Rattle.job_meaning.proofs.Clips.{upto_most, sight_near, event_near, least_late}
 use Rattle.turn_semantics.specs.Midway.{Place, stack_at}
-use Rattle.turn_semantics.specs.Placed.{IsSome, PlacedStop, IsAmong}
+use Rattle.turn_semantics.specs.Placed.{IsSome, PlacedStop}
 use Rattle.turn_semantics.specs.Wakes.{set_at}
 use Rattle.turn_semantics.specs.Turned.{AgreesOn, AgreesIn, made_sign}
-use Rattle.interleavings.specs.Interleaving.{Started, Tells, Fits, made_least, all_least, EnteredIn, In, Kid, HasFrom, Entered, EachPlace, RunInvariant, live, slept, goes_on, resumes, AllFrom, Unended, members_by, Settling, StaysUntil, Blocked}
+use Rattle.interleavings.specs.Interleaving.{Started, Tells, Fits, made_least, all_least, EnteredIn, Kid, HasFrom, Entered, EachPlace, RunInvariant, live, slept, goes_on, resumes, AllFrom, Unended, members_by, Settling, StaysUntil, Blocked}
 use Rattle.interleavings.proofs.Readings.{upto_from, entered_times, left_fresh}
 use Rattle.interleavings.proofs.Contract.{near_places, agrees_each}
 use Rattle.interleavings.proofs.Lateness.{slept_after, slept_unseen, awaited_after, awaited_unseen, event_there, ends_near, late_rest, timed_rest, latest_in}
@@ -38,7 +39,7 @@ ends_at k q v p s l h =
     subst (λ (r : Result). v ≤ r.end) (p.comes q.told (told_tells q))
     (late_rest k q.told q.here q.stop v q.rest.stopped q.rest.frames q.places s l h).ends
 
-lefts_late : (v : ℕ) (l : Label) (qs : List Started) → ((q : Started) → In q qs → Timed v q.left) → all_least v l qs ≡ made_least v l qs
+lefts_late : (v : ℕ) (l : Label) (qs : List Started) → ((q : Started) → IsAmong q qs → Timed v q.left) → all_least v l qs ≡ made_least v l qs
 unfolding all_least made_least
 lefts_late v l [] h = refl
 lefts_late v l (q ∷ qs) h =
@@ -62,10 +63,10 @@ ended_final_result k q p u e s = (
 same_member : (m n : Member) → m.end ≡ n.end → m.exc ≡ n.exc → m ≡ n
 same_member m n e f = λ i. record { end = e i; exc = f i }
 
-module _ (k f : Table) (whole : Result) (qs : List Started) (o : RunInvariant k f whole qs) (q : Started) (i : In q qs) where
+module _ (k f : Table) (whole : Result) (qs : List Started) (o : RunInvariant k f whole qs) (q : Started) (i : IsAmong q qs) where
   -- what is recorded of children that have ended is how they ended
   pub told_ended : (told : ChildOutcomes) → Tells q told → (ends : ℕ → Member) (is : List ℕ) → ((n : ℕ) → IsAmong n is → n < q.count) →
-      ((n : ℕ) → IsAmong n is → (c : Started) → In c qs → c.serial ≡ q.child n → c.rest.stopped ≡ at_end (ends n).end (ends n).exc) →
+      ((n : ℕ) → IsAmong n is → (c : Started) → IsAmong c qs → c.serial ≡ q.child n → c.rest.stopped ≡ at_end (ends n).end (ends n).exc) →
       told_members told is ≡ members_by ends is
   told_ended told tells ends [] h e = refl
   told_ended told tells ends (n ∷ is) h e =
@@ -99,7 +100,7 @@ module _ (k f : Table) (whole : Result) (qs : List Started) (o : RunInvariant k 
   agrees_on (x ∷ ps) p = (agrees_entered x.label p.0, agrees_on ps p.1)
 
   -- and the table has, at v, the deadline of each label that a task has left to enter
-  deadline_left : (q : Started) → In q qs → (l : Label) (d : Tick) → EnteredIn l d q.left → upto (suc v) (k l) ≡ upto (suc v) d
+  deadline_left : (q : Started) → IsAmong q qs → (l : Label) (d : Tick) → EnteredIn l d q.left → upto (suc v) (k l) ≡ upto (suc v) d
   deadline_left q i l d e =
       let a : made_least v l qs ≡ v = o.made v l (left_fresh l q qs i (entered_times l d q.left e) (o.once l)) in
       let b : upto v (least_sign l whole.log) ≡ made_least v l qs = same_least l in
@@ -107,7 +108,7 @@ module _ (k f : Table) (whole : Result) (qs : List Started) (o : RunInvariant k 
       ap (upto (suc v)) (o.follows q i l d e) ∙ (upto_from v d (least_sign l whole.log) ∙ omega arith)
 
   -- so it agrees with the log of what that task has left
-  pub agrees_in : (q : Started) → In q qs → AgreesIn v k q.left
+  pub agrees_in : (q : Started) → IsAmong q qs → AgreesIn v k q.left
   agrees_in q i = agrees_each v k q.left (deadline_left q i)
 
   unseen : (x y : Tick) (u : ℕ) → upto u y ≡ u → v < u → upto (suc v) x ≡ upto (suc v) y → upto (suc v) x ≡ suc v
@@ -151,7 +152,7 @@ module _ (k f : Table) (whole : Result) (qs : List Started) (o : RunInvariant k 
   -- One moment further: no sleeper has its next turn before it; and one that waits, no earlier than a child that has not ended,
   -- whose serial number is greater, or when its nursery settles.
   pub further :
-      (u bound : ℕ) → v < u → Blocked f qs u → ((q : Started) → In q qs → q.serial < bound) → (n : ℕ) (q : Started) → In q qs →
+      (u bound : ℕ) → v < u → Blocked f qs u → ((q : Started) → IsAmong q qs → q.serial < bound) → (n : ℕ) (q : Started) → IsAmong q qs →
       live q.rest.stopped ≡ true → bound ≤ q.serial + n →
       suc v ≤ resumes k q
   further u m h b small zero q i a z = let w : q.serial < m = small q i in absurd (omega arith)
@@ -195,7 +196,7 @@ module _ (k f : Table) (whole : Result) (qs : List Started) (o : RunInvariant k 
 -- nothing that was not made happens before the moment to which the clock jumps
 pub climb :
     (k f : Table) (whole : Result) (qs : List Started) → RunInvariant k f whole qs → (t bound : ℕ) →
-    ((q : Started) → In q qs → q.serial < bound) → AllFrom k qs t → (u : ℕ) → Blocked f qs u →
+    ((q : Started) → IsAmong q qs → q.serial < bound) → AllFrom k qs t → (u : ℕ) → Blocked f qs u →
     (n v : ℕ) → v ≡ t + n → v ≤ u → AllFrom k qs v
 climb k f whole qs o t m small a u b zero v e h = subst (AllFrom k qs) (omega arith) a
 climb k f whole qs o t m small a u b (suc n) v e h = λ q i l.
@@ -207,6 +208,6 @@ climb k f whole qs o t m small a u b (suc n) v e h = λ q i l.
 -- so where the clock jumps
 pub jumps :
     (k f : Table) (whole : Result) (qs : List Started) → RunInvariant k f whole qs → (t bound : ℕ) →
-    ((q : Started) → In q qs → q.serial < bound) → AllFrom k qs t → (u : ℕ) → t ≤ u → Blocked f qs u →
+    ((q : Started) → IsAmong q qs → q.serial < bound) → AllFrom k qs t → (u : ℕ) → t ≤ u → Blocked f qs u →
     AllFrom k qs u
 jumps k f whole qs o t m small a u h b = climb k f whole qs o t m small a u b (u - t) u (omega arith) (omega arith)

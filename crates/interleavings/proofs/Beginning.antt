@@ -1,5 +1,6 @@
 -- A run agrees at its beginning with each settled table of a job that gives names once.
 use Rattle.std.proofs.Common.{◌≡◌, ◌⊎◌, ℕ, ◌+◌, ◌<◌, ◌≤◌, Bool, true, false, Option, Some, None, List, [], ◌∷◌, refl, sym, ap, ◌∙◌, subst, inl, inr, arith, if◌then◌else◌}
+use Rattle.turn_semantics.specs.Lists.{IsAmong}
 use Rattle.job_tree.specs.Tree.{Tree}
 use Rattle.job_tree.specs.Names.{GivesNamesOnce}
 use Rattle.job_tree.specs.Starting.{StartsInNurseries}
@@ -17,7 +18,7 @@ use Rattle.job_meaning.proofs.Distinct.{same_label_itself}
 use Rattle.job_meaning.proofs.Finish.{finish_begin}
 use Rattle.job_meaning.proofs.Once.{enters_once, job_gives_once}
 use Rattle.turn_semantics.specs.Placed.{PlacedStop}
-use Rattle.interleavings.specs.Interleaving.{Started, Fits, times_made, made_least, all_least, made_times, all_times, EnteredIn, EntersWith, StartsChild, In, Kid, HasFrom, Parent, Entered, EachPlace, RunInvariant, AllFrom}
+use Rattle.interleavings.specs.Interleaving.{Started, Fits, times_made, made_least, all_least, made_times, all_times, EnteredIn, EntersWith, StartsChild, Kid, HasFrom, Parent, Entered, EachPlace, RunInvariant, AllFrom}
 use Rattle.interleavings.specs.Going.{root_result, root_task}
 use Rattle.interleavings.proofs.Readings.{entered_times}
 
@@ -95,7 +96,7 @@ module _ (k f : Table) (job : Tree) (input : List ℕ) (names : GivesNamesOnce j
         λ told h. ap (λ (r : Result). r.log) (root_comes k job input told);
   }
 
-  of_root : (P : Started → Type 0) → P (root_task k job input) → (q : Started) → In q tasks → P q
+  of_root : (P : Started → Type 0) → P (root_task k job input) → (q : Started) → IsAmong q tasks → P q
   of_root P h q (inl e) = subst P (sym e) h
   of_root P h q (inr i) = absurd i
 

@@ -1,6 +1,7 @@
 -- What a turn moves from what a task has left to what it made and to its children: sums of both stay the same.
 use Rattle.std.proofs.Common.{◌≡◌, ℕ, suc, ◌+◌, ◌<◌, ◌≤◌, min, Bool, true, false, ◌==◌, if◌then◌else◌, Some, List, [], ◌∷◌, ◌++◌, length, refl, sym, ap, ◌∙◌, subst, inl, inr, arith}
 use Rattle.std.proofs.lemmas.Bool.Decides.{nat_tests}
+use Rattle.turn_semantics.specs.Lists.{IsAmong}
 use Rattle.exceptions.specs.Exceptions.{Label}
 use Rattle.cancel_scopes.specs.Sight.{Tick}
 use Rattle.job_meaning.specs.Log.{Log, nil, entry, sign, entered, task, followed_by, Result, same_label, tick_if, least_sign, times_entered, Table}
@@ -13,7 +14,7 @@ use Rattle.job_meaning.proofs.Finish.{followed_assoc, fill_append, finish_begin}
 use Rattle.turn_semantics.specs.Midway.{stack_at, Begun, Move, now_after, none_told, begun_comes_to}
 use Rattle.turn_semantics.specs.Wakes.{Wake, WakesBy}
 use Rattle.turn_semantics.specs.Turned.{AgreesOn, AgreesIn, AllTold, Starts, made_sign, TurnsOver}
-use Rattle.interleavings.specs.Interleaving.{Started, Tells, Fits, times_made, all_least, all_times, EnteredIn, In}
+use Rattle.interleavings.specs.Interleaving.{Started, Tells, Fits, times_made, all_least, all_times, EnteredIn}
 use Rattle.interleavings.specs.Going.{told_new, children_from, task_after_turn}
 use Rattle.interleavings.proofs.Readings.{first_join, times_join, least_join, left_join}
 use Rattle.interleavings.proofs.Contract.{NumberedFrom, numbers_of, keeps_to}
@@ -121,7 +122,7 @@ module _ (k : Table) (t : ℕ) (told : ChildOutcomes) where
 
   -- what a child enters, the events of its starter enter
   pub fill_entered : (n m : ℕ) (es : List Event) (bs : List Begun) → Starts n es bs → AllTold t k told bs →
-      (x : Started) → In x (children_from k t m bs) → (l : Label) (d : Tick) → EnteredIn l d x.left → EnteredIn l d (fill told es)
+      (x : Started) → IsAmong x (children_from k t m bs) → (l : Label) (d : Tick) → EnteredIn l d x.left → EnteredIn l d (fill told es)
   unfolding children_from
   fill_entered n m [] [] p q x i l d h = absurd i
   fill_entered n m [] (b ∷ bs) p q x i l d h = absurd p
@@ -225,7 +226,7 @@ module _ (k f : Table) (now : Now) (m : ℕ) (wake : Wake) (q : Started) (o : Mo
       omega arith
 
 -- the result of a child before its first turn is that of following the table, whatever is recorded of children
-pub fits_begun : (k : Table) (t m : ℕ) (bs : List Begun) (q : Started) → In q (children_from k t m bs) → Fits k q
+pub fits_begun : (k : Table) (t m : ℕ) (bs : List Begun) (q : Started) → IsAmong q (children_from k t m bs) → Fits k q
 unfolding children_from
 fits_begun k t m [] q i = absurd i
 fits_begun k t m (b ∷ bs) q (inl e) = subst (λ (x : Started). Fits k x) (sym e) (fits_first b)

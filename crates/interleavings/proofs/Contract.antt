@@ -1,5 +1,6 @@
 -- What a turn promises, as the other proofs read it: numbers and labels of what it made, the froms after it, and its stop.
 use Rattle.std.proofs.Common.{◌≡◌, ◌⊎◌, ℕ, suc, ◌+◌, ◌<◌, ◌≤◌, min, Bool, true, false, Option, Some, List, [], ◌∷◌, refl, ap, ◌∙◌, subst, inl, inr, arith}
+use Rattle.turn_semantics.specs.Lists.{IsAmong}
 use Rattle.exceptions.specs.Exceptions.{Label}
 use Rattle.cancel_scopes.specs.Sight.{Tick}
 use Rattle.job_meaning.specs.Log.{Log, nil, entry, sign, entered, task, Table}
@@ -12,7 +13,7 @@ use Rattle.turn_semantics.specs.Midway.{Place, level_on, stack_at, Begun, Move, 
 use Rattle.turn_semantics.specs.Steps.{froms_after}
 use Rattle.turn_semantics.specs.Placed.{PlacedStop, PlacedAfter}
 use Rattle.turn_semantics.specs.Wakes.{Wake, WakesBy}
-use Rattle.turn_semantics.specs.Turned.{AgreesOn, AgreesIn, AllTold, Known, AllKnown, known_after, MadeAt, Starts, made_sign, EntersIn, StopsAt, weight_of_stop, weight_of_begun, TurnsOver}
+use Rattle.turn_semantics.specs.Turned.{AgreesOn, AgreesIn, AllTold, AllKnown, known_after, MadeAt, Starts, made_sign, EntersIn, StopsAt, weight_of_stop, weight_of_begun, TurnsOver}
 use Rattle.turn_semantics.proofs.Froms.{from_lowered, from_opened}
 use Rattle.interleavings.specs.Interleaving.{Started, times_made, EnteredIn, EntersWith, EachPlace}
 use Rattle.interleavings.proofs.Readings.{upto_from, enters_counted, enters_once}
@@ -60,7 +61,7 @@ numbers_of n (starts i l t ∷ es) (b ∷ bs) h = (h.1, numbers_of (suc n) es bs
 
 -- a label is among these, or was entered among those events
 abbrev pub OldOrNew : List Label → List Event → Label → Type 0
-OldOrNew ls es l = Known l ls ⊎ ((d : Tick) × EntersWith l d es)
+OldOrNew ls es l = IsAmong l ls ⊎ ((d : Tick) × EntersWith l d es)
 
 after_entered : (l m : Label) (u : ℕ) (c : Tick) (ls : List Label) (es : List Event) →
     OldOrNew (m ∷ ls) es l → OldOrNew ls (enters m u c ∷ es) l
@@ -69,7 +70,7 @@ after_entered l m u c ls es (inl (inr i)) = inl i
 after_entered l m u c ls es (inr p) = inr (p.0, inr p.1)
 
 -- so is each that is known after events
-pub known_of : (ls : List Label) (es : List Event) (l : Label) → Known l (known_after ls es) → OldOrNew ls es l
+pub known_of : (ls : List Label) (es : List Event) (l : Label) → IsAmong l (known_after ls es) → OldOrNew ls es l
 known_of ls [] l h = inl h
 known_of ls (noted t e ∷ es) l h = known_of ls es l h
 known_of ls (signs m t ∷ es) l h = known_of ls es l h
@@ -77,7 +78,7 @@ known_of ls (enters m t d ∷ es) l h = after_entered l m t d ls es (known_of (m
 known_of ls (starts i m t ∷ es) l h = known_of ls es l h
 
 -- what is true for each known label is true for each enclosing scope or nursery with a known label
-pub each_known : (P : Label → Type 0) (ls : List Label) → ((l : Label) → Known l ls → P l) →
+pub each_known : (P : Label → Type 0) (ls : List Label) → ((l : Label) → IsAmong l ls → P l) →
     (ps : List Place) → AllKnown ps ls → EachPlace P ps
 each_known P ls h [] p = tt
 each_known P ls h (x ∷ ps) p = (h x.label p.0, each_known P ls h ps p.1)
@@ -94,7 +95,7 @@ lowered_from c f l es h =
     not_entered i = let j : 1 ≤ times_made l es = enters_counted l es i in absurd (omega arith)
 
 -- that of a label which was entered once, and not known before, is its deadline lowered likewise
-pub opened_from : (c : ℕ) (clock : Clock) (t : ℕ) (f : Table) (ls : List Label) (l : Label) (d : Tick) (es : List Event) → MadeAt clock t ls es → (Known l ls → ⊥) →
+pub opened_from : (c : ℕ) (clock : Clock) (t : ℕ) (f : Table) (ls : List Label) (l : Label) (d : Tick) (es : List Event) → MadeAt clock t ls es → (IsAmong l ls → ⊥) →
     EntersWith l d es → times_made l es ≡ 1 → upto (suc c) (froms_after f es l) ≡ min (upto (suc c) d) (suc (upto c (made_sign l es)))
 opened_from c clock t f ls l d es made fresh h n =
     ap (λ (x : Tick). upto (suc c) x) (from_opened clock t es ls f l d made fresh (enters_once l d es h n)) ∙ upto_from c d (made_sign l es)

@@ -1,6 +1,7 @@
 -- A run that is over: its rows contain the result of following the table.
 use Rattle.std.proofs.Common.{◌≡◌, ℕ, suc, ◌+◌, ◌<◌, min, true, Option, Some, None, List, [], ◌∷◌, ◌++◌, refl, sym, ap, ◌∙◌, subst, inl, inr, arith, append_assoc}
 use Rattle.std.proofs.lemmas.List.{append-nil}
+use Rattle.turn_semantics.specs.Lists.{IsAmong}
 use Rattle.job_tree.specs.Tree.{Tree}
 use Rattle.exceptions.specs.Exceptions.{Label, Exc}
 use Rattle.cancel_scopes.specs.Sight.{Tick}
@@ -13,7 +14,7 @@ use Rattle.job_meaning.specs.Meaning.{Noted, Record, entries_of, records_of, ent
 use Rattle.job_meaning.specs.Rest.{Event, noted, signs, enters, starts, ChildOutcomes, fill, Stopped, at_end, task_comes_to}
 use Rattle.job_meaning.proofs.Clips.{followed_nil}
 use Rattle.turn_semantics.specs.Midway.{stack_at}
-use Rattle.interleavings.specs.Interleaving.{Started, Fits, EntersWith, StartsChild, In, Kid, RunInvariant, live, AllFrom}
+use Rattle.interleavings.specs.Interleaving.{Started, Fits, EntersWith, StartsChild, Kid, RunInvariant, live, AllFrom}
 use Rattle.interleavings.specs.Rows.{Row, entries_made, entered_made, children_made, StartsRows, HasRow, record_of, records_by, froms_in, DepthFirst, no_more, and_more}
 use Rattle.interleavings.proofs.Agreement.{told_tells, agrees, ended_final_result}
 
@@ -59,7 +60,7 @@ same_tick (Some a) (Some b) h =
 -- ---- the rows
 
 module _ (k f : Table) (whole : Result) (qs : List Started) (o : RunInvariant k f whole qs) (clock : Clock) (rows : ℕ → Row)
-    (rowed : (q : Started) → In q qs → HasRow clock f rows q) where
+    (rowed : (q : Started) → IsAmong q qs → HasRow clock f rows q) where
   none_live : (v : ℕ) → AllFrom k qs v
   none_live v q i l = absurd (no (rowed q i))
     where
@@ -67,10 +68,10 @@ module _ (k f : Table) (whole : Result) (qs : List Started) (o : RunInvariant k 
       no h = let z : live (at_end h.end (rows q.serial).exc) ≡ true = subst (λ (s : Stopped). live s ≡ true) h.ended l in cc
 
   -- each from that was kept is the table's
-  pub from_over : (q : Started) → In q qs → (l : Label) (d : Tick) → EntersWith l d q.made → f l ≡ k l
+  pub from_over : (q : Started) → IsAmong q qs → (l : Label) (d : Tick) → EntersWith l d q.made → f l ≡ k l
   from_over q i l d h = sym (same_tick (k l) (f l) (λ c. agrees k f whole qs o c (none_live c) l d (o.known q i l d h)))
 
-  froms_over : (q : Started) → In q qs → (es : List Event) → ((l : Label) (d : Tick) → EntersWith l d es → EntersWith l d q.made) →
+  froms_over : (q : Started) → IsAmong q qs → (es : List Event) → ((l : Label) (d : Tick) → EntersWith l d es → EntersWith l d q.made) →
       froms_by f (entered_made es) ≡ froms_by k (entered_made es)
   froms_over q i [] h = refl
   froms_over q i (noted t e ∷ es) h = froms_over q i es h
@@ -82,14 +83,14 @@ module _ (k f : Table) (whole : Result) (qs : List Started) (o : RunInvariant k 
   froms_over q i (starts n l t ∷ es) h = froms_over q i es h
 
   -- the log of a task that ended
-  log_of : (q : Started) → In q qs → q.final_result.log ≡ fill q.told q.made
+  log_of : (q : Started) → IsAmong q qs → q.final_result.log ≡ fill q.told q.made
   log_of q i = let h : HasRow clock f rows q = rowed q i in ended_log k q (o.fits q i) h.end (rows q.serial).exc h.ended
 
   -- a row says of its task what its outcome does
-  row_entries : (q : Started) → In q qs → (rows q.serial).entries ≡ entries_of clock q.final_result.log
+  row_entries : (q : Started) → IsAmong q qs → (rows q.serial).entries ≡ entries_of clock q.final_result.log
   row_entries q i = (rowed q i).entries ∙ sym (ap (entries_of clock) (log_of q i) ∙ entries_fill clock q.told q.made)
 
-  row_froms : (q : Started) → In q qs → (rows q.serial).froms ≡ froms_by k (entered_by q.final_result.log)
+  row_froms : (q : Started) → IsAmong q qs → (rows q.serial).froms ≡ froms_by k (entered_by q.final_result.log)
   row_froms q i = (rowed q i).froms ∙ (froms_over q i q.made (λ l d j. j)
       ∙ sym (ap (λ (a : Log). froms_by k (entered_by a)) (log_of q i) ∙ ap (froms_by k) (entered_fill q.told q.made)))
 
@@ -109,7 +110,7 @@ module _ (k f : Table) (whole : Result) (qs : List Started) (o : RunInvariant k 
 
   abbrev AllIn : List Started → Type 0
   AllIn [] = Unit {0}
-  AllIn (q ∷ ts) = In q qs × AllIn ts
+  AllIn (q ∷ ts) = IsAmong q qs × AllIn ts
 
   all_in_append : (ts us : List Started) → AllIn ts → AllIn us → AllIn (ts ++ us)
   all_in_append [] us p r = r
@@ -161,7 +162,7 @@ module _ (k f : Table) (whole : Result) (qs : List Started) (o : RunInvariant k 
       row_entries c.kid c.among ∙ ap (λ (r : Result). entries_of clock r.log) c.same in
       λ j. record { label = x1 j; start = x2 j; end = x3 j; exc = x4 j; entries = x5 j }
 
-  children_of : (q : Started) → In q qs → (es : List Event) → ((i : ℕ) → StartsChild i es → i < q.count) → StartsRows clock rows q.child es →
+  children_of : (q : Started) → IsAmong q qs → (es : List Event) → ((i : ℕ) → StartsChild i es → i < q.count) → StartsRows clock rows q.child es →
       Children q es
   children_of q j [] h s = record { tasks = []; among = tt; numbers = refl; records = refl; froms = refl }
   children_of q j (noted t e ∷ es) h s =
@@ -192,7 +193,7 @@ module _ (k f : Table) (whole : Result) (qs : List Started) (o : RunInvariant k 
         froms = r.froms;
       }
   children_of q j (starts i l t ∷ es) h s =
-      let r : Children q es = children_of q j es (λ n m. h n (inr m)) s.2 in
+      let r : Children q es = children_of q j es (λ n m. h n (inr m)) s.1 in
       let c : Kid qs q i = o.kids q j i (h i (inl refl)) in
       let x : record_of (rows c.kid.serial) ≡ record {
         label = l;
@@ -201,7 +202,7 @@ module _ (k f : Table) (whole : Result) (qs : List Started) (o : RunInvariant k 
         exc = (q.told i).exc;
         entries =
             entries_of clock (q.told i).log;
-      } = child_record q i l t c s.0 s.1 in
+      } = child_record q i l t c s.0.0 s.0.1 in
       let y : records_of clock c.kid.final_result.log ≡ records_of clock (q.told i).log = ap (λ (v : Result). records_of clock v.log) c.same in
       let z : (rows c.kid.serial).froms ++ froms_by k (all_entered c.kid.final_result.log) ≡ froms_by k (entered_by (q.told i).log)
       ++ froms_by k (all_entered (q.told i).log) =
@@ -222,7 +223,7 @@ module _ (k f : Table) (whole : Result) (qs : List Started) (o : RunInvariant k 
             (froms_append k (all_entered (q.told i).log) (all_entered (fill q.told es))))));
       }
 
-  all_children : (q : Started) → In q qs → Children q q.made
+  all_children : (q : Started) → IsAmong q qs → Children q q.made
   all_children q i = children_of q i q.made (o.numbered q i) (rowed q i).starts
 
   -- the rows that are taken from a stack are those of its tasks with all that they started

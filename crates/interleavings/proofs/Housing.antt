@@ -1,4 +1,5 @@
 -- Each task of a run is in a nursery of the task that started it, until it has ended.
+use Rattle.turn_semantics.specs.Lists.{IsAmong}
 use Rattle.cancel_scopes.specs.Sight.{Tick}
 use Rattle.std.proofs.Common.{◌≡◌, ◌⊎◌, inl, inr, ℕ, zero, suc, ◌+◌, ◌-◌, ◌<◌, ◌≤◌, true, false, Option, Some, List, [], ◌∷◌, ◌++◌, length, refl, sym, ap, ◌∙◌, subst, arith}
 use Rattle.job_tree.specs.Tree.{Tree}
@@ -7,10 +8,10 @@ use Rattle.job_meaning.specs.Log.{Table}
 use Rattle.job_meaning.specs.Moments.{a_round_after, Now}
 use Rattle.job_meaning.specs.Rest.{Event, noted, signs, enters, starts, Frame, steps_left, in_scope, in_event, in_nursery, in_repeat, in_try, in_handler, in_cleanup, Stopped, to_begin, asking, asleep, waiting_for, giving_up, awaiting, at_end}
 use Rattle.turn_semantics.specs.Midway.{Place, Begun, Move}
-use Rattle.turn_semantics.specs.Placed.{PlacedStop, PlacedAfter, home_after, AllBelow, KidsBelow, KidsAfter, IsAmong, HasChild, WaitsFor, HasChildAfter, AllHoused}
+use Rattle.turn_semantics.specs.Placed.{PlacedStop, PlacedAfter, home_after, AllBelow, KidsBelow, KidsAfter, HasChild, WaitsFor, HasChildAfter, AllHoused}
 use Rattle.turn_semantics.specs.Wakes.{Wake, begins, sees, gives_up, is_due, has_answer, settles}
-use Rattle.turn_semantics.specs.Turned.{Known, labels_of, AllKnown, known_after, EntersIn, Starts, BegunIn, TurnsOver}
-use Rattle.interleavings.specs.Interleaving.{Started, In, EachPlace, EntersWith, times_made, made_times, all_times, live}
+use Rattle.turn_semantics.specs.Turned.{labels_of, AllKnown, known_after, EntersIn, Starts, BegunIn, TurnsOver}
+use Rattle.interleavings.specs.Interleaving.{Started, EachPlace, EntersWith, times_made, made_times, all_times, live}
 use Rattle.interleavings.specs.Going.{root_task, children_from, task_after_turn}
 use Rattle.interleavings.specs.Woken.{MayWake}
 use Rattle.interleavings.specs.Runs.{Reached, begun, turn, jump}
@@ -82,7 +83,7 @@ wakes_live f qs t q (settles x) (at_end u e) h = absurd h
 
 -- and none for which it waited is live
 none_waited : (f : Table) (qs : List Started) (t : Now) (q : Started) (w : Wake) (s : Stopped) (ps : List Place) → MayWake f qs t q w s →
-    (i : ℕ) (home : List Place) → WaitsFor i home (Some s) ps → (c : Started) → In c qs → c.serial ≡ q.child i →
+    (i : ℕ) (home : List Place) → WaitsFor i home (Some s) ps → (c : Started) → IsAmong c qs → c.serial ≡ q.child i →
     live c.rest.stopped ≡ true → ⊥
 none_waited f qs t q (settles x) (awaiting children ended e) (p ∷ ps) h i home a c among serial l =
     let y : c.rest.stopped ≡ at_end (h.0.ends i).end (h.0.ends i).exc = h.0.over i a.0 c among serial in
@@ -104,12 +105,12 @@ none_waited f qs t q w (at_end u e) ps h i home a c among serial l = absurd a
 -- ---- labels of enclosing scopes and nurseries
 
 -- what is true for the label of each enclosing scope or nursery is true for a label among them
-at_place : (P : Label → Type 0) (l : Label) (ps : List Place) → EachPlace P ps → Known l (labels_of ps) → P l
+at_place : (P : Label → Type 0) (l : Label) (ps : List Place) → EachPlace P ps → IsAmong l (labels_of ps) → P l
 at_place P l [] e k = absurd k
 at_place P l (p ∷ ps) e (inl g) = subst P (sym g) e.0
 at_place P l (p ∷ ps) e (inr k) = at_place P l ps e.1 k
 
-all_after : (ps : List Place) (ls ms : List Label) → ((l : Label) → Known l ls → Known l ms) → AllKnown ps ls → AllKnown ps ms
+all_after : (ps : List Place) (ls ms : List Label) → ((l : Label) → IsAmong l ls → IsAmong l ms) → AllKnown ps ls → AllKnown ps ms
 all_after [] ls ms f a = tt
 all_after (p ∷ ps) ls ms f a = (f p.label a.0, all_after ps ls ms f a.1)
 
@@ -135,9 +136,9 @@ enters_after l (starts i m t ∷ es) more h = enters_after l es more h
 -- ---- a turn
 
 module _ (k f : Table) (now : Now) (m : ℕ) (q : Started) (ys : List Started) (wake : Wake) (o : Move) (s : Stopped)
-    (all : (x : Started) → In x (q ∷ ys) → IsHoused (q ∷ ys) x) (may : MayWake f (q ∷ ys) now q wake q.rest.stopped)
+    (all : (x : Started) → IsAmong x (q ∷ ys) → IsHoused (q ∷ ys) x) (may : MayWake f (q ∷ ys) now q wake q.rest.stopped)
     (goes : TurnsOver q.stop now q.here f wake q.rest q.places q.count o) (stopped : o.stopped ≡ Some s)
-    (small : (x : Started) → In x (q ∷ ys) → x.serial < m) where
+    (small : (x : Started) → IsAmong x (q ∷ ys) → x.serial < m) where
   -- the moment in which the new children begin
   abbrev next : ℕ
   next = a_round_after q.here.clock now.at
@@ -156,7 +157,7 @@ module _ (k f : Table) (now : Now) (m : ℕ) (q : Started) (ys : List Started) (
   here_stopped P h = subst P stopped h
 
   -- a task's home before the turn is its home after it
-  home_stays : (serial : ℕ) (home : List Place) → (x : Started) → In x (q ∷ ys) → x.serial ≡ serial → live x.rest.stopped ≡ true →
+  home_stays : (serial : ℕ) (home : List Place) → (x : Started) → IsAmong x (q ∷ ys) → x.serial ≡ serial → live x.rest.stopped ≡ true →
       Home (q ∷ ys) serial home → Home after_turn serial home
   home_stays serial home x i e l h = by_starter h.among
     where
@@ -177,7 +178,7 @@ module _ (k f : Table) (now : Now) (m : ℕ) (q : Started) (ys : List Started) (
           by_wait (inl a) = absurd (none_waited f (q ∷ ys) now q wake q.rest.stopped q.places may number home a x i (e ∙ same) l)
           by_wait (inr a) = goes.stays number home a
 
-      by_starter : In h.starter (q ∷ ys) → Home after_turn serial home
+      by_starter : IsAmong h.starter (q ∷ ys) → Home after_turn serial home
       by_starter (inl z) =
           of_turned h.number (subst (λ (v : Started). v.serial < serial) z h.earlier) (h.same ∙ ap (λ (v : Started). v.child h.number) z)
           (subst (λ (v : Started). HasChildAfter h.number home (Some v.rest.stopped) v.rest.frames v.places) z h.has)
@@ -196,7 +197,7 @@ module _ (k f : Table) (now : Now) (m : ℕ) (q : Started) (ys : List Started) (
   turned_housed = record {
     placed = here_stopped (λ (z : Option Stopped). PlacedAfter z o.frames o.places) goes.placed;
     kids = here_stopped (λ (z : Option Stopped). KidsAfter (q.count + length o.begun) z o.frames) (goes.kids (all q (inl refl)).kids);
-    own = each_known (λ l. EntersIn l (q.made ++ o.made) ⊎ Known l (labels_of (home_of q'))) (known_after (labels_of q.places) o.made)
+    own = each_known (λ l. EntersIn l (q.made ++ o.made) ⊎ IsAmong l (labels_of (home_of q'))) (known_after (labels_of q.places) o.made)
         own_after o.places goes.places;
     home = λ l. at_home ((all q (inl refl)).home before);
   }
@@ -208,18 +209,18 @@ module _ (k f : Table) (now : Now) (m : ℕ) (q : Started) (ys : List Started) (
       same_home = here_stopped (λ (z : Option Stopped). home_after z o.frames o.places
           ≡ home_after (Some q.rest.stopped) q.rest.frames q.places) goes.at_home
 
-      of_old : (l : Label) → EntersIn l q.made ⊎ Known l (labels_of (home_of q)) → EntersIn l (q.made ++ o.made)
-          ⊎ Known l (labels_of (home_of q'))
+      of_old : (l : Label) → EntersIn l q.made ⊎ IsAmong l (labels_of (home_of q)) → EntersIn l (q.made ++ o.made)
+          ⊎ IsAmong l (labels_of (home_of q'))
       of_old l (inl h) = inl (enters_before l q.made o.made h)
-      of_old l (inr h) = inr (subst (λ (ps : List Place). Known l (labels_of ps)) (sym same_home) h)
+      of_old l (inr h) = inr (subst (λ (ps : List Place). IsAmong l (labels_of ps)) (sym same_home) h)
 
-      own_after : (l : Label) → Known l (known_after (labels_of q.places) o.made) → EntersIn l (q.made ++ o.made)
-          ⊎ Known l (labels_of (home_of q'))
+      own_after : (l : Label) → IsAmong l (known_after (labels_of q.places) o.made) → EntersIn l (q.made ++ o.made)
+          ⊎ IsAmong l (labels_of (home_of q'))
       own_after l h = by_time (known_of (labels_of q.places) o.made l h)
         where
-          by_time : Known l (labels_of q.places) ⊎ ((d : Tick) × EntersWith l d o.made) → EntersIn l (q.made ++ o.made)
-              ⊎ Known l (labels_of (home_of q'))
-          by_time (inl k) = of_old l (at_place (λ n. EntersIn n q.made ⊎ Known n (labels_of (home_of q))) l q.places (all q (inl refl)).own
+          by_time : IsAmong l (labels_of q.places) ⊎ ((d : Tick) × EntersWith l d o.made) → EntersIn l (q.made ++ o.made)
+              ⊎ IsAmong l (labels_of (home_of q'))
+          by_time (inl k) = of_old l (at_place (λ n. EntersIn n q.made ⊎ IsAmong n (labels_of (home_of q))) l q.places (all q (inl refl)).own
               k)
           by_time (inr k) = inl (enters_after l q.made o.made (enters_too l k.0 o.made k.1))
 
@@ -232,7 +233,7 @@ module _ (k f : Table) (now : Now) (m : ℕ) (q : Started) (ys : List Started) (
   -- the children that it began
   begun_housed : (i n j : ℕ) (es : List Event) (bs : List Begun) → Starts n es bs → n ≡ q.count + j → i ≡ m + j →
       BegunIn (known_after (labels_of q.places) o.made) bs →
-      AllHoused bs o.stopped o.frames o.places → (x : Started) → In x (children_from k next i bs) → IsHoused after_turn x
+      AllHoused bs o.stopped o.frames o.places → (x : Started) → IsAmong x (children_from k next i bs) → IsHoused after_turn x
   unfolding children_from
   begun_housed i n j es [] a e g b h x z = absurd z
   begun_housed i n j [] (c ∷ bs) a e g b h x z = absurd a
@@ -244,7 +245,7 @@ module _ (k f : Table) (now : Now) (m : ℕ) (q : Started) (ys : List Started) (
   begun_housed i n j (starts v l u ∷ es) (c ∷ bs) a e g b h x (inl z) = subst (λ (y : Started). IsHoused after_turn y) (sym z) (record {
     placed = (b.1, tt);
     kids = tt;
-    own = each_known (λ l. EntersIn l [] ⊎ Known l (labels_of c.places)) (labels_of c.places) (λ l h. inr h) c.places
+    own = each_known (λ l. EntersIn l [] ⊎ IsAmong l (labels_of c.places)) (labels_of c.places) (λ l h. inr h) c.places
         (all_themselves c.places);
     home = λ live. inr (record {
       starter = q';
@@ -266,11 +267,11 @@ module _ (k f : Table) (now : Now) (m : ℕ) (q : Started) (ys : List Started) (
       serial = omega arith
 
   -- each task after the turn
-  pub housed_after : (x : Started) → In x after_turn → IsHoused after_turn x
+  pub housed_after : (x : Started) → IsAmong x after_turn → IsHoused after_turn x
   housed_after x (inl e) = subst (λ (y : Started). IsHoused after_turn y) (sym e) turned_housed
   housed_after x (inr i) = by_place (in_either x new ys i)
     where
-      by_place : In x new ⊎ In x ys → IsHoused after_turn x
+      by_place : IsAmong x new ⊎ IsAmong x ys → IsHoused after_turn x
       by_place (inl j) = begun_housed m q.count 0 o.made o.begun goes.starts (omega arith) (omega arith) goes.begun_in goes.housed x j
       by_place (inr j) = record { placed = h.placed; kids = h.kids; own = h.own; home = λ l. at_home l (h.home l) }
         where
@@ -284,7 +285,7 @@ module _ (k f : Table) (now : Now) (m : ℕ) (q : Started) (ys : List Started) (
 
 -- ---- a run
 
-housed_moved : (qs rs : List Started) → SameTasks qs rs → ((x : Started) → In x qs → IsHoused qs x) → (x : Started) → In x rs →
+housed_moved : (qs rs : List Started) → SameTasks qs rs → ((x : Started) → IsAmong x qs → IsHoused qs x) → (x : Started) → IsAmong x rs →
     IsHoused rs x
 housed_moved qs rs same all x i = record { placed = h.placed; kids = h.kids; own = h.own; home = λ l. moved (h.home l) }
   where
@@ -306,7 +307,7 @@ housed_moved qs rs same all x i = record { placed = h.placed; kids = h.kids; own
 
 -- serial numbers are below the number of tasks started
 serials_below : (k : Table) (job : Tree) (input : List ℕ) (f : Table) (t m : ℕ) (qs : List Started) → Reached k job input f t m qs →
-    (x : Started) → In x qs → x.serial < m
+    (x : Started) → IsAmong x qs → x.serial < m
 serials_below k job input f t m _ (begun f') x (inl e) = let a : x.serial ≡ 0 = ap (λ (z : Started). z.serial) e in omega arith
 serials_below k job input f t m _ (begun f') x (inr i) = absurd i
 serials_below k job input f t m _ (turn g now n p qs others wake o s r at may goes stopped) x (inl e) =
@@ -316,7 +317,7 @@ serials_below k job input f t m _ (turn g now n p qs others wake o s r at may go
 serials_below k job input f t m _ (turn g now n p qs others wake o s r at may goes stopped) x (inr i) =
     by_place (λ j. serials_below k job input g now.at n qs r x j) (in_either x (children_from k (a_round_after p.here.clock now.at) n o.begun) others i)
   where
-    by_place : (In x qs → x.serial < n) → In x (children_from k (a_round_after p.here.clock now.at) n o.begun) ⊎ In x others → x.serial < n + length o.begun
+    by_place : (IsAmong x qs → x.serial < n) → IsAmong x (children_from k (a_round_after p.here.clock now.at) n o.begun) ⊎ IsAmong x others → x.serial < n + length o.begun
     by_place before (inl j) = begun_small k (a_round_after p.here.clock now.at) n o.begun x j
     by_place before (inr j) = let b : x.serial < n = before ((front_same p qs others at).back x (inr j)) in omega arith
 serials_below k job input f t m qs (jump g v u n qs' r le blocked) x i = serials_below k job input g v n qs' r x i
@@ -337,7 +338,7 @@ tasks_are_housed k job input inside f t m qs (jump g v u n qs' r le blocked) q i
 
 -- the home of a child is among the scopes and nurseries that enclose the task that has it
 home_among : (i : ℕ) (l : Label) (home : List Place) (fs : List Frame) (ps : List Place) → HasChild i home fs ps →
-    Known l (labels_of home) → Known l (labels_of ps)
+    IsAmong l (labels_of home) → IsAmong l (labels_of ps)
 home_among i l home [] ps h k = absurd h
 home_among i l home (steps_left ss ∷ fs) ps h k = home_among i l home fs ps h k
 home_among i l home (in_scope fail ∷ fs) [] h k = absurd h
@@ -345,7 +346,7 @@ home_among i l home (in_scope fail ∷ fs) (p ∷ ps) h k = inr (home_among i l 
 home_among i l home (in_event ∷ fs) [] h k = absurd h
 home_among i l home (in_event ∷ fs) (p ∷ ps) h k = inr (home_among i l home fs ps h k)
 home_among i l home (in_nursery children ∷ fs) [] h k = absurd h
-home_among i l home (in_nursery children ∷ fs) (p ∷ ps) (inl a) k = subst (λ (rs : List Place). Known l (labels_of rs)) a.1 k
+home_among i l home (in_nursery children ∷ fs) (p ∷ ps) (inl a) k = subst (λ (rs : List Place). IsAmong l (labels_of rs)) a.1 k
 home_among i l home (in_nursery children ∷ fs) (p ∷ ps) (inr h) k = inr (home_among i l home fs ps h k)
 home_among i l home (in_repeat pass left body ∷ fs) ps h k = home_among i l home fs ps h k
 home_among i l home (in_try handler cleanup ∷ fs) ps h k = home_among i l home fs ps h k
@@ -354,7 +355,7 @@ home_among i l home (in_cleanup outcome ∷ fs) ps h k = home_among i l home fs 
 
 home_within : (i : ℕ) (l : Label) (home : List Place) (s : Stopped) (fs : List Frame) (ps : List Place) →
     HasChildAfter i home (Some s) fs ps →
-    Known l (labels_of home) → Known l (labels_of ps)
+    IsAmong l (labels_of home) → IsAmong l (labels_of ps)
 home_within i l home to_begin fs ps (inl h) k = absurd h
 home_within i l home to_begin fs ps (inr h) k = home_among i l home fs ps h k
 home_within i l home (asking kernel purpose) fs ps (inl h) k = absurd h
@@ -367,7 +368,7 @@ home_within i l home (waiting_for event since) fs ps (inr h) k = home_among i l 
 home_within i l home (giving_up since) fs ps (inr h) k = home_among i l home fs ps h k
 home_within i l home (awaiting children ended exc) fs [] (inl h) k = absurd h
 home_within i l home (awaiting children ended exc) fs [] (inr h) k = home_among i l home fs [] h k
-home_within i l home (awaiting children ended exc) fs (p ∷ ps) (inl a) k = subst (λ (rs : List Place). Known l (labels_of rs)) a.1 k
+home_within i l home (awaiting children ended exc) fs (p ∷ ps) (inl a) k = subst (λ (rs : List Place). IsAmong l (labels_of rs)) a.1 k
 home_within i l home (awaiting children ended exc) fs (p ∷ ps) (inr h) k = inr (home_among i l home fs ps h k)
 home_within i l home (at_end u e) fs ps (inl h) k = absurd h
 home_within i l home (at_end u e) fs ps (inr h) k = home_among i l home fs ps h k
@@ -385,7 +386,7 @@ has_live i home (at_end u e) fs ps p (inl h) = absurd h
 has_live i home (at_end u e) fs ps p (inr h) = absurd (subst (λ (gs : List Frame). HasChild i home gs ps) p h)
 
 -- a label that is entered at most once is entered by one task
-one_enters : (l : Label) (qs : List Started) → made_times l qs ≤ 1 → (x y : Started) → In x qs → In y qs → 1 ≤ times_made l x.made →
+one_enters : (l : Label) (qs : List Started) → made_times l qs ≤ 1 → (x y : Started) → IsAmong x qs → IsAmong y qs → 1 ≤ times_made l x.made →
     1 ≤ times_made l y.made → x ≡ y
 unfolding made_times
 one_enters l [] n x y i j a b = absurd i
@@ -400,32 +401,32 @@ one_enters l (z ∷ zs) n x y (inr i) (inl g) a b =
     absurd (omega arith)
 one_enters l (z ∷ zs) n x y (inr i) (inr j) a b = one_enters l zs (omega arith) x y i j a b
 
-module _ (qs : List Started) (all : (x : Started) → In x qs → IsHoused qs x) (once : (l : Label) → made_times l qs ≤ 1)
-    (l : Label) (q : Started) (i : In q qs) (h : EntersIn l q.made) where
+module _ (qs : List Started) (all : (x : Started) → IsAmong x qs → IsHoused qs x) (once : (l : Label) → made_times l qs ≤ 1)
+    (l : Label) (q : Started) (i : IsAmong q qs) (h : EntersIn l q.made) where
   -- a label that encloses a live task encloses the task that entered it
-  in_force : (n : ℕ) (x : Started) → In x qs → x.serial < n → live x.rest.stopped ≡ true → Known l (labels_of x.places) →
-      Known l (labels_of q.places)
+  in_force : (n : ℕ) (x : Started) → IsAmong x qs → x.serial < n → live x.rest.stopped ≡ true → IsAmong l (labels_of x.places) →
+      IsAmong l (labels_of q.places)
   in_force zero x j lt a k = absurd (omega arith)
   in_force (suc n) x j lt a k =
-      by_own (λ y b c d. in_force n y b c d) (at_place (λ m. EntersIn m x.made ⊎ Known m (labels_of (home_of x))) l x.places (all x j).own
+      by_own (λ y b c d. in_force n y b c d) (at_place (λ m. EntersIn m x.made ⊎ IsAmong m (labels_of (home_of x))) l x.places (all x j).own
       k)
     where
       Earlier : Type 0
-      Earlier = (y : Started) → In y qs → y.serial < n → live y.rest.stopped ≡ true → Known l (labels_of y.places) →
-          Known l (labels_of q.places)
+      Earlier = (y : Started) → IsAmong y qs → y.serial < n → live y.rest.stopped ≡ true → IsAmong l (labels_of y.places) →
+          IsAmong l (labels_of q.places)
 
-      by_home : Earlier → Known l (labels_of (home_of x)) → ((x.serial ≡ 0) × (home_of x ≡ [])) ⊎ Home qs x.serial (home_of x) →
-          Known l (labels_of q.places)
-      by_home up g (inl e) = absurd (subst (λ (ps : List Place). Known l (labels_of ps)) e.1 g)
+      by_home : Earlier → IsAmong l (labels_of (home_of x)) → ((x.serial ≡ 0) × (home_of x ≡ [])) ⊎ Home qs x.serial (home_of x) →
+          IsAmong l (labels_of q.places)
+      by_home up g (inl e) = absurd (subst (λ (ps : List Place). IsAmong l (labels_of ps)) e.1 g)
       by_home up g (inr y) =
           let lower : y.starter.serial < x.serial = y.earlier in
           up y.starter y.among (omega arith)
           (has_live y.number (home_of x) y.starter.rest.stopped y.starter.rest.frames y.starter.places (all y.starter y.among).placed y.has)
           (home_within y.number l (home_of x) y.starter.rest.stopped y.starter.rest.frames y.starter.places y.has g)
 
-      by_own : Earlier → EntersIn l x.made ⊎ Known l (labels_of (home_of x)) → Known l (labels_of q.places)
+      by_own : Earlier → EntersIn l x.made ⊎ IsAmong l (labels_of (home_of x)) → IsAmong l (labels_of q.places)
       by_own up (inl e) =
-          subst (λ (z : Started). Known l (labels_of z.places))
+          subst (λ (z : Started). IsAmong l (labels_of z.places))
           (one_enters l qs (once l) x q j i (enters_counted l x.made e) (enters_counted l q.made h)) k
       by_own up (inr g) = by_home up g ((all x j).home a)
 

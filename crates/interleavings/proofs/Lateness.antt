@@ -3,6 +3,7 @@ use Rattle.std.proofs.Common.{◌≡◌, ℕ, zero, suc, ◌<◌, ◌-◌, ◌�
 use Rattle.std.proofs.lemmas.Bool.{true≢false}
 use Rattle.std.proofs.lemmas.Bool.Decides.{nat_tests}
 use Rattle.std.specs.Str.{bytes_eq}
+use Rattle.turn_semantics.specs.Lists.{IsAmong}
 use Rattle.exceptions.specs.Exceptions.{Label, Exc, cancelled}
 use Rattle.cancel_scopes.specs.Sight.{Tick, Level, is_reached, sight, seen}
 use Rattle.job_meaning.specs.Log.{nil, Member, Result, Table}
@@ -18,7 +19,7 @@ use Rattle.job_meaning.proofs.Late.{Late, Timed, timed_earlier, late_done, late_
 use Rattle.job_meaning.proofs.Clips.{NearEvents}
 use Rattle.job_meaning.proofs.LateRest.{late_left, late_finish}
 use Rattle.turn_semantics.specs.Midway.{Place, label_among, level_on, stack_at}
-use Rattle.turn_semantics.specs.Placed.{IsSome, PlacedStop, IsAmong}
+use Rattle.turn_semantics.specs.Placed.{IsSome, PlacedStop}
 use Rattle.turn_semantics.specs.Wakes.{set_at, IsBefore, SeesAt, SeesWaiting, GoesOnWaiting}
 use Rattle.interleavings.specs.Interleaving.{live, slept, goes_on}
 use Rattle.interleavings.specs.Woken.{SeesNow, IsOver}

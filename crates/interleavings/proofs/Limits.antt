@@ -1,10 +1,11 @@
 -- The limit is exact, and in a blocked run some task has a next turn.
 use Rattle.std.proofs.Common.{◌≡◌, ℕ, zero, suc, ◌+◌, ◌<◌, ◌≤◌, true, List, [], ◌∷◌, refl, sym, ap, subst, ◌⊎◌, inl, inr, arith}
+use Rattle.turn_semantics.specs.Lists.{IsAmong}
 use Rattle.job_meaning.specs.Log.{Log, Result, Table, followed_by}
 use Rattle.job_meaning.specs.Walk.{by_table}
 use Rattle.job_meaning.specs.Rest.{Event, noted, signs, enters, starts, ChildOutcomes, fill, Stopped, to_begin, asking, asleep, waiting_for, giving_up, awaiting, at_end, rest_comes_to}
 use Rattle.turn_semantics.specs.Midway.{stack_at}
-use Rattle.interleavings.specs.Interleaving.{Started, StartsChild, In, Kid, Parent, RunInvariant, live, AllFrom, Unended, Settling, StaysUntil, Blocked}
+use Rattle.interleavings.specs.Interleaving.{Started, StartsChild, Kid, Parent, RunInvariant, live, AllFrom, Unended, Settling, StaysUntil, Blocked}
 use Rattle.interleavings.specs.Laws.{HasNextTurn, GoesOn}
 use Rattle.interleavings.proofs.Agreement.{told_tells, ends_at}
 use Rattle.interleavings.proofs.Ends.{Inside, inside_first}
@@ -22,12 +23,12 @@ inside_child e told i (starts j l t ∷ es) h (inr s) = inside_child e told i es
 
 module _ (k f : Table) (whole : Result) (qs : List Started) (o : RunInvariant k f whole qs) where
   -- what a task did is first in the log of its whole result
-  log_of : (q : Started) → In q qs → followed_by (fill q.told q.made)
+  log_of : (q : Started) → IsAmong q qs → followed_by (fill q.told q.made)
       (rest_comes_to (by_table k) q.told q.rest q.here (stack_at k q.places) q.stop).log ≡ q.final_result.log
   log_of q i = ap (λ (r : Result). r.log) ((o.fits q i).comes q.told (told_tells q))
 
   -- each task ends by the end of the whole, where each of the whole's does
-  pub ends_by_whole : Inside whole.end whole.log → (n : ℕ) (q : Started) → In q qs → q.serial < n → (q.final_result.end ≤ whole.end)
+  pub ends_by_whole : Inside whole.end whole.log → (n : ℕ) (q : Started) → IsAmong q qs → q.serial < n → (q.final_result.end ≤ whole.end)
       × Inside q.final_result.end q.final_result.log
   ends_by_whole h zero q i l = absurd (omega arith)
   ends_by_whole h (suc n) q i l =
@@ -52,7 +53,7 @@ module _ (k f : Table) (whole : Result) (qs : List Started) (o : RunInvariant k 
       by_parent (inr p) up = of_starter p (up p)
 
   -- while a task has not ended, the whole does not end before the present moment
-  pub not_before : Inside whole.end whole.log → (t : ℕ) → AllFrom k qs t → (q : Started) → In q qs → live q.rest.stopped ≡ true →
+  pub not_before : Inside whole.end whole.log → (t : ℕ) → AllFrom k qs t → (q : Started) → IsAmong q qs → live q.rest.stopped ≡ true →
       t ≤ whole.end
   not_before h t from q i l =
       let a : t ≤ q.final_result.end = ends_at k q t (o.fits q i) (o.shape q i) l (from q i l) in
@@ -60,7 +61,7 @@ module _ (k f : Table) (whole : Result) (qs : List Started) (o : RunInvariant k 
       omega arith
 
   -- in a blocked run some task has a next turn: a task that waits does so for a child that has not ended, or its nursery settles
-  pub has_next : (u bound : ℕ) → Blocked f qs u → ((q : Started) → In q qs → q.serial < bound) → (n : ℕ) (q : Started) → In q qs →
+  pub has_next : (u bound : ℕ) → Blocked f qs u → ((q : Started) → IsAmong q qs → q.serial < bound) → (n : ℕ) (q : Started) → IsAmong q qs →
       live q.rest.stopped ≡ true → bound ≤ q.serial + n → GoesOn qs
   has_next u m b small zero q i a z = let w : q.serial < m = small q i in absurd (omega arith)
   has_next u m b small (suc n) q i a z =

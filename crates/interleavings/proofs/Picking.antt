@@ -1,16 +1,17 @@
 -- The order of the tasks does not matter: any of them may be taken to the front, for its turn.
 use Rattle.std.proofs.Common.{◌≡◌, ◌⊎◌, ℕ, suc, ◌≤◌, min, List, [], ◌∷◌, refl, sym, ap, ◌∙◌, subst, inl, inr, arith}
+use Rattle.turn_semantics.specs.Lists.{IsAmong}
 use Rattle.exceptions.specs.Exceptions.{Label}
 use Rattle.job_meaning.specs.Log.{Result, Table}
 use Rattle.job_meaning.specs.Before.{upto}
 use Rattle.turn_semantics.specs.Midway.{Place}
-use Rattle.interleavings.specs.Interleaving.{Started, made_least, all_least, made_times, all_times, In, Kid, HasFrom, Parent, Entered, EachPlace, RunInvariant, AllFrom}
+use Rattle.interleavings.specs.Interleaving.{Started, made_least, all_least, made_times, all_times, Kid, HasFrom, Parent, Entered, EachPlace, RunInvariant, AllFrom}
 use Rattle.interleavings.specs.Runs.{Front, is_front, after_one}
 
 -- the same tasks in another order
 pub record SameTasks (qs rs : List Started) : Type 0 where
-  pub forth : (q : Started) → In q qs → In q rs
-  pub back : (q : Started) → In q rs → In q qs
+  pub forth : (q : Started) → IsAmong q qs → IsAmong q rs
+  pub back : (q : Started) → IsAmong q rs → IsAmong q qs
   pub same_made : (c : ℕ) (l : Label) → made_least c l rs ≡ made_least c l qs
   pub same_all : (c : ℕ) (l : Label) → all_least c l rs ≡ all_least c l qs
   pub same_made_times : (l : Label) → made_times l rs ≡ made_times l qs
@@ -41,15 +42,15 @@ front_same q _ _ (after_one q' x qs' others' at) = go (front_same q' qs' others'
       same_all_times = λ l. omega (arith, p.same_all_times l);
     }
       where
-        there : (z : Started) → In z (x ∷ qs') → In z (q' ∷ x ∷ others')
+        there : (z : Started) → IsAmong z (x ∷ qs') → IsAmong z (q' ∷ x ∷ others')
         there z (inl e) = inr (inl e)
         there z (inr j) = after (p.forth z j)
           where
-            after : In z (q' ∷ others') → In z (q' ∷ x ∷ others')
+            after : IsAmong z (q' ∷ others') → IsAmong z (q' ∷ x ∷ others')
             after (inl e) = inl e
             after (inr n) = inr (inr n)
 
-        here : (z : Started) → In z (q' ∷ x ∷ others') → In z (x ∷ qs')
+        here : (z : Started) → IsAmong z (q' ∷ x ∷ others') → IsAmong z (x ∷ qs')
         here z (inl e) = inr (p.back z (inl e))
         here z (inr (inl e)) = inl e
         here z (inr (inr n)) = inr (p.back z (inr n))

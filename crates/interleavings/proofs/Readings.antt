@@ -1,5 +1,6 @@
 -- Readings of what tasks made and have left: each is that of the parts together.
 use Rattle.std.proofs.Common.{◌≡◌, ℕ, suc, ◌+◌, ◌≤◌, min, Bool, true, false, Some, None, List, [], ◌∷◌, ◌++◌, refl, ap, ◌∙◌, sym, subst, ◌⊎◌, inl, inr, arith, if◌then◌else◌}
+use Rattle.turn_semantics.specs.Lists.{IsAmong}
 use Rattle.exceptions.specs.Exceptions.{Label}
 use Rattle.cancel_scopes.specs.Sight.{Tick, next}
 use Rattle.job_meaning.specs.Log.{Log, nil, entry, sign, entered, task, followed_by, same_label, tick_if, least_sign, from_by, times_entered}
@@ -8,7 +9,7 @@ use Rattle.job_meaning.specs.Rest.{Event, noted, signs, enters, starts, ChildOut
 use Rattle.job_meaning.proofs.Clips.{upto_most, upto_earlier}
 use Rattle.job_meaning.proofs.Distinct.{same_label_itself}
 use Rattle.job_meaning.proofs.Touched.{least_followed}
-use Rattle.interleavings.specs.Interleaving.{Started, times_made, made_least, all_least, made_times, all_times, EnteredIn, EntersWith, StartsChild, In}
+use Rattle.interleavings.specs.Interleaving.{Started, times_made, made_least, all_least, made_times, all_times, EnteredIn, EntersWith, StartsChild}
 use Rattle.turn_semantics.specs.Turned.{EntersIn, EntersOnceWith, made_sign}
 
 -- ---- ticks
@@ -25,23 +26,23 @@ upto_from c d s = upto_earlier (suc c) d (next s) ∙ ap (min (upto (suc c) d)) 
 -- ---- lists
 
 -- what is in one of two lists is in both together, and vice versa
-pub in_first : {A : Type 0} (x : A) (xs ys : List A) → In x xs → In x (xs ++ ys)
+pub in_first : {A : Type 0} (x : A) (xs ys : List A) → IsAmong x xs → IsAmong x (xs ++ ys)
 in_first x [] ys i = absurd i
 in_first x (y ∷ xs) ys (inl e) = inl e
 in_first x (y ∷ xs) ys (inr i) = inr (in_first x xs ys i)
 
 -- what is in the second of two lists is in both together
-pub in_second : {A : Type 0} (x : A) (xs ys : List A) → In x ys → In x (xs ++ ys)
+pub in_second : {A : Type 0} (x : A) (xs ys : List A) → IsAmong x ys → IsAmong x (xs ++ ys)
 in_second x [] ys i = i
 in_second x (y ∷ xs) ys i = inr (in_second x xs ys i)
 
 -- what is in two lists together is in one of them
-pub in_either : {A : Type 0} (x : A) (xs ys : List A) → In x (xs ++ ys) → In x xs ⊎ In x ys
+pub in_either : {A : Type 0} (x : A) (xs ys : List A) → IsAmong x (xs ++ ys) → IsAmong x xs ⊎ IsAmong x ys
 in_either x [] ys i = inr i
 in_either x (y ∷ xs) ys (inl e) = inl (inl e)
 in_either x (y ∷ xs) ys (inr i) = after (in_either x xs ys i)
   where
-    after : In x xs ⊎ In x ys → In x (y ∷ xs) ⊎ In x ys
+    after : IsAmong x xs ⊎ IsAmong x ys → IsAmong x (y ∷ xs) ⊎ IsAmong x ys
     after (inl j) = inl (inr j)
     after (inr j) = inr j
 
@@ -255,7 +256,7 @@ made_few l [] = omega arith
 made_few l (q ∷ qs) = omega (arith, made_few l qs)
 
 -- a label that some task made or left is counted
-pub made_counted : (l : Label) (q : Started) (qs : List Started) → In q qs → times_made l q.made ≤ made_times l qs
+pub made_counted : (l : Label) (q : Started) (qs : List Started) → IsAmong q qs → times_made l q.made ≤ made_times l qs
 unfolding made_times
 made_counted l q [] i = absurd i
 made_counted l q (x ∷ qs) (inl e) = let z : times_made l q.made ≡ times_made l x.made =
@@ -263,7 +264,7 @@ made_counted l q (x ∷ qs) (inl e) = let z : times_made l q.made ≡ times_made
 made_counted l q (x ∷ qs) (inr i) = omega (arith, made_counted l q qs i)
 
 -- a label that a task has left to enter was entered by none, where it is entered once at most
-pub left_fresh : (l : Label) (q : Started) (qs : List Started) → In q qs → 1 ≤ times_entered l q.left → all_times l qs ≤ 1 →
+pub left_fresh : (l : Label) (q : Started) (qs : List Started) → IsAmong q qs → 1 ≤ times_entered l q.left → all_times l qs ≤ 1 →
     made_times l qs ≡ 0
 unfolding all_times made_times
 left_fresh l q [] i c h = absurd i
@@ -276,7 +277,7 @@ left_fresh l q (x ∷ qs) (inr i) c h =
     let z : made_times l qs ≡ 0 = left_fresh l q qs i c (omega arith) in
     omega arith
   where
-    more : (l : Label) (q : Started) (ys : List Started) → In q ys → 1 ≤ times_entered l q.left → 1 ≤ all_times l ys
+    more : (l : Label) (q : Started) (ys : List Started) → IsAmong q ys → 1 ≤ times_entered l q.left → 1 ≤ all_times l ys
     more l q [] i c = absurd i
     more l q (y ∷ ys) (inl e) c = let z : times_entered l q.left ≡ times_entered l y.left =
         ap (λ (v : Started). times_entered l v.left) e in omega arith

@@ -1,5 +1,6 @@
 -- By rounds, no moment of a run has a greater round than the number of turns so far.
 use Rattle.std.proofs.Common.{◌≡◌, ◌⊎◌, ℕ, zero, suc, ◌+◌, ◌-◌, ◌*◌, ◌/◌, ◌<◌, ◌≤◌, min, max, Bool, true, false, Option, Some, None, List, [], ◌∷◌, ◌++◌, refl, sym, ap, ◌∙◌, subst, inl, inr, arith, nat_lt, if◌then◌else◌}
+use Rattle.turn_semantics.specs.Lists.{IsAmong}
 use Rattle.job_tree.specs.Tree.{Tree}
 use Rattle.job_tree.specs.Names.{GivesNamesOnce, size_of}
 use Rattle.job_tree.specs.Starting.{StartsInNurseries}
@@ -17,10 +18,9 @@ use Rattle.job_meaning.specs.Meaning.{root_here}
 use Rattle.job_meaning.specs.Follow.{follow, IsSettled}
 use Rattle.job_meaning.specs.Rest.{Event, noted, signs, enters, starts, Stopped, to_begin, asking, asleep, waiting_for, giving_up, awaiting, at_end}
 use Rattle.turn_semantics.specs.Midway.{Place, level_on, stack_at, Begun, Move, OwnFits}
-use Rattle.turn_semantics.specs.Placed.{IsAmong}
 use Rattle.turn_semantics.specs.Wakes.{Wake, begins, sees, gives_up, is_due, has_answer, settles, set_at, ends_at, SettlesAt, SeesAt, GoesOnWaiting, WakesBy}
 use Rattle.turn_semantics.specs.Turned.{AllBy, MadeAt, made_sign, StopsAt, TurnsOver}
-use Rattle.interleavings.specs.Interleaving.{Started, made_least, In, Kid, RunInvariant, AllFrom, members_by}
+use Rattle.interleavings.specs.Interleaving.{Started, made_least, Kid, RunInvariant, AllFrom, members_by}
 use Rattle.interleavings.specs.Going.{root_result, children_from, task_after_turn}
 use Rattle.interleavings.specs.Woken.{WaitIsOver, MayWake}
 use Rattle.interleavings.specs.Runs.{Reached, begun, turn, jump, turns_taken, all_weights}
@@ -176,7 +176,7 @@ upto_below : (n c : ℕ) (a : Tick) → SignBelow n a → upto c a < c → round
 upto_below n c None h lt = absurd (omega arith)
 upto_below n c (Some t) h lt = subst (λ (x : ℕ). round_of x < n) (omega arith) h
 
-least_below : (n c : ℕ) (l : Label) (qs : List Started) → ((q : Started) → In q qs → IsBelow n q) → made_least c l qs < c →
+least_below : (n c : ℕ) (l : Label) (qs : List Started) → ((q : Started) → IsAmong q qs → IsBelow n q) → made_least c l qs < c →
     round_of (made_least c l qs) < n
 unfolding made_least
 least_below n c l [] h lt = absurd (omega arith)
@@ -263,7 +263,7 @@ follow_on k job input c = each_walked (by_table k) job.steps (root_here job inpu
 
 module _ (k f : Table) (job : Tree) (input : List ℕ) (settled : IsSettled k job input) (on : EachOnTick (follow k job input).log)
     (qs : List Started) (o : RunInvariant k f (root_result k job input) qs) (t : ℕ) (from : AllFrom k qs t)
-    (n : ℕ) (all : (q : Started) → In q qs → IsBelow n q) where
+    (n : ℕ) (all : (q : Started) → IsAmong q qs → IsBelow n q) where
   -- a label that is cancelled from the moment on is so by its deadline, or by a sign that some task made
   from_below : (l : Label) → k l ≡ Some t → round_of t ≤ n
   from_below l e =
@@ -287,10 +287,10 @@ module _ (k f : Table) (job : Tree) (input : List ℕ) (settled : IsSettled k jo
       by_entry None first g = absurd (none_is t g)
       by_entry (Some d) first g = by_from d first (from_is d (least_sign l (follow k job input).log) t g)
 
-  module _ (q : Started) (i : In q qs) (by : q.here.clock ≡ by_rounds) where
+  module _ (q : Started) (i : IsAmong q qs) (by : q.here.clock ≡ by_rounds) where
     -- the children for which a task waits have ended in few rounds
     ends_below : (ends : ℕ → Member) (is : List ℕ) → ((j : ℕ) → IsAmong j is → j < q.count) →
-        ((j : ℕ) → IsAmong j is → (c : Started) → In c qs → c.serial ≡ q.child j → c.rest.stopped ≡ at_end (ends j).end (ends j).exc) →
+        ((j : ℕ) → IsAmong j is → (c : Started) → IsAmong c qs → c.serial ≡ q.child j → c.rest.stopped ≡ at_end (ends j).end (ends j).exc) →
         EachEnd n (members_by ends is)
     ends_below ends [] few over = tt
     ends_below ends (j ∷ is) few over =
@@ -418,7 +418,7 @@ module _ (k f : Table) (job : Tree) (input : List ℕ) (settled : IsSettled k jo
 -- ---- a run
 
 -- children that begin in few rounds
-begun_below : (n : ℕ) (k : Table) (t m : ℕ) (bs : List Begun) → round_of t ≤ n → (x : Started) → In x (children_from k t m bs) → IsBelow n x
+begun_below : (n : ℕ) (k : Table) (t m : ℕ) (bs : List Begun) → round_of t ≤ n → (x : Started) → IsAmong x (children_from k t m bs) → IsBelow n x
 unfolding children_from
 begun_below n k t m [] h x i = absurd i
 begun_below n k t m (b ∷ bs) h x (inl e) = subst (λ (z : Started). IsBelow n z) (sym e) (record { signs = tt; stop = h })
@@ -426,9 +426,9 @@ begun_below n k t m (b ∷ bs) h x (inr i) = begun_below n k t (suc m) bs h x i
 
 -- after a turn in a round of at most n all is in a round of at most n + 1
 turned_below : (n : ℕ) (k f : Table) (now : Now) (m : ℕ) (q : Started) (others : List Started) (wake : Wake) (o : Move) (s : Stopped) →
-    ((x : Started) → In x (q ∷ others) → IsBelow n x) → q.here.clock ≡ by_rounds → round_of now.at ≤ n →
+    ((x : Started) → IsAmong x (q ∷ others) → IsBelow n x) → q.here.clock ≡ by_rounds → round_of now.at ≤ n →
     TurnsOver q.stop now q.here f wake q.rest q.places q.count o → o.stopped ≡ Some s →
-    (x : Started) → In x ((task_after_turn k now m q o s ∷ children_from k (a_round_after q.here.clock now.at) m o.begun) ++ others) →
+    (x : Started) → IsAmong x ((task_after_turn k now m q o s ∷ children_from k (a_round_after q.here.clock now.at) m o.begun) ++ others) →
     IsBelow (n + 1) x
 turned_below n k f now m q others wake o s all by h w e x (inl g) =
     subst (λ (z : Started). IsBelow (n + 1) z) (sym g) (record {
@@ -445,12 +445,12 @@ turned_below n k f now m q others wake o s all by h w e x (inr i) =
         let a : round_of (now.at + 1) ≤ round_of now.at + 1 = round_later now.at in
         subst (λ (c : Clock). round_of (a_round_after c now.at) ≤ n + 1) (sym by) (omega arith)
 
-    by_place : In x (children_from k (a_round_after q.here.clock now.at) m o.begun) ⊎ In x others → IsBelow (n + 1) x
+    by_place : IsAmong x (children_from k (a_round_after q.here.clock now.at) m o.begun) ⊎ IsAmong x others → IsBelow (n + 1) x
     by_place (inl j) = begun_below (n + 1) k (a_round_after q.here.clock now.at) m o.begun child_round x j
     by_place (inr j) = below_later n x (all x (inr j))
 
 -- children that begin count by this clock
-begun_count : (clock : Clock) (k : Table) (t m : ℕ) (bs : List Begun) → AllBy clock bs → (x : Started) → In x (children_from k t m bs) →
+begun_count : (clock : Clock) (k : Table) (t m : ℕ) (bs : List Begun) → AllBy clock bs → (x : Started) → IsAmong x (children_from k t m bs) →
     x.here.clock ≡ clock
 unfolding children_from
 begun_count clock k t m [] h x i = absurd i
@@ -459,7 +459,7 @@ begun_count clock k t m (b ∷ bs) h x (inr i) = begun_count clock k t (suc m) b
 
 -- each task of a run counts by the clock of the job
 same_clock : (k : Table) (job : Tree) (input : List ℕ) (f : Table) (t m : ℕ) (qs : List Started) → Reached k job input f t m qs →
-    (q : Started) → In q qs → q.here.clock ≡ clock_of job.format
+    (q : Started) → IsAmong q qs → q.here.clock ≡ clock_of job.format
 same_clock k job input f t m _ (begun f') x (inl e) = ap (λ (z : Started). z.here.clock) e
 same_clock k job input f t m _ (begun f') x (inr i) = absurd i
 same_clock k job input f t m _ (turn g now p q qs others wake o s r at may goes stopped) x i =
@@ -469,14 +469,14 @@ same_clock k job input f t m _ (turn g now p q qs others wake o s r at may goes 
     same = front_same q qs others at
 
     Before : Type 0
-    Before = (y : Started) → In y qs → y.here.clock ≡ clock_of job.format
+    Before = (y : Started) → IsAmong y qs → y.here.clock ≡ clock_of job.format
 
-    by_place : (x : Started) → In x (children_from k (a_round_after q.here.clock now.at) p o.begun) ⊎ In x others → Before →
+    by_place : (x : Started) → IsAmong x (children_from k (a_round_after q.here.clock now.at) p o.begun) ⊎ IsAmong x others → Before →
         x.here.clock ≡ clock_of job.format
     by_place x (inl j) h = begun_count q.here.clock k (a_round_after q.here.clock now.at) p o.begun goes.clocks x j ∙ h q (same.back q (inl refl))
     by_place x (inr j) h = h x (same.back x (inr j))
 
-    after : (x : Started) → In x ((task_after_turn k now p q o s ∷ children_from k (a_round_after q.here.clock now.at) p o.begun) ++ others) → Before →
+    after : (x : Started) → IsAmong x ((task_after_turn k now p q o s ∷ children_from k (a_round_after q.here.clock now.at) p o.begun) ++ others) → Before →
         x.here.clock ≡ clock_of job.format
     after x (inl e) h = ap (λ (z : Started). z.here.clock) e ∙ h q (same.back q (inl refl))
     after x (inr j) h = by_place x (in_either x (children_from k (a_round_after q.here.clock now.at) p o.begun) others j) h
@@ -485,7 +485,7 @@ same_clock k job input f t m qs (jump g v u p qs' r le blocked) x i = same_clock
 module _ (k : Table) (job : Tree) (input : List ℕ) (names : GivesNamesOnce job) (nurseries : StartsInNurseries job)
     (settled : IsSettled k job input) (clocked : clock_of job.format ≡ by_rounds) where
   -- what each task has done, and what it has pending, is in a round of at most the number of turns
-  all_below : (f : Table) (t m : ℕ) (qs : List Started) → (r : Reached k job input f t m qs) → (q : Started) → In q qs →
+  all_below : (f : Table) (t m : ℕ) (qs : List Started) → (r : Reached k job input f t m qs) → (q : Started) → IsAmong q qs →
       IsBelow (turns_taken r) q
   all_below f t m _ (begun f') x (inl e) =
       subst (λ (z : Started). IsBelow 0 z) (sym e) (record { signs = tt; stop = no_round })
@@ -494,7 +494,7 @@ module _ (k : Table) (job : Tree) (input : List ℕ) (names : GivesNamesOnce job
       let same : SameTasks qs (q ∷ others) = front_same q qs others at in
       let by : q.here.clock ≡ by_rounds = same_clock k job input g now.at p qs r q (same.back q (inl refl)) ∙ clocked in
       let kept : _ = runs_keep_invariant k job input settled names nurseries g now.at p qs r in
-      let all : (y : Started) → In y (q ∷ others) → IsBelow (turns_taken r) y = λ y j. all_below g now.at p qs r y (same.back y j) in
+      let all : (y : Started) → IsAmong y (q ∷ others) → IsBelow (turns_taken r) y = λ y j. all_below g now.at p qs r y (same.back y j) in
       let whole : Result = root_result k job input in
       turned_below (turns_taken r) k g now p q others wake o s all by
       (woken_below k g job input settled (follow_on k job input clocked) (q ∷ others) (interleaving_moved k g whole qs (q ∷ others) same kept.0) now.at

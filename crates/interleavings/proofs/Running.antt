@@ -1,5 +1,6 @@
 -- Each run in turns agrees with the table, and has the result that the job means.
 use Rattle.std.proofs.Common.{◌≡◌, ◌≤◌, ◌*◌, ℕ, suc, ◌+◌, ◌<◌, Some, List, [], ◌∷◌, ◌++◌, length, refl, sym, ap, subst, ◌∙◌, ◌⊎◌, inl, inr, arith}
+use Rattle.turn_semantics.specs.Lists.{IsAmong}
 use Rattle.job_tree.specs.Tree.{Tree}
 use Rattle.job_tree.specs.Names.{GivesNamesOnce, size_of}
 use Rattle.job_tree.specs.Starting.{StartsInNurseries}
@@ -17,7 +18,7 @@ use Rattle.turn_semantics.specs.Steps.{froms_after}
 use Rattle.turn_semantics.specs.Wakes.{Wake, begins, sees, gives_up, is_due, has_answer, settles, WakesBy}
 use Rattle.turn_semantics.specs.Turned.{weight_of_begun, TurnsOver}
 use Rattle.turn_semantics.proofs.Events.{own_fits, none_fits}
-use Rattle.interleavings.specs.Interleaving.{Started, Tells, In, RunInvariant, AllFrom}
+use Rattle.interleavings.specs.Interleaving.{Started, Tells, RunInvariant, AllFrom}
 use Rattle.interleavings.specs.Going.{root_result, root_task, children_from, task_after_turn}
 use Rattle.interleavings.specs.Woken.{MayWake}
 use Rattle.interleavings.specs.Runs.{Front, is_front, after_one, Reached, begun, turn, jump, turns_taken, all_weights}
@@ -35,16 +36,16 @@ use Rattle.interleavings.proofs.Limits.{has_next, not_before}
 
 -- what each task has cancelled in the moment of its last stop fits its clock: where moments are ticks, that is nothing
 abbrev pub AllOwnFit : List Started → Type 0
-AllOwnFit qs = (q : Started) → In q qs → OwnFits q.here.clock q.stop.own
+AllOwnFit qs = (q : Started) → IsAmong q qs → OwnFits q.here.clock q.stop.own
 
 -- what each step of a run keeps
 record Kept (k f : Table) (whole : Result) (t m : ℕ) (qs : List Started) : Type 0 where
   interleaving : RunInvariant k f whole qs
   from : AllFrom k qs t
-  small : (q : Started) → In q qs → q.serial < m
+  small : (q : Started) → IsAmong q qs → q.serial < m
 
 -- new children have the next serial numbers
-pub begun_small : (k : Table) (t m : ℕ) (bs : List Begun) (x : Started) → In x (children_from k t m bs) → x.serial < m + length bs
+pub begun_small : (k : Table) (t m : ℕ) (bs : List Begun) (x : Started) → IsAmong x (children_from k t m bs) → x.serial < m + length bs
 unfolding children_from
 begun_small k t m [] x i = absurd i
 begun_small k t m (b ∷ bs) x (inl e) = let a : x.serial ≡ m = ap (λ (z : Started). z.serial) e in omega arith
@@ -115,7 +116,7 @@ fit_turned k f now m q qs others wake o s same owns may x (inl e) =
 fit_turned k f now m q qs others wake o s same owns may x (inr i) =
     by_place (in_either x (children_from k (a_round_after q.here.clock now.at) m o.begun) others i)
   where
-    by_place : In x (children_from k (a_round_after q.here.clock now.at) m o.begun) ⊎ In x others → OwnFits x.here.clock x.stop.own
+    by_place : IsAmong x (children_from k (a_round_after q.here.clock now.at) m o.begun) ⊎ IsAmong x others → OwnFits x.here.clock x.stop.own
     by_place (inl j) = begun_fit k (a_round_after q.here.clock now.at) m o.begun x j
     by_place (inr j) = owns x (same.back x (inr j))
 
@@ -149,20 +150,20 @@ kept_turn k f whole now m q qs others wake o s h owns at may w e = record {
     from : AllFrom k (q ∷ others) now.at
     from = from_moved k f whole qs (q ∷ others) same now.at h.from
 
-    small : (x : Started) → In x (q ∷ others) → x.serial < m
+    small : (x : Started) → IsAmong x (q ∷ others) → x.serial < m
     small x i = h.small x (same.back x i)
 
     come : (told : ChildOutcomes) → Tells q told → WakesBy k told q.here q.stop now wake q.rest.stopped q.places
     come = woken k f whole (q ∷ others) interleaving now.at from q (inl refl) now.own wake (owns q (same.back q (inl refl))) may
 
     small_after : (x : Started) →
-        In x ((task_after_turn k now m q o s ∷ children_from k (a_round_after q.here.clock now.at) m o.begun) ++ others) →
+        IsAmong x ((task_after_turn k now m q o s ∷ children_from k (a_round_after q.here.clock now.at) m o.begun) ++ others) →
         x.serial < m + length o.begun
     small_after x (inl e) = let a : x.serial ≡ q.serial = ap (λ (z : Started). z.serial) e in let b : q.serial < m =
         small q (inl refl) in omega arith
     small_after x (inr i) = by_place (in_either x (children_from k (a_round_after q.here.clock now.at) m o.begun) others i)
       where
-        by_place : In x (children_from k (a_round_after q.here.clock now.at) m o.begun) ⊎ In x others → x.serial < m + length o.begun
+        by_place : IsAmong x (children_from k (a_round_after q.here.clock now.at) m o.begun) ⊎ IsAmong x others → x.serial < m + length o.begun
         by_place (inl j) = begun_small k (a_round_after q.here.clock now.at) m o.begun x j
         by_place (inr j) = let b : x.serial < m = small x (inr j) in omega arith
 
@@ -174,7 +175,7 @@ kept k job input names nurseries settled (begun f) = record {
   small = one_task;
 }
   where
-    one_task : (q : Started) → In q (root_task k job input ∷ []) → q.serial < 1
+    one_task : (q : Started) → IsAmong q (root_task k job input ∷ []) → q.serial < 1
     one_task q (inl e) = let a : q.serial ≡ 0 = ap (λ (z : Started). z.serial) e in omega arith
     one_task q (inr i) = absurd i
 kept k job input names nurseries settled (turn f now m q qs others wake o s r at may goes stopped) =

@@ -2,6 +2,7 @@
 -- alone.
 use Rattle.std.proofs.Common.{◌≡◌, ℕ, suc, ◌+◌, ◌-◌, ◌<◌, ◌≤◌, min, Bool, if◌then◌else◌, Some, List, [], ◌∷◌, ◌++◌, length, refl, sym, ap, ◌∙◌, subst, ◌⊎◌, inl, inr, arith}
 use Rattle.std.proofs.lemmas.Bool.{cases_lt, le-ltb, lt-ltb}
+use Rattle.turn_semantics.specs.Lists.{IsAmong}
 use Rattle.exceptions.specs.Exceptions.{Label}
 use Rattle.cancel_scopes.specs.Sight.{Tick}
 use Rattle.job_meaning.specs.Log.{Log, Result, least_sign, from_by, times_entered, Table, followed_by}
@@ -16,9 +17,9 @@ use Rattle.turn_semantics.specs.Midway.{Place, stack_at, Begun, Move, begun_come
 use Rattle.turn_semantics.specs.Steps.{froms_after}
 use Rattle.turn_semantics.specs.Placed.{PlacedStop}
 use Rattle.turn_semantics.specs.Wakes.{Wake, WakesBy}
-use Rattle.turn_semantics.specs.Turned.{AgreesOn, AgreesIn, AllTold, Known, labels_of, AllKnown, known_after, Starts, BegunIn, made_sign, EntersIn, StopsAt, TurnsOver}
+use Rattle.turn_semantics.specs.Turned.{AgreesOn, AgreesIn, AllTold, labels_of, AllKnown, known_after, Starts, BegunIn, made_sign, EntersIn, StopsAt, TurnsOver}
 use Rattle.turn_semantics.proofs.Froms.{unsigned}
-use Rattle.interleavings.specs.Interleaving.{Started, Tells, Fits, times_made, made_least, all_least, made_times, all_times, EnteredIn, EntersWith, StartsChild, In, Kid, HasFrom, Parent, Entered, EachPlace, Root, RunInvariant, slept, goes_on, resumes, AllFrom}
+use Rattle.interleavings.specs.Interleaving.{Started, Tells, Fits, times_made, made_least, all_least, made_times, all_times, EnteredIn, EntersWith, StartsChild, Kid, HasFrom, Parent, Entered, EachPlace, Root, RunInvariant, slept, goes_on, resumes, AllFrom}
 use Rattle.interleavings.specs.Going.{told_new, children_from, child_from, task_after_turn}
 use Rattle.interleavings.proofs.Readings.{in_first, in_second, in_either, enters_first, enters_second, enters_either, starts_either, enters_counted, enters_times, entered_first, entered_second, enters_fill, made_low, all_least_join, all_times_join, made_few, made_counted, first_join, times_join}
 use Rattle.interleavings.proofs.Contract.{NumberedFrom, numbers_of, OldOrNew, known_of, each_known, lowered_from, opened_from, placed_stop, stops_at}
@@ -41,13 +42,13 @@ unfolding made_times times_made children_from
 begun_times k t l m [] ys = refl
 begun_times k t l m (b ∷ bs) ys = omega (arith, begun_times k t l (suc m) bs ys)
 
-begun_made : (k : Table) (t m : ℕ) (bs : List Begun) (x : Started) → In x (children_from k t m bs) → x.made ≡ []
+begun_made : (k : Table) (t m : ℕ) (bs : List Begun) (x : Started) → IsAmong x (children_from k t m bs) → x.made ≡ []
 unfolding children_from
 begun_made k t m [] x i = absurd i
 begun_made k t m (b ∷ bs) x (inl e) = ap (λ (z : Started). z.made) e
 begun_made k t m (b ∷ bs) x (inr i) = begun_made k t (suc m) bs x i
 
-begun_count : (k : Table) (t m : ℕ) (bs : List Begun) (x : Started) → In x (children_from k t m bs) → x.count ≡ 0
+begun_count : (k : Table) (t m : ℕ) (bs : List Begun) (x : Started) → IsAmong x (children_from k t m bs) → x.count ≡ 0
 unfolding children_from
 begun_count k t m [] x i = absurd i
 begun_count k t m (b ∷ bs) x (inl e) = ap (λ (z : Started). z.count) e
@@ -55,21 +56,21 @@ begun_count k t m (b ∷ bs) x (inr i) = begun_count k t (suc m) bs x i
 
 -- their frames fit the scopes and nurseries that enclose them, and these have known labels
 begun_shape : (k : Table) (t m : ℕ) (ls : List Label) (bs : List Begun) → BegunIn ls bs →
-    (x : Started) → In x (children_from k t m bs) → PlacedStop x.rest.stopped x.rest.frames x.places
+    (x : Started) → IsAmong x (children_from k t m bs) → PlacedStop x.rest.stopped x.rest.frames x.places
 unfolding children_from
 begun_shape k t m ls [] p x i = absurd i
 begun_shape k t m ls (b ∷ bs) p x (inl e) = subst (λ (z : Started). PlacedStop z.rest.stopped z.rest.frames z.places) (sym e) (p.1, tt)
 begun_shape k t m ls (b ∷ bs) p x (inr i) = begun_shape k t (suc m) ls bs p.2 x i
 
 begun_places : (k : Table) (t m : ℕ) (ls : List Label) (bs : List Begun) → BegunIn ls bs →
-    (x : Started) → In x (children_from k t m bs) → AllKnown x.places ls
+    (x : Started) → IsAmong x (children_from k t m bs) → AllKnown x.places ls
 unfolding children_from
 begun_places k t m ls [] p x i = absurd i
 begun_places k t m ls (b ∷ bs) p x (inl e) = subst (λ (z : Started). AllKnown z.places ls) (sym e) p.0
 begun_places k t m ls (b ∷ bs) p x (inr i) = begun_places k t (suc m) ls bs p.2 x i
 
 -- they begin in this moment
-begun_resumes : (k : Table) (t m : ℕ) (bs : List Begun) (x : Started) → In x (children_from k t m bs) → t ≤ resumes k x
+begun_resumes : (k : Table) (t m : ℕ) (bs : List Begun) (x : Started) → IsAmong x (children_from k t m bs) → t ≤ resumes k x
 unfolding children_from
 begun_resumes k t m [] x i = absurd i
 begun_resumes k t m (b ∷ bs) x (inl e) = subst (λ (z : Started). t ≤ resumes k z) (sym e) (omega arith)
@@ -93,7 +94,7 @@ record NewChild (k : Table) (t m : ℕ) (bs : List Begun) (es : List Event) (tol
   same : x.final_result ≡ told number
 
 new_child : (k : Table) (t : ℕ) (told : ChildOutcomes) (n m : ℕ) (es : List Event) (bs : List Begun) → Starts n es bs → AllTold t k told bs →
-    (x : Started) → In x (children_from k t m bs) → NewChild k t m bs es told x
+    (x : Started) → IsAmong x (children_from k t m bs) → NewChild k t m bs es told x
 unfolding children_from
 new_child k t told n m [] [] a b x i = absurd i
 new_child k t told n m [] (c ∷ bs) a b x i = absurd a
@@ -119,7 +120,7 @@ new_child k t told n m (starts j l u ∷ es) (c ∷ bs) a b x (inr i) =
 -- the task of a new child's number
 record NewKid (k : Table) (t : ℕ) (told : ChildOutcomes) (n m : ℕ) (bs : List Begun) (i : ℕ) : Type 0 where
   kid : Started
-  among : In kid (children_from k t m bs)
+  among : IsAmong kid (children_from k t m bs)
   serial : kid.serial ≡ m + (i - n)
   same : kid.final_result ≡ told_new k t told bs i
 
@@ -145,7 +146,7 @@ new_kid k t told n m (b ∷ bs) p i h j = by_case (split i n h) (λ g. new_kid k
 -- ---- the run
 
 module _ (k f : Table) (whole : Result) (q : Started) (ys : List Started) (interleaving : RunInvariant k f whole (q ∷ ys))
-    (now : Now) (from : AllFrom k (q ∷ ys) now.at) (m : ℕ) (small : (x : Started) → In x (q ∷ ys) → x.serial < m)
+    (now : Now) (from : AllFrom k (q ∷ ys) now.at) (m : ℕ) (small : (x : Started) → IsAmong x (q ∷ ys) → x.serial < m)
     (wake : Wake) (o : Move) (s : Stopped)
     (w : TurnsOver q.stop now q.here f wake q.rest q.places q.count o) (stopped : o.stopped ≡ Some s)
     (come : (told : ChildOutcomes) → Tells q told → WakesBy k told q.here q.stop now wake q.rest.stopped q.places) where
@@ -179,20 +180,20 @@ module _ (k f : Table) (whole : Result) (q : Started) (ys : List Started) (inter
   fit : Fits k q
   fit = interleaving.fits q (inl refl)
 
-  fits_after : (x : Started) → In x after_turn → Fits k x
+  fits_after : (x : Started) → IsAmong x after_turn → Fits k x
   fits_after x (inl e) = subst (λ (z : Started). Fits k z) (sym e) (fits_turned k f now m wake q o s w stopped fit near deadlines come)
   fits_after x (inr i) = by_place (in_either x new ys i)
     where
-      by_place : In x new ⊎ In x ys → Fits k x
+      by_place : IsAmong x new ⊎ IsAmong x ys → Fits k x
       by_place (inl j) = fits_begun k next m o.begun x j
       by_place (inr j) = interleaving.fits x (inr j)
 
-  shape_after : (x : Started) → In x after_turn → PlacedStop x.rest.stopped x.rest.frames x.places
+  shape_after : (x : Started) → IsAmong x after_turn → PlacedStop x.rest.stopped x.rest.frames x.places
   shape_after x (inl e) = subst (λ (z : Started). PlacedStop z.rest.stopped z.rest.frames z.places) (sym e)
       (placed_stop now f wake q o s w stopped)
   shape_after x (inr i) = by_place (in_either x new ys i)
     where
-      by_place : In x new ⊎ In x ys → PlacedStop x.rest.stopped x.rest.frames x.places
+      by_place : IsAmong x new ⊎ IsAmong x ys → PlacedStop x.rest.stopped x.rest.frames x.places
       by_place (inl j) = begun_shape k next m (known_after (labels_of q.places) o.made) o.begun w.begun_in x j
       by_place (inr j) = interleaving.shape x (inr j)
 
@@ -233,7 +234,7 @@ module _ (k f : Table) (whole : Result) (q : Started) (ys : List Started) (inter
       omega (arith, begun_least k next c l m o.begun ys (made_low c l ys))
 
   -- the label of an enclosing scope or nursery was entered
-  place_counted : (l : Label) (ps : List Place) → EachPlace (Entered (q ∷ ys)) ps → Known l (labels_of ps) → 1 ≤ made_times l (q ∷ ys)
+  place_counted : (l : Label) (ps : List Place) → EachPlace (Entered (q ∷ ys)) ps → IsAmong l (labels_of ps) → 1 ≤ made_times l (q ∷ ys)
   place_counted l [] p i = absurd i
   place_counted l (x ∷ ps) p (inl e) =
       let a : Entered (q ∷ ys) x.label = p.0 in
@@ -242,7 +243,7 @@ module _ (k f : Table) (whole : Result) (q : Started) (ys : List Started) (inter
       subst (λ (z : Label). 1 ≤ made_times z (q ∷ ys)) (sym e) (omega arith)
   place_counted l (x ∷ ps) p (inr i) = place_counted l ps p.1 i
 
-  no_place : (l : Label) → made_times l (q ∷ ys) ≡ 0 → Known l (labels_of q.places) → ⊥
+  no_place : (l : Label) → made_times l (q ∷ ys) ≡ 0 → IsAmong l (labels_of q.places) → ⊥
   no_place l h i = let z : 1 ≤ made_times l (q ∷ ys) = place_counted l q.places (interleaving.placed q (inl refl)) i in absurd (omega arith)
 
   made_after : (c : ℕ) (l : Label) → made_times l after_turn ≡ 0 → made_least c l after_turn ≡ c
@@ -274,11 +275,11 @@ module _ (k f : Table) (whole : Result) (q : Started) (ys : List Started) (inter
   in_rest : (l : Label) (d : Tick) → EnteredIn l d q'.left → EnteredIn l d q.left
   in_rest l d j = subst (λ (a : Log). EnteredIn l d a) (sym rest_is) (entered_second l d (fill d' o.made) q'.left j)
 
-  follows_after : (x : Started) → In x after_turn → (l : Label) (d : Tick) → EnteredIn l d x.left → k l ≡ from_by d (least_sign l whole.log)
+  follows_after : (x : Started) → IsAmong x after_turn → (l : Label) (d : Tick) → EnteredIn l d x.left → k l ≡ from_by d (least_sign l whole.log)
   follows_after x (inl e) l d j = interleaving.follows q (inl refl) l d (in_rest l d (subst (λ (z : Started). EnteredIn l d z.left) e j))
   follows_after x (inr i) l d j = by_place (in_either x new ys i)
     where
-      by_place : In x new ⊎ In x ys → k l ≡ from_by d (least_sign l whole.log)
+      by_place : IsAmong x new ⊎ IsAmong x ys → k l ≡ from_by d (least_sign l whole.log)
       by_place (inl z) = interleaving.follows q (inl refl) l d (in_made l d
           (fill_entered k next d' q.count m o.made o.begun w.starts all_begun x z l d j))
       by_place (inr z) = interleaving.follows x (inr z) l d j
@@ -301,11 +302,11 @@ module _ (k f : Table) (whole : Result) (q : Started) (ys : List Started) (inter
       by_time (inl j) = let x : i < q.count = interleaving.numbered q (inl refl) i j in omega arith
       by_time (inr j) = new_number q.count o.made o.begun w.starts i j
 
-  numbered_after : (x : Started) → In x after_turn → (i : ℕ) → StartsChild i x.made → i < x.count
+  numbered_after : (x : Started) → IsAmong x after_turn → (i : ℕ) → StartsChild i x.made → i < x.count
   numbered_after x (inl e) = subst (λ (z : Started). (i : ℕ) → StartsChild i z.made → i < z.count) (sym e) numbered_turned
   numbered_after x (inr i) = by_place (in_either x new ys i)
     where
-      by_place : In x new ⊎ In x ys → (n : ℕ) → StartsChild n x.made → n < x.count
+      by_place : IsAmong x new ⊎ IsAmong x ys → (n : ℕ) → StartsChild n x.made → n < x.count
       by_place (inl z) = λ n h. absurd (subst (λ (es : List Event). StartsChild n es) (begun_made k next m o.begun x z) h)
       by_place (inr z) = interleaving.numbered x (inr z)
 
@@ -315,7 +316,7 @@ module _ (k f : Table) (whole : Result) (q : Started) (ys : List Started) (inter
       same : q.told i ≡ q'.told i
       same = sym (old_told k next q.told q.count o.begun numbers i h)
 
-      place : (c : Started) → q.serial < c.serial → In c (q ∷ ys) → In c after_turn
+      place : (c : Started) → q.serial < c.serial → IsAmong c (q ∷ ys) → IsAmong c after_turn
       place c l (inl e) = let z : c.serial ≡ q.serial = ap (λ (v : Started). v.serial) e in absurd (omega arith)
       place c l (inr j) = in_second c (q' ∷ new) ys j
 
@@ -350,10 +351,10 @@ module _ (k f : Table) (whole : Result) (q : Started) (ys : List Started) (inter
       by_order (inl j) = old_kid i j
       by_order (inr j) = later_kid i j h
 
-  kids_other : (x : Started) → In x ys → (i : ℕ) → i < x.count → Kid after_turn x i
+  kids_other : (x : Started) → IsAmong x ys → (i : ℕ) → i < x.count → Kid after_turn x i
   kids_other x j i h = go (interleaving.kids x (inr j) i h)
     where
-      go_in : (c : Started) → c.serial ≡ x.child i → x.serial < c.serial → c.final_result ≡ x.told i → In c (q ∷ ys) → Kid after_turn x i
+      go_in : (c : Started) → c.serial ≡ x.child i → x.serial < c.serial → c.final_result ≡ x.told i → IsAmong c (q ∷ ys) → Kid after_turn x i
       go_in c n l e (inl z) =
           record {
             kid = q';
@@ -368,11 +369,11 @@ module _ (k f : Table) (whole : Result) (q : Started) (ys : List Started) (inter
       go : Kid (q ∷ ys) x i → Kid after_turn x i
       go c = go_in c.kid c.serial c.later c.same c.among
 
-  kids_after : (x : Started) → In x after_turn → (i : ℕ) → i < x.count → Kid after_turn x i
+  kids_after : (x : Started) → IsAmong x after_turn → (i : ℕ) → i < x.count → Kid after_turn x i
   kids_after x (inl e) = subst (λ (z : Started). (i : ℕ) → i < z.count → Kid after_turn z i) (sym e) kids_turned
   kids_after x (inr i) = by_place (in_either x new ys i)
     where
-      by_place : In x new ⊎ In x ys → (n : ℕ) → n < x.count → Kid after_turn x n
+      by_place : IsAmong x new ⊎ IsAmong x ys → (n : ℕ) → n < x.count → Kid after_turn x n
       by_place (inl z) = λ n h. let y : x.count ≡ 0 = begun_count k next m o.begun x z in absurd (omega arith)
       by_place (inr z) = kids_other x z
 
@@ -397,7 +398,7 @@ module _ (k f : Table) (whole : Result) (q : Started) (ys : List Started) (inter
   parent_old : (x : Started) → Parent (q ∷ ys) x → Parent after_turn x
   parent_old x p = by_task p.starter p.among p.earlier p.started p.same
     where
-      by_task : (z : Started) → In z (q ∷ ys) → z.serial < x.serial → StartsChild p.number z.made → x.final_result ≡ z.told p.number →
+      by_task : (z : Started) → IsAmong z (q ∷ ys) → z.serial < x.serial → StartsChild p.number z.made → x.final_result ≡ z.told p.number →
           Parent after_turn x
       by_task z (inl e) l h s =
           let h' : StartsChild p.number q.made = subst (λ (v : Started). StartsChild p.number v.made) e h in
@@ -439,7 +440,7 @@ module _ (k f : Table) (whole : Result) (q : Started) (ys : List Started) (inter
             p.same;
       })
 
-  parents_after : (x : Started) → In x after_turn → (x.final_result ≡ whole) ⊎ Parent after_turn x
+  parents_after : (x : Started) → IsAmong x after_turn → (x.final_result ≡ whole) ⊎ Parent after_turn x
   parents_after x (inl e) = subst (λ (z : Started). (z.final_result ≡ whole) ⊎ Parent after_turn z) (sym e) parent_turned
   parents_after x (inr i) = by_place (in_either x new ys i)
     where
@@ -455,7 +456,7 @@ module _ (k f : Table) (whole : Result) (q : Started) (ys : List Started) (inter
             same = c.same;
           }
 
-      by_place : In x new ⊎ In x ys → (x.final_result ≡ whole) ⊎ Parent after_turn x
+      by_place : IsAmong x new ⊎ IsAmong x ys → (x.final_result ≡ whole) ⊎ Parent after_turn x
       by_place (inl z) = inr (of_new (new_child k next d' q.count m o.made o.begun w.starts all_begun x z))
       by_place (inr z) = root_or_old x (interleaving.parents x (inr z))
 
@@ -491,7 +492,7 @@ module _ (k f : Table) (whole : Result) (q : Started) (ys : List Started) (inter
             ∙ ap (λ (v : ℕ). min (upto (suc c) d) (suc v)) (sym u);
       }
 
-  has_from_by : (x : Started) → In x (q ∷ ys) → (l : Label) (d : Tick) → EntersWith l d x.made → HasFrom k g whole.log after_turn l d
+  has_from_by : (x : Started) → IsAmong x (q ∷ ys) → (l : Label) (d : Tick) → EntersWith l d x.made → HasFrom k g whole.log after_turn l d
   has_from_by x i l d h =
       let a : 1 ≤ times_made l x.made = enters_times l d x.made h in
       let b : times_made l x.made ≤ made_times l (q ∷ ys) = made_counted l x (q ∷ ys) i in
@@ -504,11 +505,11 @@ module _ (k f : Table) (whole : Result) (q : Started) (ys : List Started) (inter
       by_time (inl j) = has_from_by q (inl refl) l d j
       by_time (inr j) = has_from_new l d j
 
-  has_from_after : (x : Started) → In x after_turn → (l : Label) (d : Tick) → EntersWith l d x.made → HasFrom k g whole.log after_turn l d
+  has_from_after : (x : Started) → IsAmong x after_turn → (l : Label) (d : Tick) → EntersWith l d x.made → HasFrom k g whole.log after_turn l d
   has_from_after x (inl e) l d h = has_from_turned l d (subst (λ (z : Started). EntersWith l d z.made) e h)
   has_from_after x (inr i) l d h = by_place (in_either x new ys i)
     where
-      by_place : In x new ⊎ In x ys → HasFrom k g whole.log after_turn l d
+      by_place : IsAmong x new ⊎ IsAmong x ys → HasFrom k g whole.log after_turn l d
       by_place (inl z) = absurd (subst (λ (es : List Event). EntersWith l d es) (begun_made k next m o.begun x z) h)
       by_place (inr z) = has_from_by x (inr z) l d h
 
@@ -517,7 +518,7 @@ module _ (k f : Table) (whole : Result) (q : Started) (ys : List Started) (inter
   entered_old : (l : Label) → Entered (q ∷ ys) l → Entered after_turn l
   entered_old l e = by_task e.by e.among e.made
     where
-      by_task : (x : Started) → In x (q ∷ ys) → EntersWith l e.deadline x.made → Entered after_turn l
+      by_task : (x : Started) → IsAmong x (q ∷ ys) → EntersWith l e.deadline x.made → Entered after_turn l
       by_task x (inl i) h =
           record {
             deadline = e.deadline;
@@ -528,7 +529,7 @@ module _ (k f : Table) (whole : Result) (q : Started) (ys : List Started) (inter
           }
       by_task x (inr i) h = record { deadline = e.deadline; by = x; among = in_second x (q' ∷ new) ys i; made = h }
 
-  entered_place : (l : Label) (ps : List Place) → EachPlace (Entered (q ∷ ys)) ps → Known l (labels_of ps) → Entered after_turn l
+  entered_place : (l : Label) (ps : List Place) → EachPlace (Entered (q ∷ ys)) ps → IsAmong l (labels_of ps) → Entered after_turn l
   entered_place l [] p i = absurd i
   entered_place l (x ∷ ps) p (inl e) = subst (λ (z : Label). Entered after_turn z) (sym e) (entered_old x.label p.0)
   entered_place l (x ∷ ps) p (inr i) = entered_place l ps p.1 i
@@ -546,18 +547,18 @@ module _ (k f : Table) (whole : Result) (q : Started) (ys : List Started) (inter
   each_old [] p = tt
   each_old (x ∷ ps) p = (entered_old x.label p.0, each_old ps p.1)
 
-  placed_after : (x : Started) → In x after_turn → EachPlace (Entered after_turn) x.places
+  placed_after : (x : Started) → IsAmong x after_turn → EachPlace (Entered after_turn) x.places
   placed_after x (inl e) = subst (λ (z : Started). EachPlace (Entered after_turn) z.places) (sym e) (each_new o.places w.places)
   placed_after x (inr i) = by_place (in_either x new ys i)
     where
-      by_place : In x new ⊎ In x ys → EachPlace (Entered after_turn) x.places
+      by_place : IsAmong x new ⊎ IsAmong x ys → EachPlace (Entered after_turn) x.places
       by_place (inl z) = each_new x.places (begun_places k next m (known_after (labels_of q.places) o.made) o.begun w.begun_in x z)
       by_place (inr z) = each_old x.places (interleaving.placed x (inr z))
 
   root_after : Root whole after_turn
   root_after = by_place interleaving.root.root interleaving.root.among interleaving.root.first interleaving.root.comes
     where
-      by_place : (x : Started) → In x (q ∷ ys) → x.serial ≡ 0 → x.final_result ≡ whole → Root whole after_turn
+      by_place : (x : Started) → IsAmong x (q ∷ ys) → x.serial ≡ 0 → x.final_result ≡ whole → Root whole after_turn
       by_place x (inl e) a b = record {
         root = q';
         among = inl refl;
@@ -614,7 +615,7 @@ module _ (k f : Table) (whole : Result) (q : Started) (ys : List Started) (inter
   from_turned x (inl e) l = subst (λ (z : Started). now.at ≤ resumes k z) (sym e) (from_stop s (stops_at now f wake q o s w stopped))
   from_turned x (inr i) l = by_place (in_either x new ys i)
     where
-      by_place : In x new ⊎ In x ys → now.at ≤ resumes k x
+      by_place : IsAmong x new ⊎ IsAmong x ys → now.at ≤ resumes k x
       by_place (inl z) =
           let a : now.at ≤ next = round_after q.here.clock now.at in
           let b : next ≤ resumes k x = begun_resumes k next m o.begun x z in

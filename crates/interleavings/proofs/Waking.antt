@@ -1,6 +1,7 @@
 -- A wake is what the table says: if a run agrees with the table, a task that may be woken so wakes so according to
 -- the table.
 use Rattle.std.proofs.Common.{◌≡◌, ℕ, suc, ◌≤◌, min, Bool, true, Option, List, refl, inl, inr, sym, ◌∙◌, subst, arith}
+use Rattle.turn_semantics.specs.Lists.{IsAmong}
 use Rattle.exceptions.specs.Exceptions.{Label, Exc}
 use Rattle.cancel_scopes.specs.Sight.{seen}
 use Rattle.job_meaning.specs.Log.{Member, Result, Table}
@@ -13,7 +14,7 @@ use Rattle.job_meaning.proofs.Clips.{seen_near, event_near}
 use Rattle.turn_semantics.specs.Midway.{label_among, stack_at, OwnFits}
 use Rattle.turn_semantics.specs.Placed.{IsSome, PlacedStop}
 use Rattle.turn_semantics.specs.Wakes.{Wake, begins, sees, gives_up, is_due, has_answer, settles, ends_at, SettlesAt, SeesWaiting, GoesOnWaiting, WakesBy}
-use Rattle.interleavings.specs.Interleaving.{Started, Tells, In, RunInvariant, live, slept, goes_on, AllFrom}
+use Rattle.interleavings.specs.Interleaving.{Started, Tells, RunInvariant, live, slept, goes_on, AllFrom}
 use Rattle.interleavings.specs.Woken.{WaitIsOver, SeesNow, IsOver, MayWake}
 use Rattle.interleavings.proofs.Contract.{near_places}
 use Rattle.interleavings.proofs.Lateness.{slept_sees, awaited_sees, awaited_goes, event_there, ends_near}
@@ -31,7 +32,7 @@ over_alike clock x y since t a b e f (inl h) = inl (omega arith, h.1, f ∙ h.2)
 over_alike clock x y since t a b e f (inr h) = inr (omega arith, omega arith)
 
 module _ (k f : Table) (whole : Result) (qs : List Started) (o : RunInvariant k f whole qs) (t : ℕ) (from : AllFrom k qs t) (q : Started)
-    (i : In q qs) where
+    (i : IsAmong q qs) where
   -- what is seen is the same by the table and by the froms that are kept
   near : Near (suc t) (stack_at k q.places) (stack_at f q.places)
   near = near_places t k f q.places (agrees_on k f whole qs o t from q.places (o.placed q i))

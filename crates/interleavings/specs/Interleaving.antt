@@ -1,5 +1,8 @@
 -- An interleaving that agrees with a table: what is kept of each started task, and what holds of all of them together.
 use Rattle.std.specs.Prelude.{◌≡◌, ℕ, suc, ◌+◌, ◌<◌, ◌≤◌, min, max, Bool, true, false, List, [], ◌∷◌, ◌⊎◌, if◌then◌else◌}
+use Rattle.turn_semantics.specs.Lists.{Exists}
+use Rattle.turn_semantics.specs.Made.{EnteredLabel, StartedChild, entered_in, started_in}
+use Rattle.turn_semantics.specs.Lists.{IsAmong}
 use Rattle.exceptions.specs.Exceptions.{Label}
 use Rattle.cancel_scopes.specs.Sight.{Tick, sight}
 use Rattle.job_meaning.specs.Log.{Log, nil, entry, sign, entered, task, Member, Result, same_label, least_sign, from_by, times_entered, Table}
@@ -9,7 +12,7 @@ use Rattle.job_meaning.specs.Walk.{Stack, Here, by_table, sleep_result, pace_res
 use Rattle.job_meaning.specs.Before.{upto}
 use Rattle.job_meaning.specs.Rest.{Event, noted, signs, enters, starts, ChildOutcomes, told_members, Stopped, to_begin, asking, asleep, waiting_for, giving_up, awaiting, at_end, Rest, rest_comes_to, task_comes_to}
 use Rattle.turn_semantics.specs.Midway.{Place, stack_at}
-use Rattle.turn_semantics.specs.Placed.{PlacedStop, IsAmong}
+use Rattle.turn_semantics.specs.Placed.{PlacedStop}
 use Rattle.turn_semantics.specs.Wakes.{set_at, ends_at}
 use Rattle.turn_semantics.specs.Turned.{made_sign}
 
@@ -44,13 +47,14 @@ pub record Fits (k : Table) (q : Started) : Type 0 where
 
 -- ---- sums over what all tasks have done and what all have left
 
--- how often a label is entered among events
+-- how often a label is among those that were entered
+abbrev pub times_among : Label → List EnteredLabel → ℕ
+times_among l [] = 0
+times_among l (e ∷ es) = (if same_label l e.label then 1 else 0) + times_among l es
+
+-- and how often it is entered among events
 unfoldable pub times_made : Label → List Event → ℕ
-times_made l [] = 0
-times_made l (noted t e ∷ es) = times_made l es
-times_made l (signs m t ∷ es) = times_made l es
-times_made l (enters m t d ∷ es) = (if same_label l m then 1 else 0) + times_made l es
-times_made l (starts i m t ∷ es) = times_made l es
+times_made l es = times_among l (entered_in es)
 
 -- as far as c, the first sign for a label among what all have done
 unfoldable pub made_least : ℕ → Label → List Started → ℕ
@@ -82,30 +86,18 @@ EnteredIn l d (task m s u e own rest) = EnteredIn l d own ⊎ EnteredIn l d rest
 
 -- and among events
 abbrev pub EntersWith : Label → Tick → List Event → Type 0
-EntersWith l d [] = ⊥
-EntersWith l d (noted t e ∷ es) = EntersWith l d es
-EntersWith l d (signs m t ∷ es) = EntersWith l d es
-EntersWith l d (enters m t x ∷ es) = ((l ≡ m) × (d ≡ x)) ⊎ EntersWith l d es
-EntersWith l d (starts i m t ∷ es) = EntersWith l d es
+EntersWith l d es = Exists (λ (e : EnteredLabel). (l ≡ e.label) × (d ≡ e.deadline)) (entered_in es)
 
 -- a child with that number is started among events
 abbrev pub StartsChild : ℕ → List Event → Type 0
-StartsChild i [] = ⊥
-StartsChild i (noted t e ∷ es) = StartsChild i es
-StartsChild i (signs m t ∷ es) = StartsChild i es
-StartsChild i (enters m t d ∷ es) = StartsChild i es
-StartsChild i (starts j m t ∷ es) = (i ≡ j) ⊎ StartsChild i es
+StartsChild i es = Exists (λ (s : StartedChild). i ≡ s.number) (started_in es)
 
 -- ---- all started tasks
-
-abbrev pub In : {A : Type 0} → A → List A → Type 0
-In x [] = ⊥
-In x (y ∷ ys) = (x ≡ y) ⊎ In x ys
 
 -- the task that is child number i of q: it was started later, and its result is the one that is recorded for it
 pub record Kid (qs : List Started) (q : Started) (i : ℕ) : Type 0 where
   pub kid : Started
-  pub among : In kid qs
+  pub among : IsAmong kid qs
   pub serial : kid.serial ≡ q.child i
   pub later : q.serial < kid.serial
   pub same : kid.final_result ≡ q.told i
@@ -120,7 +112,7 @@ pub record HasFrom (k f : Table) (whole : Log) (qs : List Started) (l : Label) (
 pub record Entered (qs : List Started) (l : Label) : Type 0 where
   pub deadline : Tick
   pub by : Started
-  pub among : In by qs
+  pub among : IsAmong by qs
   pub made : EntersWith l deadline by.made
 
 abbrev pub EachPlace : (Label → Type 0) → List Place → Type 0
@@ -130,14 +122,14 @@ EachPlace P (p ∷ ps) = P p.label × EachPlace P ps
 -- the result of the task with serial number 0 is the whole result
 pub record Root (whole : Result) (qs : List Started) : Type 0 where
   pub root : Started
-  pub among : In root qs
+  pub among : IsAmong root qs
   pub first : root.serial ≡ 0
   pub comes : root.final_result ≡ whole
 
 -- the task that started q, earlier than q
 pub record Parent (qs : List Started) (q : Started) : Type 0 where
   pub starter : Started
-  pub among : In starter qs
+  pub among : IsAmong starter qs
   pub earlier : starter.serial < q.serial
   pub number : ℕ
   pub started : StartsChild number starter.made
@@ -147,14 +139,14 @@ pub record Parent (qs : List Started) (q : Started) : Type 0 where
 -- `whole` is the result of following k, and qs are all tasks ever started.
 pub record RunInvariant (k f : Table) (whole : Result) (qs : List Started) : Type 0 where
   -- what each task has done and what it has left are its whole result
-  pub fits : (q : Started) → In q qs → Fits k q
+  pub fits : (q : Started) → IsAmong q qs → Fits k q
   -- the frames of each fit the scopes and nurseries that enclose it
-  pub shape : (q : Started) → In q qs → PlacedStop q.rest.stopped q.rest.frames q.places
+  pub shape : (q : Started) → IsAmong q qs → PlacedStop q.rest.stopped q.rest.frames q.places
   -- the children are numbered, and each is a task
-  pub numbered : (q : Started) → In q qs → (i : ℕ) → StartsChild i q.made → i < q.count
-  pub kids : (q : Started) → In q qs → (i : ℕ) → i < q.count → Kid qs q i
+  pub numbered : (q : Started) → IsAmong q qs → (i : ℕ) → StartsChild i q.made → i < q.count
+  pub kids : (q : Started) → IsAmong q qs → (i : ℕ) → i < q.count → Kid qs q i
   -- each task but the root was started by another
-  pub parents : (q : Started) → In q qs → (q.final_result ≡ whole) ⊎ Parent qs q
+  pub parents : (q : Started) → IsAmong q qs → (q.final_result ≡ whole) ⊎ Parent qs q
   -- the signs of the whole are those made and those left to make
   pub signed : (c : ℕ) (l : Label) → upto c (least_sign l whole.log) ≡ all_least c l qs
   -- no label is entered twice
@@ -162,23 +154,19 @@ pub record RunInvariant (k f : Table) (whole : Result) (qs : List Started) : Typ
   -- a sign was made only for a label that was entered
   pub made : (c : ℕ) (l : Label) → made_times l qs ≡ 0 → made_least c l qs ≡ c
   -- the table has the from of each label that is left to enter
-  pub follows : (q : Started) → In q qs → (l : Label) (d : Tick) → EnteredIn l d q.left → k l ≡ from_by d (least_sign l whole.log)
+  pub follows : (q : Started) → IsAmong q qs → (l : Label) (d : Tick) → EnteredIn l d q.left → k l ≡ from_by d (least_sign l whole.log)
   -- the table and the run have the froms of each label that was entered
-  pub known : (q : Started) → In q qs → (l : Label) (d : Tick) → EntersWith l d q.made → HasFrom k f whole.log qs l d
+  pub known : (q : Started) → IsAmong q qs → (l : Label) (d : Tick) → EntersWith l d q.made → HasFrom k f whole.log qs l d
   -- each scope and nursery that encloses a task was entered
-  pub placed : (q : Started) → In q qs → EachPlace (Entered qs) q.places
+  pub placed : (q : Started) → IsAmong q qs → EachPlace (Entered qs) q.places
   pub root : Root whole qs
 
 -- ---- when tasks continue
 
 abbrev pub live : Stopped → Bool
 live to_begin = true
-live (asking kernel purpose) = true
-live (asleep paced n since) = true
-live (waiting_for event since) = true
-live (giving_up since) = true
-live (awaiting children ended exc) = true
 live (at_end u e) = false
+live _ = true
 
 -- the result of a sleep, by `pace` or not
 abbrev pub slept : Clock → (paced : Bool) → Stack → ℕ → ℕ → Result
@@ -202,14 +190,14 @@ resumes k q = goes_on q.here.clock q.told q.rest.stopped (stack_at k q.places) q
 
 -- nothing that was not done yet happens before moment v
 abbrev pub AllFrom : Table → List Started → ℕ → Type 0
-AllFrom k qs v = (q : Started) → In q qs → live q.rest.stopped ≡ true → v ≤ resumes k q
+AllFrom k qs v = (q : Started) → IsAmong q qs → live q.rest.stopped ≡ true → v ≤ resumes k q
 
 -- one of the children for which q waits has not ended: the task with its serial number is live
 pub record Unended (qs : List Started) (q : Started) (children : List ℕ) : Type 0 where
   pub number : ℕ
   pub among : IsAmong number children
   pub below : number < q.count
-  pub alive : (c : Started) → In c qs → c.serial ≡ q.child number → live c.rest.stopped ≡ true
+  pub alive : (c : Started) → IsAmong c qs → c.serial ≡ q.child number → live c.rest.stopped ≡ true
 
 -- how children ended, by their numbers, as members of their nursery
 abbrev pub members_by : (ℕ → Member) → List ℕ → List Member
@@ -220,7 +208,7 @@ members_by ends (i ∷ is) = ends i ∷ members_by ends is
 pub record Settling (qs : List Started) (q : Started) (children : List ℕ) (ended u : ℕ) : Type 0 where
   pub ends : ℕ → Member
   pub numbers : (i : ℕ) → IsAmong i children → i < q.count
-  pub over : (i : ℕ) → IsAmong i children → (c : Started) → In c qs → c.serial ≡ q.child i →
+  pub over : (i : ℕ) → IsAmong i children → (c : Started) → IsAmong c qs → c.serial ≡ q.child i →
       c.rest.stopped ≡ at_end (ends i).end (ends i).exc
   pub later : u ≤ a_round_after q.here.clock (latest ended (members_by ends children))
 
@@ -241,4 +229,4 @@ StaysUntil f qs u q (at_end t e) = Unit {0}
 
 -- each task has its next turn in moment u or later
 abbrev pub Blocked : Table → List Started → ℕ → Type 0
-Blocked f qs u = (q : Started) → In q qs → StaysUntil f qs u q q.rest.stopped
+Blocked f qs u = (q : Started) → IsAmong q qs → StaysUntil f qs u q q.rest.stopped

@@ -1,5 +1,6 @@
 -- The laws of runs in turns. They are the contract of a function that does nothing.
 use Rattle.std.specs.Prelude.{◌≡◌, ◌⊎◌, true, ℕ, ◌+◌, ◌*◌, ◌%◌, ◌<◌, ◌≤◌, Some, List, [], ◌∷◌}
+use Rattle.turn_semantics.specs.Lists.{IsAmong}
 use Rattle.exceptions.specs.Exceptions.{Label}
 use Rattle.job_tree.specs.Tree.{Tree}
 use Rattle.job_tree.specs.Names.{GivesNamesOnce, size_of}
@@ -12,8 +13,8 @@ use Rattle.job_meaning.specs.Follow.{IsSettled}
 use Rattle.job_meaning.specs.Rest.{Stopped, to_begin, asking, asleep, waiting_for, giving_up, awaiting, at_end}
 use Rattle.turn_semantics.specs.Midway.{Place}
 use Rattle.turn_semantics.specs.Placed.{PlacedStop, home_after, KidsAfter, HasChildAfter}
-use Rattle.turn_semantics.specs.Turned.{AgreesOn, Known, labels_of, EntersIn}
-use Rattle.interleavings.specs.Interleaving.{Started, In, EachPlace, RunInvariant, live, AllFrom, Blocked, Settling}
+use Rattle.turn_semantics.specs.Turned.{AgreesOn, labels_of, EntersIn}
+use Rattle.interleavings.specs.Interleaving.{Started, EachPlace, RunInvariant, live, AllFrom, Blocked, Settling}
 use Rattle.interleavings.specs.Going.{root_result}
 use Rattle.interleavings.specs.Runs.{Reached, turns_taken, all_weights}
 use Rattle.interleavings.specs.Rows.{Row, HasRow, records_by, froms_in, DepthFirst}
@@ -33,7 +34,7 @@ round_of m = m % rounds_in_a_tick
 abbrev pub RoundsAreFew : Type 0
 RoundsAreFew =
     (k : Table) (job : Tree) (input : List ℕ) → GivesNamesOnce job → StartsInNurseries job → IsSettled k job input → clock_of job.format ≡ by_rounds →
-    (f : Table) (t m : ℕ) (qs : List Started) → (r : Reached k job input f t m qs) → (q : Started) → In q qs →
+    (f : Table) (t m : ℕ) (qs : List Started) → (r : Reached k job input f t m qs) → (q : Started) → IsAmong q qs →
     round_of q.stop.at ≤ turns_taken r
 
 -- A run of a job of at most a million steps, those of children included, has fewer turns than a tick has rounds. So no round
@@ -41,14 +42,14 @@ RoundsAreFew =
 abbrev pub RoundsStayInTicks : Type 0
 RoundsStayInTicks =
     (k : Table) (job : Tree) (input : List ℕ) → GivesNamesOnce job → StartsInNurseries job → IsSettled k job input → size_of job.steps ≤ 1000000 →
-    (f : Table) (t m : ℕ) (qs : List Started) → Reached k job input f t m qs → (q : Started) → In q qs →
+    (f : Table) (t m : ℕ) (qs : List Started) → Reached k job input f t m qs → (q : Started) → IsAmong q qs →
     tick_of (clock_of job.format) (a_round_after (clock_of job.format) q.stop.at) ≡ tick_of (clock_of job.format) q.stop.at
 
 -- The task that has another task in one of its nurseries: it was started earlier, and the other task has this serial
 -- number. The scopes and nurseries of that task's home are this nursery and those that enclose it.
 pub record Home (qs : List Started) (serial : ℕ) (home : List Place) : Type 0 where
   pub starter : Started
-  pub among : In starter qs
+  pub among : IsAmong starter qs
   pub earlier : starter.serial < serial
   pub number : ℕ
   pub same : serial ≡ starter.child number
@@ -64,21 +65,21 @@ home_of q = home_after (Some q.rest.stopped) q.rest.frames q.places
 pub record IsHoused (qs : List Started) (q : Started) : Type 0 where
   pub placed : PlacedStop q.rest.stopped q.rest.frames q.places
   pub kids : KidsAfter q.count (Some q.rest.stopped) q.rest.frames
-  pub own : EachPlace (λ l. EntersIn l q.made ⊎ Known l (labels_of (home_of q))) q.places
+  pub own : EachPlace (λ l. EntersIn l q.made ⊎ IsAmong l (labels_of (home_of q))) q.places
   pub home : live q.rest.stopped ≡ true → ((q.serial ≡ 0) × (home_of q ≡ [])) ⊎ Home qs q.serial (home_of q)
 
 abbrev pub TasksAreHoused : Type 0
 TasksAreHoused =
     (k : Table) (job : Tree) (input : List ℕ) → StartsInNurseries job →
-    (f : Table) (t m : ℕ) (qs : List Started) → Reached k job input f t m qs → (q : Started) → In q qs → IsHoused qs q
+    (f : Table) (t m : ℕ) (qs : List Started) → Reached k job input f t m qs → (q : Started) → IsAmong q qs → IsHoused qs q
 
 -- A scope or nursery that encloses a live task has not been left by the task that entered it: so the task that leaves one
 -- is the last one in it.
 abbrev pub LastToLeave : Type 0
 LastToLeave =
     (k : Table) (job : Tree) (input : List ℕ) → GivesNamesOnce job → StartsInNurseries job → IsSettled k job input →
-    (f : Table) (t m : ℕ) (qs : List Started) → Reached k job input f t m qs → (l : Label) (q : Started) → In q qs → EntersIn l q.made →
-    (x : Started) → In x qs → live x.rest.stopped ≡ true → Known l (labels_of x.places) → Known l (labels_of q.places)
+    (f : Table) (t m : ℕ) (qs : List Started) → Reached k job input f t m qs → (l : Label) (q : Started) → IsAmong q qs → EntersIn l q.made →
+    (x : Started) → IsAmong x qs → live x.rest.stopped ≡ true → IsAmong l (labels_of x.places) → IsAmong l (labels_of q.places)
 
 -- For each settled table a run agrees with it: nothing that was not done yet happens before the moment, and the
 -- table agrees there with the froms that the run keeps, for the scopes and nurseries that enclose each task. The result of the
@@ -87,14 +88,14 @@ abbrev pub RunsKeepInvariant : Type 0
 RunsKeepInvariant =
     (k : Table) (job : Tree) (input : List ℕ) → IsSettled k job input → GivesNamesOnce job → StartsInNurseries job →
     (f : Table) (t m : ℕ) (qs : List Started) → Reached k job input f t m qs →
-    RunInvariant k f (root_result k job input) qs × AllFrom k qs t × ((q : Started) → In q qs → AgreesOn t k f q.places)
+    RunInvariant k f (root_result k job input) qs × AllFrom k qs t × ((q : Started) → IsAmong q qs → AgreesOn t k f q.places)
 
 -- a run in which all tasks have ended has what the job means: its records, its froms and its end
 abbrev pub RunsAreTheMeaning : Type 0
 RunsAreTheMeaning =
     (job : Tree) (input : List ℕ) → GivesNamesOnce job → StartsInNurseries job →
     (f : Table) (t m : ℕ) (qs : List Started) → Reached (meaning_table job input) job input f t m qs →
-    (rows : ℕ → Row) → ((q : Started) → In q qs → HasRow (clock_of job.format) f rows q) → (rows 0).label ≡ root_label job.name → (rows 0).start ≡ 0 →
+    (rows : ℕ → Row) → ((q : Started) → IsAmong q qs → HasRow (clock_of job.format) f rows q) → (rows 0).label ≡ root_label job.name → (rows 0).start ≡ 0 →
     (taken : List ℕ) → DepthFirst rows (0 ∷ []) taken →
     (records_by rows taken ≡ meaning_records job input) × (froms_in rows taken ≡ meaning_froms job input)
     × ((rows 0).end ≡ meaning_end job input)
@@ -102,17 +103,14 @@ RunsAreTheMeaning =
 -- a task waits for no child that has not ended, and has not ended itself
 abbrev pub HasNextTurn : List Started → Started → Stopped → Type 0
 HasNextTurn qs q to_begin = Unit {0}
-HasNextTurn qs q (asking kernel purpose) = Unit {0}
-HasNextTurn qs q (asleep paced n since) = Unit {0}
-HasNextTurn qs q (waiting_for event since) = Unit {0}
-HasNextTurn qs q (giving_up since) = Unit {0}
 HasNextTurn qs q (awaiting children ended exc) = Settling qs q children ended 0
 HasNextTurn qs q (at_end u e) = ⊥
+HasNextTurn qs q _ = Unit {0}
 
 -- some task has a next turn
 pub record GoesOn (qs : List Started) : Type 0 where
   pub next : Started
-  pub among : In next qs
+  pub among : IsAmong next qs
   pub has : HasNextTurn qs next next.rest.stopped
 
 -- If each task has its next turn in some moment or later, and one has not ended, then one has a next turn: so the clock has a
@@ -121,7 +119,7 @@ abbrev pub BlockedRunsGoOn : Type 0
 BlockedRunsGoOn =
     (k : Table) (job : Tree) (input : List ℕ) → GivesNamesOnce job → StartsInNurseries job → IsSettled k job input →
     (f : Table) (t m : ℕ) (qs : List Started) → Reached k job input f t m qs → (u : ℕ) → Blocked f qs u →
-    (q : Started) → In q qs → live q.rest.stopped ≡ true → GoesOn qs
+    (q : Started) → IsAmong q qs → live q.rest.stopped ≡ true → GoesOn qs
 
 -- If a task of a run has not ended, the job does not end before the present tick. So if a run stops at a limit because
 -- the clock would jump past it, the job's end is past the limit.
@@ -129,4 +127,4 @@ abbrev pub LimitsAreExact : Type 0
 LimitsAreExact =
     (job : Tree) (input : List ℕ) → GivesNamesOnce job → StartsInNurseries job →
     (f : Table) (t m : ℕ) (qs : List Started) → Reached (meaning_table job input) job input f t m qs →
-    (q : Started) → In q qs → live q.rest.stopped ≡ true → tick_of (clock_of job.format) t ≤ meaning_end job input
+    (q : Started) → IsAmong q qs → live q.rest.stopped ≡ true → tick_of (clock_of job.format) t ≤ meaning_end job input

@@ -1,11 +1,13 @@
 -- The rows of a run that is over, one for each started task, and how its records and froms are read from them.
-use Rattle.std.specs.Prelude.{◌≡◌, ℕ, Option, List, [], ◌∷◌, ◌++◌}
+use Rattle.std.specs.Prelude.{◌≡◌, ℕ, Option, List, [], ◌∷◌, ◌++◌, map}
 use Rattle.exceptions.specs.Exceptions.{Label, Exc}
 use Rattle.job_meaning.specs.Log.{Table}
 use Rattle.job_meaning.specs.Moments.{tick_of}
 use Rattle.job_meaning.specs.declared.clock.Clock.{Clock}
 use Rattle.job_meaning.specs.Meaning.{Noted, Record, From, froms_by}
-use Rattle.job_meaning.specs.Rest.{Event, noted, signs, enters, starts, at_end}
+use Rattle.job_meaning.specs.Rest.{Event, noted, at_end}
+use Rattle.turn_semantics.specs.Lists.{Each}
+use Rattle.turn_semantics.specs.Made.{StartedChild, started_in, labels_entered}
 use Rattle.interleavings.specs.Interleaving.{Started}
 
 -- the row of a task: its record, the froms of the scopes and nurseries that it entered, and the rows of its children,
@@ -24,33 +26,19 @@ pub record Row : Type 0 where
 abbrev pub entries_made : Clock → List Event → List Noted
 entries_made clock [] = []
 entries_made clock (noted t e ∷ es) = record { tick = tick_of clock t; entry = e } ∷ entries_made clock es
-entries_made clock (signs l t ∷ es) = entries_made clock es
-entries_made clock (enters l t d ∷ es) = entries_made clock es
-entries_made clock (starts i l t ∷ es) = entries_made clock es
+entries_made clock (_ ∷ es) = entries_made clock es
 
 abbrev pub entered_made : List Event → List Label
-entered_made [] = []
-entered_made (noted t e ∷ es) = entered_made es
-entered_made (signs l t ∷ es) = entered_made es
-entered_made (enters l t d ∷ es) = l ∷ entered_made es
-entered_made (starts i l t ∷ es) = entered_made es
+entered_made es = labels_entered es
 
 -- the serial numbers of the children started
 abbrev pub children_made : (ℕ → ℕ) → List Event → List ℕ
-children_made child [] = []
-children_made child (noted t e ∷ es) = children_made child es
-children_made child (signs l t ∷ es) = children_made child es
-children_made child (enters l t d ∷ es) = children_made child es
-children_made child (starts i l t ∷ es) = child i ∷ children_made child es
+children_made child es = map (λ (s : StartedChild). child s.number) (started_in es)
 
 -- each child started has a row with its label and its start
 abbrev pub StartsRows : Clock → (ℕ → Row) → (ℕ → ℕ) → List Event → Type 0
-StartsRows clock rows child [] = Unit {0}
-StartsRows clock rows child (noted t e ∷ es) = StartsRows clock rows child es
-StartsRows clock rows child (signs l t ∷ es) = StartsRows clock rows child es
-StartsRows clock rows child (enters l t d ∷ es) = StartsRows clock rows child es
-StartsRows clock rows child (starts i l t ∷ es) =
-    ((rows (child i)).label ≡ l) × ((rows (child i)).start ≡ tick_of clock t) × StartsRows clock rows child es
+StartsRows clock rows child es =
+    Each (λ (s : StartedChild). ((rows (child s.number)).label ≡ s.label) × ((rows (child s.number)).start ≡ tick_of clock s.tick)) (started_in es)
 
 -- the row of a task that has ended, with the froms that the run kept; ticks alone are kept of moments
 pub record HasRow (clock : Clock) (f : Table) (rows : ℕ → Row) (q : Started) : Type 0 where

@@ -1,5 +1,6 @@
 -- When a runner may wake a task, by the froms that the runner keeps and the ends of the task's children.
 use Rattle.std.specs.Prelude.{◌≡◌, ◌⊎◌, Bool, true, false, ℕ, suc, ◌<◌, ◌≤◌, Option, List, []}
+use Rattle.turn_semantics.specs.Lists.{IsAmong}
 use Rattle.exceptions.specs.Exceptions.{Exc}
 use Rattle.cancel_scopes.specs.Sight.{seen}
 use Rattle.job_meaning.specs.Log.{Member, Table}
@@ -8,17 +9,16 @@ use Rattle.job_meaning.specs.declared.clock.Clock.{Clock}
 use Rattle.job_meaning.specs.Asking.{answer_of}
 use Rattle.job_meaning.specs.Rest.{Stopped, to_begin, asking, asleep, waiting_for, giving_up, awaiting, at_end}
 use Rattle.turn_semantics.specs.Midway.{stack_at}
-use Rattle.turn_semantics.specs.Placed.{IsAmong}
 use Rattle.turn_semantics.specs.Wakes.{Wake, begins, sees, gives_up, is_due, has_answer, settles, ends_at, SettlesAt}
 pub use Rattle.interleavings.specs.Interleaving.{members_by}
-use Rattle.interleavings.specs.Interleaving.{Started, In}
+use Rattle.interleavings.specs.Interleaving.{Started}
 
 -- the nursery of a wait is over in moment t: the tasks with the children's serial numbers have ended, the last of them
 -- then or a round before, and this is their group
 pub record WaitIsOver (qs : List Started) (q : Started) (t : ℕ) (children : List ℕ) (ended : ℕ) (e x : Option Exc) : Type 0 where
   pub ends : ℕ → Member
   pub numbers : (i : ℕ) → IsAmong i children → i < q.count
-  pub over : (i : ℕ) → IsAmong i children → (c : Started) → In c qs → c.serial ≡ q.child i →
+  pub over : (i : ℕ) → IsAmong i children → (c : Started) → IsAmong c qs → c.serial ≡ q.child i →
       c.rest.stopped ≡ at_end (ends i).end (ends i).exc
   pub settled : SettlesAt q.here.clock t x (members_by ends children) ended e q.places
 

@@ -78,21 +78,13 @@ after_picks world (p ∷ ps) = after_picks (turn_in world.froms p.tick p.wake p.
 
 abbrev pub end_kept : Stopped → ℕ
 end_kept to_begin = 0
-end_kept (asking kernel purpose) = 0
-end_kept (asleep paced n since) = 0
-end_kept (waiting_for event since) = 0
-end_kept (giving_up since) = 0
-end_kept (awaiting children ended exc) = 0
 end_kept (at_end u e) = u
+end_kept _ = 0
 
 abbrev pub exc_kept : Stopped → Option Exc
 exc_kept to_begin = None
-exc_kept (asking kernel purpose) = None
-exc_kept (asleep paced n since) = None
-exc_kept (waiting_for event since) = None
-exc_kept (giving_up since) = None
-exc_kept (awaiting children ended exc) = None
 exc_kept (at_end u e) = e
+exc_kept _ = None
 
 -- the records of tasks that have ended
 abbrev pub records_kept : List Kept → List Record

@@ -2,12 +2,12 @@
 use Rattle.std.proofs.Common.{◌≡◌, inl, inr, ℕ, suc, ◌+◌, ◌≤◌, Option, Some, None, List, [], ◌∷◌, length, refl, ap, sym, ◌∙◌, subst, arith}
 use Rattle.std.specs.Prelude.{All, IsSome, is_some, ◌==◌, map}
 use Rattle.std.proofs.lemmas.List.Elements.{All-head, All-tail, All-weaker}
+use Rattle.turn_semantics.specs.Lists.{IsAmong}
 use Rattle.task_table.specs.declared.entry.Call.{Call}
 use Rattle.task_table.specs.declared.entry.Call.TheVariants.{Begin, Due, Seen, Settled, Ask}
 use Rattle.task_table.specs.declared.entry.Entry.{Entry}
 use Rattle.task_table.specs.Entries.{requests_of}
 use Rattle.input_lines.specs.declared.answers.Answer.{Answer}
-use Rattle.interleavings.specs.Interleaving.{In}
 use Rattle.run_refinement.specs.Laws.{AreDistinct}
 use Rattle.run_refinement.proofs.FewTasks.{state_few}
 use Rattle.task_table.specs.TaskTable.{running_at, task_of, task_count, IsTaskTable}
@@ -45,7 +45,7 @@ record Runs (r : TaskTable) (e : Entry) : Type 0 where
 
 -- a row that is among those of entries has its id among them
 among : (r : TaskTable) → IsTaskTable r → (id : ℕ) (x : Running) → running_at r id ≡ Some x → (es : List Entry) → All (Runs r) es →
-    In x.row (rows_in r es) →
+    IsAmong x.row (rows_in r es) →
     1 ≤ times id (map (λ (e : Entry). e.task) es)
 among r agree id x e [] all i = absurd i
 among r agree id x e (y ∷ es) all (inl h) =
@@ -74,16 +74,16 @@ rows_differ r agree (e ∷ es) all once = (no_other, rows_differ r agree es rest
     fewer : (id : ℕ) → times id (map (λ (z : Entry). z.task) es) ≤ 1
     fewer id = omega (arith, once id, more id)
 
-    no_other : In (row_in (running_at r e.task)) (rows_in r es) → ⊥
+    no_other : IsAmong (row_in (running_at r e.task)) (rows_in r es) → ⊥
     no_other i =
         let f = All-head (Runs r) e es all in
         let row = ap row_in f.is in
-        let some = among r agree e.task f.running f.is es rest (subst (λ (n : ℕ). In n (rows_in r es)) row i) in
+        let some = among r agree e.task f.running f.is es rest (subst (λ (n : ℕ). IsAmong n (rows_in r es)) row i) in
         let one = one_same e.task e.task refl in
         omega (arith, some, one, once e.task, more e.task)
 
 -- each is of a task that has not ended
-rows_live : (r : TaskTable) → IsTaskTable r → (es : List Entry) → All (Runs r) es → (s : ℕ) → In s (rows_in r es) → IsSome (task_of r s)
+rows_live : (r : TaskTable) → IsTaskTable r → (es : List Entry) → All (Runs r) es → (s : ℕ) → IsAmong s (rows_in r es) → IsSome (task_of r s)
 rows_live r agree [] all s i = absurd i
 rows_live r agree (e ∷ es) all s (inl h) =
     let f = All-head (Runs r) e es all in

@@ -1,6 +1,7 @@
 -- What a task does to scopes, by the froms of labels: other tasks see what they see by the new froms.
 use Rattle.std.proofs.Common.{◌≡◌, ◌⊎◌, inl, inr, ℕ, Bool, true, false, Some, List, [], ◌∷◌, refl, ap, sym, ◌∙◌, subst, Option}
 use Rattle.std.specs.Option.{option_map}
+use Rattle.turn_semantics.specs.Lists.{IsAmong}
 use Rattle.exceptions.specs.Exceptions.{Label}
 use Rattle.cancel_scopes.specs.Sight.{Tick}
 use Rattle.cancel_scopes.specs.Tree.{Stack, Tree, stack_of, after_cancel}
@@ -9,7 +10,7 @@ use Rattle.job_meaning.specs.Rest.{Event}
 use Rattle.job_meaning.proofs.Distinct.{same_label_equal}
 use Rattle.turn_semantics.specs.Midway.{Place}
 use Rattle.turn_semantics.specs.Steps.{froms_after_sign, from_lowered_if, froms_after_entry, from_entered_if, froms_after}
-use Rattle.turn_semantics.specs.Turned.{Known, labels_of}
+use Rattle.turn_semantics.specs.Turned.{labels_of}
 use Rattle.task_machine.specs.Acts.{Scoping, Signs, Sets, Enters, Leaves, Acts, no_act, act_noted, act_starts, act_signs, act_sets, act_enters, act_leaves}
 use Rattle.task_machine.specs.Fitting.{AreOthers}
 use Rattle.task_machine.specs.Labels.{Labels, Events}
@@ -97,7 +98,7 @@ alone_of s h key label e (l ∷ ls) = ((λ f. h.labels l.label key label f e), a
 -- the labels of enclosing scopes and nurseries are those of scopes
 known_at : (known : Label → Type 0) (s : Scoping) (f : Table) → HasKnown known s → (st : Stack) (ps : List Place) →
     AreAt s.labels s.events f st ps →
-    (l : Label) → Known l (labels_of ps) → known l
+    (l : Label) → IsAmong l (labels_of ps) → known l
 known_at known s f h [] [] a l i = absurd i
 known_at known s f h [] (p ∷ ps) a l i = absurd a
 known_at known s f h (x ∷ xs) [] a l i = absurd i

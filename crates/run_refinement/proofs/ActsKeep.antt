@@ -4,13 +4,13 @@ use Rattle.std.proofs.lemmas.Bool.{eqb-true, eq-eqb}
 use Rattle.std.proofs.lemmas.List.Elements.{All-nil, All-cons, All-head, All-tail}
 use Rattle.std.specs.Prelude.{All, IsSome}
 use Rattle.std.specs.Option.{option_map, unwrap_or}
+use Rattle.turn_semantics.specs.Lists.{IsAmong}
 use Rattle.exceptions.specs.Exceptions.{Label}
 use Rattle.cancel_scopes.specs.Sight.{Tick, Level, earlier}
 use Rattle.cancel_scopes.specs.Tree.{Stack, Tree, stack_of, outer_of, own_label, IsOpen, IsOwn, OthersKeep, after_cancel}
 use Rattle.job_meaning.specs.Rest.{Event}
 use Rattle.interleavings.specs.Rows.{entered_made}
 use Rattle.run_refinement.specs.Turn.{AreNew}
-use Rattle.turn_semantics.specs.Turned.{Known}
 use Rattle.task_machine.specs.Acts.{Scoping, Signs, Sets, Enters, Leaves, Acts, no_act, act_noted, act_starts, act_signs, act_sets, act_enters, act_leaves}
 use Rattle.task_machine.specs.Labels.{Labels, Updates}
 use Rattle.task_machine.specs.Stacked.{IsKey}
@@ -37,7 +37,7 @@ NoneHas l s = (key : ℕ) → s.labels key ≡ Some l → ⊥
 
 -- what was known, or was entered
 abbrev pub KnownWith : (Label → Type 0) → List Event → Label → Type 0
-KnownWith known es l = known l ⊎ Known l (entered_made es)
+KnownWith known es l = known l ⊎ IsAmong l (entered_made es)
 
 -- ---- numbers, options and lists
 
@@ -275,7 +275,7 @@ apart_leaves known {s} {m} g h k = (
 
 -- what was known with one label more, or was entered later
 pub known_one : (known : Label → Type 0) (label l : Label) (es : List Event) → KnownWith (λ m. (m ≡ label) ⊎ known m) es l → known l
-    ⊎ Known l (label ∷ entered_made es)
+    ⊎ IsAmong l (label ∷ entered_made es)
 known_one known label l es (inl (inl e)) = inr (inl e)
 known_one known label l es (inl (inr k)) = inl k
 known_one known label l es (inr i) = inr (inr i)

@@ -4,6 +4,7 @@ use Rattle.std.proofs.lemmas.List.{map-append}
 use Rattle.std.proofs.lemmas.List.Elements.{All-nil, All-cons, All-head, All-tail, All-append}
 use Rattle.std.specs.Prelude.{All, slice_get, slice_set}
 use Rattle.std.specs.Option.{option_map}
+use Rattle.turn_semantics.specs.Lists.{IsAmong}
 use Rattle.exceptions.specs.Exceptions.{Label}
 use Rattle.cancel_scopes.specs.Sight.{Tick, earlier, next}
 use Rattle.cancel_scopes.specs.Tree.{Stack, Tree, stack_of, own_from, own_label, after_cancel, outer_of}
@@ -11,7 +12,6 @@ use Rattle.job_meaning.specs.Log.{Table, same_label}
 use Rattle.job_meaning.specs.Rest.{Event}
 use Rattle.job_meaning.proofs.Distinct.{same_label_itself}
 use Rattle.turn_semantics.specs.Steps.{froms_after_sign, from_lowered_if, froms_after_entry, from_entered_if, froms_after}
-use Rattle.turn_semantics.specs.Turned.{Known}
 use Rattle.task_machine.specs.declared.entry.ScopeFrom.{ScopeFrom}
 use Rattle.task_machine.specs.declared.task.Own.{Own}
 use Rattle.task_machine.specs.Acts.{Scoping, Signs, Sets, set_at_entry, kept_from, Enters, Leaves, Acts, no_act, act_noted, act_starts, act_signs, act_sets, act_enters, act_leaves}
@@ -434,7 +434,7 @@ tracked known f entered (act_enters s m u l t d es g a) sound apart has new h =
     let n = apart_enters known g new.0 apart has in
     let more = tracked (λ x. (x ≡ l) ⊎ known x) (froms_after_entry f l d) (entered ++ l ∷ []) a (sound_enters g sound) n.0 n.1 new.1
     (tracks_enters g has new.0 h) in
-    subst (Tracks (λ x. known x ⊎ Known x (l ∷ entered_made es)) (froms_after (froms_after_entry f l d) es) u)
+    subst (Tracks (λ x. known x ⊎ IsAmong x (l ∷ entered_made es)) (froms_after (froms_after_entry f l d) es) u)
     (append_assoc entered (l ∷ []) (entered_made es))
     (tracks_more (λ x k. known_one known l x es k) more)
 tracked known f entered (act_leaves s m u es g a) sound apart has new h =

@@ -3,6 +3,7 @@
 use Rattle.std.proofs.Common.{◌≡◌, ◌⊎◌, inl, inr, ◌&&◌, Bool, true, false, ℕ, zero, suc, ◌+◌, ◌*◌, ◌<◌, ◌≤◌, max, Option, Some, None, List, [], ◌∷◌, length, refl, ap, sym, ◌∙◌, subst, arith}
 use Rattle.std.specs.Prelude.{is_some, slice_get}
 use Rattle.std.specs.List.{list_all}
+use Rattle.turn_semantics.specs.Lists.{IsAmong}
 use Rattle.exceptions.specs.Exceptions.{Exc}
 use Rattle.cancel_scopes.specs.Tree.{outer_of}
 use Rattle.nursery_book.specs.Nursery.{End, Nursery, is_settled}
@@ -21,7 +22,6 @@ use Rattle.job_meaning.specs.Follow.{IsSettled}
 use Rattle.job_meaning.specs.Meaning.{meaning_end, meaning_table}
 use Rattle.job_meaning.specs.Rest.{Stopped, to_begin, asking, asleep, waiting_for, giving_up, awaiting, at_end}
 use Rattle.turn_semantics.specs.Midway.{stack_at}
-use Rattle.turn_semantics.specs.Placed.{IsAmong}
 use Rattle.turn_semantics.specs.Wakes.{ends_at}
 use Rattle.task_machine.specs.declared.stop.TaskState.{TaskState}
 use Rattle.task_machine.specs.declared.stop.TaskState.TheVariants.{ToBegin, Asked, Asleep, Waiting, GivingUp, Awaits, Over}
@@ -36,7 +36,7 @@ use Rattle.task_machine.specs.Stops.{IsTaskState}
 use Rattle.task_machine.specs.Tasks.{scope_of}
 use Rattle.task_machine.specs.Worlds.{label_at, event_at}
 use Rattle.task_machine.proofs.Stacked.{sight_at}
-use Rattle.interleavings.specs.Interleaving.{Started, In, live, Unended, Settling, StaysUntil, Blocked, members_by}
+use Rattle.interleavings.specs.Interleaving.{Started, live, Unended, Settling, StaysUntil, Blocked, members_by}
 use Rattle.interleavings.specs.Laws.{HasNextTurn, GoesOn}
 use Rattle.interleavings.specs.Runs.{turns_taken}
 use Rattle.interleavings.proofs.Running.{blocked_runs_go_on, limits_are_exact, runs_end}
@@ -127,7 +127,7 @@ module _ (k : Table) (job : Job) (input : List ℕ) (t m : ℕ) (state : RunStat
       runs = subst (IsMember state at n.last id place.0 ((at s).child number.0)) place.1 member.1
 
   -- a task with that serial number has not ended
-  child_lives : (s : ℕ) (children : List ℕ) (r : Running state (at s) children) (x : Started) → In x qs → x.serial ≡ (at s).child r.number →
+  child_lives : (s : ℕ) (children : List ℕ) (r : Running state (at s) children) (x : Started) → IsAmong x qs → x.serial ≡ (at s).child r.number →
       live x.rest.stopped ≡ true
   child_lives s children r x j e =
       ap (λ (y : Started). live y.rest.stopped) ((c.interleaving.one x j).0 ∙ ap at e)

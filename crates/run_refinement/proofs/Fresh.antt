@@ -2,6 +2,7 @@
 use Rattle.std.proofs.lemmas.Bool.{eqb-true, eq-eqb}
 use Rattle.std.proofs.lemmas.Bool.Decides.{nat_tests}
 use Rattle.std.proofs.Common.{◌≡◌, ◌≢◌, ◌⊎◌, inl, inr, ◌==◌, nat_lt, Bool, true, false, ℕ, ◌+◌, ◌<◌, ◌≤◌, List, [], ◌∷◌, ◌++◌, length, refl, ap, sym, ◌∙◌, subst, arith}
+use Rattle.turn_semantics.specs.Lists.{IsAmong}
 use Rattle.exceptions.specs.Exceptions.{Label}
 use Rattle.job_tree.specs.Tree.{Tree as Job}
 use Rattle.job_tree.specs.Names.{GivesNamesOnce}
@@ -10,8 +11,8 @@ use Rattle.job_meaning.specs.Log.{Table}
 use Rattle.job_meaning.specs.Follow.{IsSettled}
 use Rattle.job_meaning.specs.Rest.{Event, noted, signs, enters, starts, Stopped}
 use Rattle.turn_semantics.specs.Midway.{Move}
-use Rattle.turn_semantics.specs.Turned.{Known, EntersIn}
-use Rattle.interleavings.specs.Interleaving.{Started, In, times_made, made_times}
+use Rattle.turn_semantics.specs.Turned.{EntersIn}
+use Rattle.interleavings.specs.Interleaving.{Started, times_made, made_times}
 use Rattle.interleavings.specs.Rows.{entered_made}
 use Rattle.interleavings.proofs.Readings.{times_join, enters_counted, made_few, made_counted}
 use Rattle.interleavings.proofs.Running.{runs_keep_invariant}
@@ -63,7 +64,7 @@ fresh_after k job input t m s own was o stopped settled names starting less w = 
     made : (w.is.at s).made ≡ (was.at s).made ++ o.made
     made = ap (λ (x : Started). x.made) w.of_task
 
-    there : In (w.is.at s) w.is.tasks × ((w.is.at s).serial ≡ s)
+    there : IsAmong (w.is.at s) w.is.tasks × ((w.is.at s).serial ≡ s)
     there = w.is.has s (omega (arith, less))
 
     joined : (l : Label) → times_made l (w.is.at s).made ≡ times_made l (was.at s).made + times_made l o.made
@@ -72,12 +73,12 @@ fresh_after k job input t m s own was o stopped settled names starting less w = 
     by_times : (l : Label) → times_made l o.made ≤ 1
     by_times l = let f = once l in let g = made_counted l (w.is.at s) w.is.tasks there.0 in let h = joined l in omega (arith, f, g, h)
 
-    by_serial : (l : Label) (p : ℕ) → Known l (entered_made (was.at p).made) → EntersIn l o.made → (b : Bool) → (p == s) ≡ b → (c : Bool) →
+    by_serial : (l : Label) (p : ℕ) → IsAmong l (entered_made (was.at p).made) → EntersIn l o.made → (b : Bool) → (p == s) ≡ b → (c : Bool) →
         nat_lt p m ≡ c → ⊥
     by_serial l p known i true e c f =
         let is : p ≡ s = eqb-true p s e in
         let had = enters_counted l (was.at s).made (known_enters l (was.at s).made
-        (subst (λ (n : ℕ). Known l (entered_made (was.at n).made)) is known)) in
+        (subst (λ (n : ℕ). IsAmong l (entered_made (was.at n).made)) is known)) in
         let new = enters_counted l o.made i in
         let most = once l in let g = made_counted l (w.is.at s) w.is.tasks there.0 in let h = joined l in
         absurd (omega (arith, had, new, most, g, h))
@@ -94,7 +95,7 @@ fresh_after k job input t m s own was o stopped settled names starting less w = 
         absurd (omega (arith, had, had_there, new, both, most, h))
     by_serial l p known i false e false f =
         let upper : m ≤ p = grind (arith, nat_tests) in
-        subst (λ (es : List Event). Known l (entered_made es)) (was.none p upper) known
+        subst (λ (es : List Event). IsAmong l (entered_made es)) (was.none p upper) known
 
     by_known : (l : Label) → IsEntered was.at l → EntersIn l o.made → ⊥
     by_known l known i = by_serial l known.0 known.1 i (known.0 == s) refl (nat_lt known.0 m) refl

@@ -4,6 +4,7 @@ use Rattle.std.proofs.Common.{◌≡◌, ◌≢◌, ◌⊎◌, inl, inr, ℕ, ze
 use Rattle.std.proofs.lemmas.Bool.{eqb-true, eq-eqb}
 use Rattle.std.proofs.lemmas.Bool.Decides.{nat_tests}
 use Rattle.std.specs.List.{slice_get}
+use Rattle.turn_semantics.specs.Lists.{IsAmong}
 use Rattle.cancel_scopes.specs.Sight.{seen}
 use Rattle.job_tree.specs.Tree.{Tree as Job}
 use Rattle.job_meaning.specs.Log.{Table}
@@ -14,7 +15,7 @@ use Rattle.turn_semantics.specs.Midway.{Begun, Move, stack_at}
 use Rattle.turn_semantics.specs.Steps.{froms_after}
 use Rattle.turn_semantics.specs.Turned.{TurnsOver}
 use Rattle.turn_semantics.specs.Wakes.{Wake, begins, sees, gives_up, is_due, has_answer, settles, ends_at, CanWake, from_start, from_asking, from_sleep, from_due, from_seen_waiting, from_set, from_giving_up, from_wait}
-use Rattle.interleavings.specs.Interleaving.{Started, In}
+use Rattle.interleavings.specs.Interleaving.{Started}
 use Rattle.interleavings.specs.Going.{task_after_turn, children_from}
 use Rattle.interleavings.specs.Woken.{MayWake, WaitIsOver}
 use Rattle.interleavings.specs.Runs.{turn, Front, is_front, after_one, turns_taken}
@@ -32,7 +33,7 @@ pub record Others (q : Started) (qs : List Started) : Type 0 where
   pub front : Front q qs others
 
 -- any task of a run may be taken to the front
-pub front_of : (q : Started) (qs : List Started) → In q qs → Others q qs
+pub front_of : (q : Started) (qs : List Started) → IsAmong q qs → Others q qs
 front_of q [] i = absurd i
 front_of q (x ∷ qs) (inl e) = subst (λ (y : Started). Others q (y ∷ qs)) e (record { others = qs; front = is_front q qs })
 front_of q (x ∷ qs) (inr i) =
@@ -45,7 +46,7 @@ apart_front q _ _ (after_one q' x qs' others' at) a =
     let same = front_same q' qs' others' at in
     (by_either inner.0 (same.back q' (inl refl)), (λ y i e. a.0 y (same.back y (inr i)) e, inner.1))
   where
-    by_either : ((y : Started) → In y others' → y.serial ≢ q'.serial) → In q' qs' → (y : Started) → In y (x ∷ others') →
+    by_either : ((y : Started) → IsAmong y others' → y.serial ≢ q'.serial) → IsAmong q' qs' → (y : Started) → IsAmong y (x ∷ others') →
         y.serial ≢ q'.serial
     by_either inner there y (inl e) f = a.0 q' there (sym f ∙ ap (λ (z : Started). z.serial) e)
     by_either inner there y (inr i) f = inner y i f
@@ -59,7 +60,7 @@ nth_child k t m (b ∷ bs) zero d = child_at k t m b
 nth_child k t m (b ∷ bs) (suc i) d = nth_child k t (suc m) bs i d
 
 nth_in : (k : Table) (t m : ℕ) (bs : List Begun) (i : ℕ) (d : Started) → i < length bs →
-    In (nth_child k t m bs i d) (children_from k t m bs) × ((nth_child k t m bs i d).serial ≡ m + i)
+    IsAmong (nth_child k t m bs i d) (children_from k t m bs) × ((nth_child k t m bs i d).serial ≡ m + i)
 unfolding children_from
 nth_in k t m [] i d less = absurd (omega (arith, less))
 nth_in k t m (b ∷ bs) zero d less = (inl refl, omega arith)
@@ -72,7 +73,7 @@ record IsNth (k : Table) (t m : ℕ) (bs : List Begun) (d x : Started) : Type 0 
   pub serial : x.serial ≡ m + place
   pub is : x ≡ nth_child k t m bs place d
 
-in_nth : (k : Table) (t m : ℕ) (bs : List Begun) (d x : Started) → In x (children_from k t m bs) → IsNth k t m bs d x
+in_nth : (k : Table) (t m : ℕ) (bs : List Begun) (d x : Started) → IsAmong x (children_from k t m bs) → IsNth k t m bs d x
 unfolding children_from
 in_nth k t m [] d x i = absurd i
 in_nth k t m (b ∷ bs) d x (inl e) =
@@ -107,22 +108,22 @@ children_apart k t m [] = tt
 children_apart k t m (b ∷ bs) =
     (λ x i e. let h = in_nth k t (suc m) bs x x i in let g = h.serial in absurd (omega (arith, e, g)), children_apart k t (suc m) bs)
 
-apart_append : (xs ys : List Started) → AreApart xs → AreApart ys → ((x y : Started) → In x xs → In y ys → y.serial ≢ x.serial) →
+apart_append : (xs ys : List Started) → AreApart xs → AreApart ys → ((x y : Started) → IsAmong x xs → IsAmong y ys → y.serial ≢ x.serial) →
     AreApart (xs ++ ys)
 apart_append [] ys a b differ = b
 apart_append (x ∷ xs) ys a b differ = (by_part, apart_append xs ys a.1 b (λ y z i j. differ y z (inr i) j))
   where
-    by_either : (y : Started) → In y xs ⊎ In y ys → y.serial ≢ x.serial
+    by_either : (y : Started) → IsAmong y xs ⊎ IsAmong y ys → y.serial ≢ x.serial
     by_either y (inl i) = a.0 y i
     by_either y (inr i) = differ x y (inl refl) i
 
-    by_part : (y : Started) → In y (xs ++ ys) → y.serial ≢ x.serial
+    by_part : (y : Started) → IsAmong y (xs ++ ys) → y.serial ≢ x.serial
     by_part y i = by_either y (in_either y xs ys i)
 
 -- ---- what may wake a task, where the tasks are in another order
 
 wait_moved : (qs rs : List Started) (q : Started) (t : ℕ) (children : List ℕ) (ended : ℕ) (e x : Option Exc) →
-    ((c : Started) → In c rs → In c qs) →
+    ((c : Started) → IsAmong c rs → IsAmong c qs) →
     WaitIsOver qs q t children ended e x → WaitIsOver rs q t children ended e x
 wait_moved qs rs q t children ended e x back h =
     record { ends = h.ends; numbers = h.numbers; over = λ i among c is serial. h.over i among c (back c is) serial; settled = h.settled }
@@ -155,7 +156,7 @@ ready_by f g qs rs now q _ _ same set over h = absurd h
 
 -- a task that may be woken among some tasks may be woken among fewer of them
 pub may_moved : (f : Table) (qs rs : List Started) (now : Now) (q : Started) (w : Wake) (s : Stopped) →
-    ((c : Started) → In c rs → In c qs) → MayWake f qs now q w s → MayWake f rs now q w s
+    ((c : Started) → IsAmong c rs → IsAmong c qs) → MayWake f qs now q w s → MayWake f rs now q w s
 may_moved f qs rs now q w s back h =
     ready_by f f qs rs now q w s refl (λ event since. refl) (λ children ended e x over. wait_moved qs rs q now.at children ended e x back over) h
 
@@ -276,20 +277,20 @@ went_on k job input t m s own was wake o stopped less may goes stops =
     at_child i = at_born (m + i) (omega arith) ∙ ap (λ (x : ℕ). nth_child k later m o.begun x (was.at (m + i)))
         (let e : m + i - m ≡ i = omega arith in e)
 
-    has_old : (p : ℕ) → p < m → p ≢ s → In (was.at p) others
+    has_old : (p : ℕ) → p < m → p ≢ s → IsAmong (was.at p) others
     has_old p lt differs = by_either (same.forth (was.at p) (was.has p lt).0)
       where
-        by_either : In (was.at p) (q ∷ others) → In (was.at p) others
+        by_either : IsAmong (was.at p) (q ∷ others) → IsAmong (was.at p) others
         by_either (inl e) = absurd (differs (sym (was.has p lt).1 ∙ ap (λ (x : Started). x.serial) e ∙ (was.has s less).1))
         by_either (inr i) = i
 
-    has_after : (p : ℕ) → p < m + length o.begun → In (at_after p) ((task_after_turn k now m q o stopped ∷ children_from k later m o.begun)
+    has_after : (p : ℕ) → p < m + length o.begun → IsAmong (at_after p) ((task_after_turn k now m q o stopped ∷ children_from k later m o.begun)
         ++ others)
         × ((at_after p).serial ≡ p)
     has_after p lt = by_same (p == s) refl (nat_lt p m) refl
       where
         Has : Started → Type 0
-        Has x = In x ((task_after_turn k now m q o stopped ∷ children_from k later m o.begun) ++ others) × (x.serial ≡ p)
+        Has x = IsAmong x ((task_after_turn k now m q o stopped ∷ children_from k later m o.begun) ++ others) × (x.serial ≡ p)
 
         by_same : (b : Bool) → (p == s) ≡ b → (c : Bool) → nat_lt p m ≡ c → Has (at_after p)
         by_same true e c f =
@@ -310,12 +311,12 @@ went_on k job input t m s own was wake o stopped less may goes stops =
               (let e = h.1 in omega (arith, e, upper)),
             )
 
-    one_after : (x : Started) → In x ((task_after_turn k now m q o stopped ∷ children_from k later m o.begun) ++ others) →
+    one_after : (x : Started) → IsAmong x ((task_after_turn k now m q o stopped ∷ children_from k later m o.begun) ++ others) →
         (x ≡ at_after x.serial)
         × (x.serial < m + length o.begun)
     one_after x i = by_part (in_either x (task_after_turn k now m q o stopped ∷ children_from k later m o.begun) others i)
       where
-        by_part : In x (task_after_turn k now m q o stopped ∷ children_from k later m o.begun) ⊎ In x others → (x ≡ at_after x.serial)
+        by_part : IsAmong x (task_after_turn k now m q o stopped ∷ children_from k later m o.begun) ⊎ IsAmong x others → (x ≡ at_after x.serial)
             × (x.serial < m + length o.begun)
         by_part (inl (inl e)) =
             let is_s : x.serial ≡ s = ap (λ (y : Started). y.serial) e ∙ (was.has s less).1 in
@@ -337,18 +338,18 @@ went_on k job input t m s own was wake o stopped less may goes stops =
     differ_after =
         (by_part, apart_append (children_from k later m o.begun) others (children_apart k later m o.begun) apart.1 after)
       where
-        after : (x y : Started) → In x (children_from k later m o.begun) → In y others → y.serial ≢ x.serial
+        after : (x y : Started) → IsAmong x (children_from k later m o.begun) → IsAmong y others → y.serial ≢ x.serial
         after x y i j e =
             let h = in_nth k later m o.begun x x i in let g = (was.one y (same.back y (inr j))).1 in let z =
             h.serial in absurd (omega (arith, e, g, z))
 
-        by_either : (x : Started) → In x (children_from k later m o.begun) ⊎ In x others → x.serial ≢ q.serial
+        by_either : (x : Started) → IsAmong x (children_from k later m o.begun) ⊎ IsAmong x others → x.serial ≢ q.serial
         by_either x (inl i) e =
             let h = in_nth k later m o.begun x x i in let g = (was.has s less).1 in let z =
             h.serial in absurd (omega (arith, e, g, z, less))
         by_either x (inr i) e = apart.0 x i e
 
-        by_part : (x : Started) → In x (children_from k later m o.begun ++ others) → x.serial ≢ q.serial
+        by_part : (x : Started) → IsAmong x (children_from k later m o.begun ++ others) → x.serial ≢ q.serial
         by_part x i = by_either x (in_either x (children_from k later m o.begun) others i)
 
     none_after : (p : ℕ) → m + length o.begun ≤ p → (at_after p).made ≡ []

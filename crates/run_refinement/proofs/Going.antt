@@ -2,6 +2,7 @@
 use Rattle.std.proofs.Common.{◌≡◌, ◌⊎◌, inl, inr, ◌&&◌, Bool, true, false, ℕ, zero, suc, ◌<◌, ◌≤◌, max, Option, Some, None, List, [], ◌∷◌, ◌++◌, map, length, refl, ap, sym, ◌∙◌, subst, arith}
 use Rattle.std.specs.Prelude.{IsSome, is_some, slice_get, MatchOption}
 use Rattle.std.specs.List.{list_all}
+use Rattle.turn_semantics.specs.Lists.{IsAmong}
 use Rattle.input_lines.specs.Lines.{Span}
 use Rattle.input_lines.specs.Part.{buffer_of, range_of, span_of}
 use Rattle.input_lines.specs.declared.part.Part.{Part}
@@ -29,7 +30,6 @@ use Rattle.job_meaning.specs.Asking as ask
 use Rattle.job_meaning.specs.Follow.{IsSettled}
 use Rattle.job_meaning.specs.Rest.{told_members, Stopped, to_begin, asking, asleep, waiting_for, giving_up, awaiting, at_end}
 use Rattle.turn_semantics.specs.Midway.{Place, stack_at}
-use Rattle.turn_semantics.specs.Placed.{IsAmong}
 use Rattle.turn_semantics.specs.Turned.{AgreesOn}
 use Rattle.turn_semantics.specs.Wakes.{ends_at, SettlesAt}
 use Rattle.task_machine.specs.declared.stop.TaskState.{TaskState}
@@ -50,7 +50,7 @@ use Rattle.task_machine.specs.Tasks.{home_scope, scope_of}
 use Rattle.task_machine.specs.Waking.{WakesFrom, answer_in, raised_in, wake_in}
 use Rattle.task_machine.specs.Worlds.{label_at, event_at}
 use Rattle.task_machine.proofs.Stacked.{one_of, seen_at}
-use Rattle.interleavings.specs.Interleaving.{Started, In, RunInvariant, live, goes_on, AllFrom}
+use Rattle.interleavings.specs.Interleaving.{Started, RunInvariant, live, goes_on, AllFrom}
 use Rattle.interleavings.specs.Going.{root_result}
 use Rattle.interleavings.specs.Woken.{members_by, SeesNow, IsOver, WaitIsOver, MayWake}
 use Rattle.interleavings.proofs.Running.{runs_keep_invariant}
@@ -263,7 +263,7 @@ ended_waits k job input t m leaving state c s a id e (inr waits) over = waits
 pub record Waited (at : ℕ → Started) (qs : List Started) (q : Started) (children : List ℕ) (ended : ℕ) (n : Nursery) : Type 0 where
   pub found : AllEnded at n.last q.child children n.children
   pub numbers : (i : ℕ) → IsAmong i children → i < q.count
-  pub over : (i : ℕ) → IsAmong i children → (x : Started) → In x qs → x.serial ≡ q.child i →
+  pub over : (i : ℕ) → IsAmong i children → (x : Started) → IsAmong x qs → x.serial ≡ q.child i →
       x.rest.stopped ≡ at_end (ends at n.last q.child i).end (ends at n.last q.child i).exc
   pub last : latest ended (members_by (ends at n.last q.child) children) ≡ n.last
 
@@ -309,7 +309,7 @@ waited k job input t m state c s task lives id since u children task_state numbe
         let g = among_got i (c.numbers s id) (subst (IsAmong i) (sym numbers) among) in
         (has.members g.0 i g.1).0
 
-    child_over : (i : ℕ) → IsAmong i children → (x : Started) → In x qs → x.serial ≡ q.child i →
+    child_over : (i : ℕ) → IsAmong i children → (x : Started) → IsAmong x qs → x.serial ≡ q.child i →
         x.rest.stopped ≡ at_end (ends at n.last q.child i).end (ends at n.last q.child i).exc
     child_over i among x j e =
         ap (λ (y : Started). y.rest.stopped) ((c.interleaving.one x j).0 ∙ ap at e)
@@ -369,10 +369,10 @@ may_wake k job input t m state settled names starting c s task lives wake may =
     clock : state.world.clock ≡ q.here.clock
     clock = ap (λ (h : Here). h.clock) it.here
 
-    there : In q qs
+    there : IsAmong q qs
     there = (c.interleaving.has s (below_of c s task lives)).0
 
-    on : RunInvariant k f (root_result k job input) qs × AllFrom k qs t × ((x : Started) → In x qs → AgreesOn t k f x.places)
+    on : RunInvariant k f (root_result k job input) qs × AllFrom k qs t × ((x : Started) → IsAmong x qs → AgreesOn t k f x.places)
     on = runs_keep_invariant k job input settled names starting f t m qs c.interleaving.reached
 
     stack : Stack

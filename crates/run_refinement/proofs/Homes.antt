@@ -1,12 +1,13 @@
 -- The scopes and nurseries that enclose a task at one of its nurseries are those of the nursery's scope.
 use Rattle.std.proofs.Common.{◌≡◌, inl, inr, ℕ, Option, Some, None, List, [], ◌∷◌, ◌++◌, refl, ap, sym, subst}
 use Rattle.std.specs.Option.{unwrap_or}
+use Rattle.turn_semantics.specs.Lists.{IsAmong}
 use Rattle.cancel_scopes.specs.Sight.{Level}
 use Rattle.cancel_scopes.specs.Tree.{Stack, Tree, stack_of, outer_of, IsChain}
 use Rattle.job_meaning.specs.Log.{Table}
 use Rattle.job_meaning.specs.Rest.{Frame, steps_left, in_scope, in_event, in_nursery, in_repeat, in_try, in_handler, in_cleanup, Stopped, to_begin, asking, asleep, waiting_for, giving_up, awaiting, at_end}
 use Rattle.turn_semantics.specs.Midway.{Place}
-use Rattle.turn_semantics.specs.Placed.{IsAmong, HasChild, HasChildAfter}
+use Rattle.turn_semantics.specs.Placed.{HasChild, HasChildAfter}
 use Rattle.task_machine.specs.Labels.{Labels, Events}
 use Rattle.task_machine.specs.Left.{keys_of}
 use Rattle.task_machine.specs.Stacked.{AreAt}

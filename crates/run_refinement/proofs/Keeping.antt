@@ -4,6 +4,7 @@ use Rattle.std.proofs.Common.{◌≡◌, ◌≢◌, ◌⊎◌, inl, inr, true, f
 use Rattle.std.proofs.lemmas.Bool.{cases_lt}
 use Rattle.std.specs.Prelude.{is_some, slice_get}
 use Rattle.std.specs.List.{list_all}
+use Rattle.turn_semantics.specs.Lists.{IsAmong}
 use Rattle.input_lines.specs.declared.part.Part.{Part}
 use Rattle.exceptions.specs.Exceptions.{Exc}
 use Rattle.cancel_scopes.specs.Sight.{seen}
@@ -39,7 +40,7 @@ use Rattle.task_machine.specs.Tasks.{scope_of}
 use Rattle.task_machine.specs.Waking.{WakesFrom}
 use Rattle.task_machine.specs.Worlds.{label_at, event_at}
 use Rattle.task_machine.proofs.Stacked.{one_of, seen_at}
-use Rattle.interleavings.specs.Interleaving.{Started, In, RunInvariant, AllFrom}
+use Rattle.interleavings.specs.Interleaving.{Started, RunInvariant, AllFrom}
 use Rattle.interleavings.specs.Going.{root_result}
 use Rattle.interleavings.specs.Woken.{SeesNow, IsOver}
 use Rattle.interleavings.proofs.Contract.{near_places}
@@ -145,7 +146,7 @@ seen_still {k} {job} {input} {t} {m} {s} {old} {new} {before} {after} {stop} set
     other = T.of_other u below differs
 
     IsOn : Table → List Started → Type 0
-    IsOn f qs = RunInvariant k f (root_result k job input) qs × AllFrom k qs t × ((x : Started) → In x qs → AgreesOn t k f x.places)
+    IsOn f qs = RunInvariant k f (root_result k job input) qs × AllFrom k qs t × ((x : Started) → IsAmong x qs → AgreesOn t k f x.places)
 
     on_before : IsOn c.interleaving.froms c.interleaving.tasks
     on_before = runs_keep_invariant k job input settled names starting c.interleaving.froms t m c.interleaving.tasks c.interleaving.reached
@@ -164,7 +165,7 @@ seen_still {k} {job} {input} {t} {m} {s} {old} {new} {before} {after} {stop} set
     seen_after : seen (stack_at k q.places).scopes t ≡ seen (stack_at T.is.froms q.places).scopes t
     seen_after =
         seen_near (suc t) (stack_at k q.places).scopes (stack_at T.is.froms q.places).scopes t
-        (near_places t k T.is.froms q.places (on_after.2 q (subst (λ (x : Started). In x T.is.tasks) other (T.is.has u less).0))).0
+        (near_places t k T.is.froms q.places (on_after.2 q (subst (λ (x : Started). IsAmong x T.is.tasks) other (T.is.has u less).0))).0
         (omega arith)
 
 -- a task that may continue may still do so

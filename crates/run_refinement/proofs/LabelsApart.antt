@@ -3,6 +3,7 @@ use Rattle.std.proofs.Common.{◌≡◌, ◌≢◌, ◌⊎◌, inl, inr, ℕ, ze
 use Rattle.std.proofs.lemmas.Bool.{cases_lt}
 use Rattle.std.specs.Prelude.{slice_get}
 use Rattle.std.specs.Option.{unwrap_or}
+use Rattle.turn_semantics.specs.Lists.{IsAmong}
 use Rattle.exceptions.specs.Exceptions.{Label}
 use Rattle.cancel_scopes.specs.Tree.{Stack, stack_of, outer_of}
 use Rattle.job_tree.specs.Names.{GivesNamesOnce}
@@ -12,8 +13,7 @@ use Rattle.job_meaning.specs.Follow.{IsSettled}
 use Rattle.job_meaning.specs.Log.{Table}
 use Rattle.job_meaning.specs.Rest.{Event, noted, signs, enters, starts}
 use Rattle.task_machine.specs.declared.entry.ScopeFrom.{ScopeFrom}
-use Rattle.turn_semantics.specs.Placed.{IsAmong}
-use Rattle.turn_semantics.specs.Turned.{Known, EntersIn}
+use Rattle.turn_semantics.specs.Turned.{EntersIn}
 use Rattle.task_machine.specs.declared.task.Own.{Own}
 use Rattle.task_machine.specs.declared.task.Task.{Task}
 use Rattle.task_machine.specs.Acts.{Scoping}
@@ -22,7 +22,7 @@ use Rattle.task_machine.specs.Left.{keys_of, keys_in}
 use Rattle.task_machine.specs.Stacked.{IsKey, Alone}
 use Rattle.task_machine.specs.Tasks.{scope_of}
 use Rattle.task_machine.specs.Worlds.{label_at, event_at}
-use Rattle.interleavings.specs.Interleaving.{Started, In, times_made, made_times, all_times, RunInvariant}
+use Rattle.interleavings.specs.Interleaving.{Started, times_made, made_times, all_times, RunInvariant}
 use Rattle.interleavings.specs.Going.{root_result}
 use Rattle.interleavings.specs.Rows.{entered_made}
 use Rattle.run_refinement.specs.RunState.{Interleaving, RunState, Tracks, Follows, OpenedBy, Refines}
@@ -37,7 +37,7 @@ use Rattle.task_machine.proofs.Stacked.{one_of, alone_at}
 -- ---- which task entered a label
 
 -- a label among those entered in events is one that an event enters
-pub known_enters : (l : Label) (es : List Event) → Known l (entered_made es) → EntersIn l es
+pub known_enters : (l : Label) (es : List Event) → IsAmong l (entered_made es) → EntersIn l es
 known_enters l [] k = absurd k
 known_enters l (noted t e ∷ es) k = known_enters l es k
 known_enters l (signs m t ∷ es) k = known_enters l es k
@@ -46,7 +46,7 @@ known_enters l (enters m t d ∷ es) (inr k) = inr (known_enters l es k)
 known_enters l (starts i m t ∷ es) k = known_enters l es k
 
 -- two tasks together enter it no more often than all do
-pub two_counted : (l : Label) (x y : Started) (qs : List Started) → In x qs → In y qs → x.serial ≢ y.serial →
+pub two_counted : (l : Label) (x y : Started) (qs : List Started) → IsAmong x qs → IsAmong y qs → x.serial ≢ y.serial →
     times_made l x.made + times_made l y.made ≤ made_times l qs
 unfolding made_times
 two_counted l x y [] i j differs = absurd i
@@ -62,7 +62,7 @@ two_counted l x y (q ∷ qs) (inr i) (inr j) differs = let g = two_counted l x y
 -- A label was entered by one task of a run.
 pub one_entered : {k : Table} {job : Job} {input : List ℕ} {t m : ℕ} → (interleaving : Interleaving k job input t m) → IsSettled k job input →
     GivesNamesOnce job → StartsInNurseries job →
-    (l : Label) (p q : ℕ) → p < m → q < m → Known l (entered_made (interleaving.at p).made) → Known l (entered_made (interleaving.at q).made) → p ≡ q
+    (l : Label) (p q : ℕ) → p < m → q < m → IsAmong l (entered_made (interleaving.at p).made) → IsAmong l (entered_made (interleaving.at q).made) → p ≡ q
 one_entered {k} {job} {input} {t} {m} interleaving settled names nurseries l p q below lower a b = by_test (same_or p q)
   where
     on : RunInvariant k interleaving.froms (root_result k job input) interleaving.tasks
@@ -83,7 +83,7 @@ one_entered {k} {job} {input} {t} {m} interleaving settled names nurseries l p q
 
 -- ---- the labels of a task's scopes
 
-known_got : (xs : List ScopeFrom) (i : ℕ) (x : ScopeFrom) → slice_get xs i ≡ Some x → Known x.label (map (λ (y : ScopeFrom). y.label) xs)
+known_got : (xs : List ScopeFrom) (i : ℕ) (x : ScopeFrom) → slice_get xs i ≡ Some x → IsAmong x.label (map (λ (y : ScopeFrom). y.label) xs)
 known_got [] i x e = absurd (not_both refl e)
 known_got (y ∷ xs) zero x e = inl (sym (ap (λ (z : ScopeFrom). z.label) (one_of y x e)))
 known_got (y ∷ xs) (suc i) x e = inr (known_got xs i x e)
@@ -91,16 +91,16 @@ known_got (y ∷ xs) (suc i) x e = inr (known_got xs i x e)
 -- each label among a task's froms was entered by it
 pub from_entered : {known : Label → Type 0} {f : Table} {s : Scoping} {entered : List Label} → Tracks known f s entered →
     (i : ℕ) (x : ScopeFrom) → slice_get s.froms i ≡ Some x →
-    Known x.label entered
-from_entered {s = s} h i x e = subst (Known x.label) h.labels (known_got s.froms i x e)
+    IsAmong x.label entered
+from_entered {s = s} h i x e = subst (IsAmong x.label) h.labels (known_got s.froms i x e)
 
 -- and so was that of a scope that it is in
 pub own_entered : {known : Label → Type 0} {f : Table} {s : Scoping} {entered : List Label} → Tracks known f s entered → (o : Own) (i : ℕ) →
     slice_get s.own i ≡ Some o →
-    (l : Label) → s.labels o.id ≡ Some l → Known l entered
+    (l : Label) → s.labels o.id ≡ Some l → IsAmong l entered
 own_entered {entered = entered} h o i e l labelled =
     let n = h.named o i e in
-    subst (λ (m : Label). Known m entered) (one_of n.0.label l (sym n.2 ∙ labelled)) (from_entered h o.at n.0 n.1)
+    subst (λ (m : Label). IsAmong m entered) (one_of n.0.label l (sym n.2 ∙ labelled)) (from_entered h o.at n.0 n.1)
 
 -- the key of a scope that a task opened is among the keys of those
 pub key_got : (own : List Own) (o : Own) (i : ℕ) → slice_get own i ≡ Some o → IsAmong o.id (keys_in own)
@@ -139,7 +139,7 @@ below_of {m = m} c p task e = by_order (cases_lt p m)
 -- the label of a scope that a task opened was entered by it
 pub opened_entered : {k : Table} {job : Job} {input : List ℕ} {t m : ℕ} {leaving : Option ℕ} {state : RunState} →
     (c : Refines k job input t m leaving state) → (key p : ℕ) (l : Label) →
-    OpenedBy state key p → label_at state.world key ≡ Some l → Known l (entered_made (c.interleaving.at p).made)
+    OpenedBy state key p → label_at state.world key ≡ Some l → IsAmong l (entered_made (c.interleaving.at p).made)
 opened_entered {state = state} c key p l o e =
     own_entered (c.follows p o.task o.lives).tracks o.scope o.place o.own l (ap (label_at state.world) o.is ∙ e)
 

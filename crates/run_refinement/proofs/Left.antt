@@ -4,6 +4,7 @@ use Rattle.std.proofs.Common.{◌≡◌, ◌≢◌, ◌⊎◌, inl, inr, ◌==�
 use Rattle.std.specs.Prelude.{IsSome, slice_get, slice_set}
 use Rattle.std.specs.Option.{option_map}
 use Rattle.std.proofs.lemmas.List.Elements.{All-nil}
+use Rattle.turn_semantics.specs.Lists.{IsAmong}
 use Rattle.cancel_scopes.specs.Tree.{IsOpen}
 use Rattle.exceptions.specs.Exceptions.{Label, Exc}
 use Rattle.job_tree.specs.Tree.{Tree as Job}
@@ -20,7 +21,6 @@ use Rattle.task_machine.specs.declared.entry.ScopeFrom.{ScopeFrom}
 use Rattle.task_machine.specs.Noted.{from_of}
 use Rattle.turn_semantics.specs.Midway.{Place}
 use Rattle.turn_semantics.specs.Placed.{PlacedStop}
-use Rattle.turn_semantics.specs.Turned.{Known}
 use Rattle.task_machine.specs.declared.stop.TaskState.{TaskState}
 use Rattle.task_machine.specs.declared.stop.TaskState.TheVariants.{ToBegin, Asked, Asleep, Waiting, GivingUp, Awaits, Over}
 use Rattle.task_machine.specs.declared.task.Home.{Home}
@@ -411,7 +411,7 @@ state_left k job input t m s old new task exc c l =
           in_range = g.in_range;
           goes = subst (CanGoOn x) (sym l.world) (goes_kept x old.world book like g.goes);
           notes = subst (λ (z : Clock). Notes z input r.made x.entries.items) (sym clock) g.notes;
-          tracks = subst (λ (w : World). Tracks (λ l. (u : ℕ) × Known l (entered_made (c.interleaving.at u).made)) f (scoping_of x w)
+          tracks = subst (λ (w : World). Tracks (λ l. (u : ℕ) × IsAmong l (entered_made (c.interleaving.at u).made)) f (scoping_of x w)
               (entered_made r.made)) (sym l.world) g.tracks;
           home = by_home x.home g.home;
           nurseries = nurseries;

@@ -5,6 +5,7 @@ use Rattle.std.proofs.lemmas.List.{map-append}
 use Rattle.std.proofs.lemmas.List.Elements.{All-append}
 use Rattle.std.specs.Prelude.{All, slice_get}
 use Rattle.std.specs.Option.{option_map, unwrap_or}
+use Rattle.turn_semantics.specs.Lists.{IsAmong}
 use Rattle.exceptions.specs.Exceptions.{Label}
 use Rattle.input_lines.specs.Part.{buffer_of}
 use Rattle.cancel_scopes.specs.Tree.{Stack, stack_of, outer_of, IsOpen}
@@ -22,7 +23,7 @@ use Rattle.task_machine.specs.States.{state_of}
 use Rattle.task_machine.specs.Noted.{entry_of, IsSlice, shown_made, AreNoted}
 use Rattle.turn_semantics.specs.Names.{NewIn}
 use Rattle.turn_semantics.specs.Placed.{PlacedAfter, outer_places}
-use Rattle.turn_semantics.specs.Turned.{Known, StopsAt}
+use Rattle.turn_semantics.specs.Turned.{StopsAt}
 use Rattle.turn_semantics.specs.Midway.{Place, own_after}
 use Rattle.turn_semantics.specs.Steps.{froms_after}
 use Rattle.task_machine.specs.declared.stop.Stop.{Stop}
@@ -278,22 +279,22 @@ module _ (k : Table) (job : Job) (input : List ℕ) (t m s : ℕ) (old new : Run
         ∙ (entered_append (c.interleaving.at s).made T.move.made ∙ ap (λ (ls : List Label). entered_made (c.interleaving.at s).made ++ ls)
         (sym (entered_same T.move.made)))
 
-    entered_before : (l : Label) (p : ℕ) → Known l (entered_made (c.interleaving.at p).made) → (p ≡ s) ⊎ (p ≢ s) → (p < m) ⊎ (m ≤ p) →
+    entered_before : (l : Label) (p : ℕ) → IsAmong l (entered_made (c.interleaving.at p).made) → (p ≡ s) ⊎ (p ≢ s) → (p < m) ⊎ (m ≤ p) →
         IsEntered T.is.at l
     entered_before l p h (inl e) o = (
       s,
-      subst (Known l) (sym entered_here)
+      subst (IsAmong l) (sym entered_here)
           (known_first l (entered_made (c.interleaving.at s).made) (labels_entered T.move.made)
-          (subst (λ (z : ℕ). Known l (entered_made (c.interleaving.at z).made)) e h)),
+          (subst (λ (z : ℕ). IsAmong l (entered_made (c.interleaving.at z).made)) e h)),
     )
-    entered_before l p h (inr d) (inl below) = (p, subst (λ (q : Started). Known l (entered_made q.made)) (sym (T.of_other p below d)) h)
-    entered_before l p h (inr d) (inr beyond) = absurd (subst (Known l) (quiet p beyond) h)
+    entered_before l p h (inr d) (inl below) = (p, subst (λ (q : Started). IsAmong l (entered_made q.made)) (sym (T.of_other p below d)) h)
+    entered_before l p h (inr d) (inr beyond) = absurd (subst (IsAmong l) (quiet p beyond) h)
 
     entered_after : (l : Label) → KnownWith (IsEntered c.interleaving.at) T.move.made l → IsEntered T.is.at l
     entered_after l (inl h) = entered_before l h.0 h.1 (same_or h.0 s) (cases_lt h.0 m)
     entered_after l (inr h) = (
       s,
-      subst (Known l) (sym entered_here)
+      subst (IsAmong l) (sym entered_here)
           (known_last l (entered_made (c.interleaving.at s).made) (labels_entered T.move.made) h),
     )
 

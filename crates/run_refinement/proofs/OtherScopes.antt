@@ -3,6 +3,7 @@ use Rattle.std.proofs.Common.{◌≡◌, ℕ, zero, suc, Option, Some, None, Lis
 use Rattle.std.specs.Prelude.{slice_get, IsSome}
 use Rattle.std.specs.List.{last_or}
 use Rattle.std.specs.Option.{ForSome, unwrap_or}
+use Rattle.turn_semantics.specs.Lists.{IsAmong}
 use Rattle.exceptions.specs.Exceptions.{Label}
 use Rattle.cancel_scopes.specs.Tree.{Stack, Tree, stack_of, outer_of, own_label, IsOpen, IsOwn, IsChain}
 use Rattle.job_meaning.specs.Log.{Table}
@@ -10,7 +11,6 @@ use Rattle.job_meaning.specs.Rest.{Event}
 use Rattle.task_machine.specs.declared.entry.ScopeFrom.{ScopeFrom}
 use Rattle.turn_semantics.specs.Midway.{Place}
 use Rattle.turn_semantics.specs.Steps.{froms_after}
-use Rattle.turn_semantics.specs.Turned.{Known}
 use Rattle.task_machine.specs.declared.task.Own.{Own}
 use Rattle.task_machine.specs.Acts.{Scoping, Acts, kept_from}
 use Rattle.task_machine.specs.Fitting.{AreOthers}
@@ -84,7 +84,7 @@ with_own s own froms =
 -- the froms of another task are those of the world after the turn
 pub tracks_other : {known : Label → Type 0} {t : ℕ} {s u : Scoping} {es : List Event} → Acted known t s u es →
     (was now : Label → Type 0) (f : Table) (own : List Own) (froms : List ScopeFrom)
-    (entered : List Label) → AreElse own s.own → ((l : Label) → Known l entered → known l) → ((l : Label) → Known l entered → now l) →
+    (entered : List Label) → AreElse own s.own → ((l : Label) → IsAmong l entered → known l) → ((l : Label) → IsAmong l entered → now l) →
     Tracks was f (with_own s own froms) entered → Tracks now (froms_after f es) (with_own u own froms) entered
 tracks_other {known} {t} {s} {u} {es} a was now f own froms entered others mine more h =
     record { labels = h.labels; differ = h.differ; named = named; kept = kept; left = left }
@@ -110,7 +110,7 @@ tracks_other {known} {t} {s} {u} {es} a was now f own froms entered others mine 
         × ((key : ℕ) → u.labels key ≡ Some x.label → ⊥) × now x.label
     left i x e past =
         let c = h.left i x e past in
-        let entered_it : Known x.label entered = from_entered h i x e in
+        let entered_it : IsAmong x.label entered = from_entered h i x e in
         let o = unmoved known f x.label a.acts c.1 (mine x.label entered_it) a.new in
         (c.0 ∙ sym o.0, o.1, more x.label entered_it)
 

@@ -2,6 +2,7 @@
 use Rattle.std.proofs.Common.{◌≡◌, ◌≢◌, ◌⊎◌, inl, inr, ℕ, ◌<◌, ◌≤◌, true, false, Option, Some, None, List, length, refl, ap, sym, ◌∙◌, subst}
 use Rattle.std.specs.Prelude.{slice_get}
 use Rattle.std.specs.Option.{ForSome, IsSomeAnd}
+use Rattle.turn_semantics.specs.Lists.{IsAmong}
 use Rattle.cancel_scopes.specs.Tree.{outer_of, IsOpen}
 use Rattle.nursery_book.specs.Nursery.{End, Nursery}
 use Rattle.nursery_book.specs.Book.{nursery_at, HasNursery}
@@ -12,7 +13,6 @@ use Rattle.job_meaning.specs.declared.clock.Clock.{Clock}
 use Rattle.job_meaning.specs.Rest as rest
 use Rattle.task_machine.specs.States.{state_of}
 use Rattle.task_machine.specs.declared.entry.ScopeFrom.{ScopeFrom}
-use Rattle.turn_semantics.specs.Turned.{Known}
 use Rattle.task_machine.specs.declared.stop.Stop.{Stop}
 use Rattle.task_machine.specs.declared.task.Own.{Own}
 use Rattle.task_machine.specs.declared.task.Task.{Task}
@@ -109,7 +109,7 @@ module _ (k : Table) (job : Job) (input : List ℕ) (t m s : ℕ) (old new : Run
         subst (λ (f : Table). Tracks (IsEntered T.is.at) f (scoping_of task new.world) (entered_made (c.interleaving.at u).made)) (sym T.froms)
         (tracks_other a (IsEntered c.interleaving.at) (IsEntered T.is.at) c.interleaving.froms task.own.items task.froms.items
         (entered_made (c.interleaving.at u).made) others (λ l h. (u, h))
-        (λ l h. (u, subst (λ (q : Started). Known l (entered_made q.made)) (sym same) h)) was.tracks)
+        (λ l h. (u, subst (λ (q : Started). IsAmong l (entered_made q.made)) (sym same) h)) was.tracks)
 
     -- each of its scopes has the label that it had
     label_same : (o : Own) (i : ℕ) → slice_get task.own.items i ≡ Some o → label_at new.world o.id ≡ label_at old.world o.id

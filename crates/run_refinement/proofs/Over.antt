@@ -1,5 +1,6 @@
 -- All tasks of the program have ended: what is kept of them is what the job means.
 use Rattle.std.proofs.Common.{◌≡◌, ◌⊎◌, inl, inr, ℕ, suc, ◌<◌, ◌≤◌, Option, Some, None, List, [], ◌∷◌, map, refl, ap, sym, ◌∙◌, subst, arith}
+use Rattle.turn_semantics.specs.Lists.{IsAmong}
 use Rattle.exceptions.specs.Exceptions.{Exc}
 use Rattle.job_tree.specs.Tree.{Tree as Job}
 use Rattle.job_tree.specs.Names.{GivesNamesOnce}
@@ -13,7 +14,7 @@ use Rattle.job_meaning.specs.Shown.{Shown, as_shown, shown_at}
 use Rattle.job_meaning.specs.Rest.{Event, noted, signs, enters, starts, Stopped, to_begin, asking, asleep, waiting_for, giving_up, awaiting, at_end}
 use Rattle.turn_semantics.specs.Midway.{Begun}
 use Rattle.task_machine.specs.Noted.{shown_made}
-use Rattle.interleavings.specs.Interleaving.{Started, In}
+use Rattle.interleavings.specs.Interleaving.{Started}
 use Rattle.interleavings.specs.Going.{root_task, task_after_turn, children_from}
 use Rattle.interleavings.specs.Rows.{Row, entries_made, entered_made, children_made, StartsRows, HasRow, records_by, froms_in, DepthFirst}
 use Rattle.interleavings.specs.Runs.{Reached, begun, turn, jump}
@@ -25,7 +26,7 @@ use Rattle.run_refinement.specs.Over.{ShowsRow, IsOver}
 
 -- ---- the root stays where it began
 
-children_later : (k : Table) (t m : ℕ) (bs : List Begun) (x : Started) → In x (children_from k t m bs) → m ≤ x.serial
+children_later : (k : Table) (t m : ℕ) (bs : List Begun) (x : Started) → IsAmong x (children_from k t m bs) → m ≤ x.serial
 unfolding children_from
 children_later k t m [] x i = absurd i
 children_later k t m (b ∷ bs) x (inl e) = let f = ap (λ (y : Started). y.serial) e in omega (arith, f)
@@ -33,13 +34,13 @@ children_later k t m (b ∷ bs) x (inr i) = let h = children_later k t (suc m) b
 
 -- the first task is the root of the job
 abbrev RootStays : Job → List ℕ → ℕ → List Started → Type 0
-RootStays job input m qs = (0 < m) × ((x : Started) → In x qs → x.serial ≡ 0 → x.here ≡ root_here job input)
+RootStays job input m qs = (0 < m) × ((x : Started) → IsAmong x qs → x.serial ≡ 0 → x.here ≡ root_here job input)
 
 root_stays : (k : Table) (job : Job) (input : List ℕ) (f : Table) (t m : ℕ) (qs : List Started) → Reached k job input f t m qs →
     RootStays job input m qs
 root_stays k job input _ _ _ _ (begun f) = (omega arith, by_in)
   where
-    by_in : (x : Started) → In x (root_task k job input ∷ []) → x.serial ≡ 0 → x.here ≡ root_here job input
+    by_in : (x : Started) → IsAmong x (root_task k job input ∷ []) → x.serial ≡ 0 → x.here ≡ root_here job input
     by_in x (inl e) z = ap (λ (y : Started). y.here) e
     by_in x (inr i) z = absurd i
 root_stays k job input _ _ _ _ (turn f now m q qs others wake o s r front may goes stopped) =
@@ -49,9 +50,9 @@ root_stays k job input _ _ _ _ (turn f now m q qs others wake o s r front may go
           (in_either x (task_after_turn k now m q o s ∷ children_from k (a_round_after q.here.clock now.at) m o.begun) others i),
     )
   where
-    by_part : RootStays job input m qs → (x : Started) → x.serial ≡ 0 → In x (task_after_turn k now m q o s ∷ children_from k
+    by_part : RootStays job input m qs → (x : Started) → x.serial ≡ 0 → IsAmong x (task_after_turn k now m q o s ∷ children_from k
         (a_round_after q.here.clock now.at) m o.begun)
-        ⊎ In x others → x.here ≡ root_here job input
+        ⊎ IsAmong x others → x.here ≡ root_here job input
     by_part inner x z (inl (inl e)) =
         ap (λ (y : Started). y.here) e ∙ inner.1 q ((front_same q qs others front).back q (inl refl))
         (sym (ap (λ (y : Started). y.serial) e) ∙ z)
@@ -108,7 +109,7 @@ rows_started clock f start at child [] h = tt
 rows_started clock f start at child (noted t e ∷ es) h = rows_started clock f start at child es h
 rows_started clock f start at child (signs l t ∷ es) h = rows_started clock f start at child es h
 rows_started clock f start at child (enters l t d ∷ es) h = rows_started clock f start at child es h
-rows_started clock f start at child (starts i l t ∷ es) h = (h.0, h.1, rows_started clock f start at child es h.2)
+rows_started clock f start at child (starts i l t ∷ es) h = ((h.0, h.1), rows_started clock f start at child es h.2)
 
 ended_row : (s : Stopped) (u : ℕ) (e : Option Exc) → s ≡ at_end u e → s ≡ at_end u (exc_at s)
 ended_row s u e h = subst (λ (x : Stopped). x ≡ at_end u (exc_at x)) (sym h) refl
@@ -182,7 +183,7 @@ state_over job input names starting t m state c none =
         g : (g : Gone) × (state.gone p ≡ Some g) × HasEnded clock f input t (c.interleaving.at p) g
         g = gone_at p lt
 
-    has_row : (q : Started) → In q c.interleaving.tasks → HasRow clock f rows q
+    has_row : (q : Started) → IsAmong q c.interleaving.tasks → HasRow clock f rows q
     has_row q i = let h = c.interleaving.one q i in subst (HasRow clock f rows) (sym h.0) (row_of_at q.serial h.1)
 
     label : (rows 0).label ≡ root_label job.name

@@ -3,6 +3,7 @@ use Rattle.std.proofs.Common.{◌≡◌, ◌≢◌, ◌⊎◌, inl, inr, ℕ, ze
 use Rattle.std.proofs.lemmas.Bool.{eq-eqb, ne_eqb, lt-ltb, le-ltb}
 use Rattle.std.proofs.lemmas.List.Elements.{All-nil, All-cons}
 use Rattle.std.specs.Prelude.{slice_get, nat_lt}
+use Rattle.turn_semantics.specs.Lists.{IsAmong}
 use Rattle.job_tree.specs.Starting.{StartsIn}
 use Rattle.job_meaning.specs.declared.clock.Clock.{Clock}
 use Rattle.job_meaning.specs.Rest.{Event, noted, signs, enters, starts, Frame, Stopped}
@@ -11,8 +12,8 @@ use Rattle.nursery_book.specs.declared.book.NurseryBook.{NurseryBook}
 use Rattle.turn_semantics.specs.Midway.{Place, Begun}
 use Rattle.turn_semantics.specs.Names.{names_at, OwnNames, AllNew}
 use Rattle.turn_semantics.specs.Names as names
-use Rattle.turn_semantics.specs.Placed.{IsAmong, HasChildAfter, AllHoused}
-use Rattle.turn_semantics.specs.Turned.{Known, Starts, BegunIn}
+use Rattle.turn_semantics.specs.Placed.{HasChildAfter, AllHoused}
+use Rattle.turn_semantics.specs.Turned.{Starts, BegunIn}
 use Rattle.task_machine.specs.declared.task.Own.{Own}
 use Rattle.task_machine.specs.declared.task.Task.{Task}
 use Rattle.task_machine.specs.Fitting.{Block, AreOthers}
@@ -158,12 +159,12 @@ entered_same (enters l t d ∷ es) = ap (λ (ls : List Label). l ∷ ls) (entere
 entered_same (starts i l t ∷ es) = entered_same es
 
 -- a label among the first ones is among all
-pub known_first : (l : Label) (xs ys : List Label) → Known l xs → Known l (xs ++ ys)
+pub known_first : (l : Label) (xs ys : List Label) → IsAmong l xs → IsAmong l (xs ++ ys)
 known_first l [] ys k = absurd k
 known_first l (x ∷ xs) ys (inl e) = inl e
 known_first l (x ∷ xs) ys (inr k) = inr (known_first l xs ys k)
 
 -- a label among the last ones is among all
-pub known_last : (l : Label) (xs ys : List Label) → Known l ys → Known l (xs ++ ys)
+pub known_last : (l : Label) (xs ys : List Label) → IsAmong l ys → IsAmong l (xs ++ ys)
 known_last l [] ys k = k
 known_last l (x ∷ xs) ys k = inr (known_last l xs ys k)

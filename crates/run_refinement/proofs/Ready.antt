@@ -1,6 +1,7 @@
 -- What may wake a task in a moment may do so after the turn of another task in that moment.
 use Rattle.std.proofs.lemmas.Bool.{eqb-true, eq-eqb}
 use Rattle.std.proofs.Common.{◌≡◌, ◌≢◌, ◌==◌, Bool, true, false, ℕ, suc, ◌+◌, ◌<◌, min, Option, List, [], length, refl, ap, sym, ◌∙◌, subst, arith}
+use Rattle.turn_semantics.specs.Lists.{IsAmong}
 use Rattle.cancel_scopes.specs.Sight.{seen}
 use Rattle.exceptions.specs.Exceptions.{Label, Exc}
 use Rattle.job_tree.specs.Tree.{Tree as Job}
@@ -12,14 +13,14 @@ use Rattle.job_meaning.specs.Follow.{IsSettled}
 use Rattle.job_meaning.specs.Rest.{Frame, Rest, Stopped, at_end, rest_weight}
 use Rattle.job_meaning.proofs.Clips.{seen_near}
 use Rattle.turn_semantics.specs.Midway.{Place, stack_at}
-use Rattle.turn_semantics.specs.Placed.{PlacedStop, IsAmong}
+use Rattle.turn_semantics.specs.Placed.{PlacedStop}
 use Rattle.turn_semantics.specs.Turned.{AgreesOn}
 use Rattle.turn_semantics.specs.Wakes.{Wake, ends_at}
 use Rattle.turn_semantics.proofs.Waits.{ends_near}
 use Rattle.task_machine.specs.declared.stop.Stop.{Stop}
 use Rattle.task_machine.specs.declared.task.Task.{Task}
 use Rattle.task_machine.specs.Stops.{Numbers}
-use Rattle.interleavings.specs.Interleaving.{Started, In, Kid, RunInvariant, AllFrom}
+use Rattle.interleavings.specs.Interleaving.{Started, Kid, RunInvariant, AllFrom}
 use Rattle.interleavings.specs.Going.{root_result}
 use Rattle.interleavings.specs.Woken.{MayWake, WaitIsOver}
 use Rattle.interleavings.proofs.Contract.{near_places}
@@ -57,7 +58,7 @@ still_ready k job input t m s old new numbers before after stop was settled name
     other = turn.of_other p below differs
 
     IsOn : Table → List Started → Type 0
-    IsOn f qs = RunInvariant k f (root_result k job input) qs × AllFrom k qs t × ((x : Started) → In x qs → AgreesOn t k f x.places)
+    IsOn f qs = RunInvariant k f (root_result k job input) qs × AllFrom k qs t × ((x : Started) → IsAmong x qs → AgreesOn t k f x.places)
 
     on_before : IsOn was.froms was.tasks
     on_before = runs_keep_invariant k job input settled names starting was.froms t m was.tasks was.reached
@@ -72,7 +73,7 @@ still_ready k job input t m s old new numbers before after stop was settled name
     agrees_before = on_before.2 q (was.has p below).0
 
     agrees_after : AgreesOn t k turn.is.froms q.places
-    agrees_after = on_after.2 q (subst (λ (x : Started). In x turn.is.tasks) other (turn.is.has p less).0)
+    agrees_after = on_after.2 q (subst (λ (x : Started). IsAmong x turn.is.tasks) other (turn.is.has p less).0)
 
     seen_before : seen (stack_at k q.places).scopes t ≡ seen (stack_at was.froms q.places).scopes t
     seen_before = seen_near (suc t) (stack_at k q.places).scopes (stack_at was.froms q.places).scopes t
@@ -102,7 +103,7 @@ still_ready k job input t m s old new numbers before after stop was settled name
         WaitIsOver turn.is.tasks q t children ended e x
     over children ended e x h = record { ends = h.ends; numbers = h.numbers; over = over_after; settled = h.settled }
       where
-        over_after : (i : ℕ) → IsAmong i children → (c : Started) → In c turn.is.tasks → c.serial ≡ q.child i →
+        over_after : (i : ℕ) → IsAmong i children → (c : Started) → IsAmong c turn.is.tasks → c.serial ≡ q.child i →
             c.rest.stopped ≡ at_end (h.ends i).end (h.ends i).exc
         over_after i among c there serial = by_same (c.serial == s) refl
           where

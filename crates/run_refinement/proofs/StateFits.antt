@@ -6,6 +6,7 @@ use Rattle.std.proofs.lemmas.List.{length-take, length-drop}
 use Rattle.std.proofs.lemmas.List.Elements.{All-head, All-tail}
 use Rattle.std.proofs.Common.{◌≡◌, ◌≢◌, ◌⊎◌, inl, inr, ◌==◌, nat_lt, Bool, true, false, ℕ, zero, suc, ◌-◌, ◌<◌, ◌≤◌, min, drop, Option, Some, None, List, [], ◌∷◌, ◌++◌, length, append_assoc, refl, ap, sym, ◌∙◌, subst, arith}
 use Rattle.std.specs.Prelude.{All, IsSome, slice_get, slice_range}
+use Rattle.turn_semantics.specs.Lists.{IsAmong}
 use Rattle.input_lines.specs.Part.{buffer_of, range_of}
 use Rattle.job_meaning.specs.Walk.{Here}
 use Rattle.std.specs.Option.{ForSome, unwrap_or, option_map}
@@ -17,7 +18,6 @@ use Rattle.job_meaning.specs.Log.{Table}
 use Rattle.nursery_book.specs.Nursery.{End, Nursery}
 use Rattle.nursery_book.specs.Book.{nursery_at}
 use Rattle.nursery_book.specs.declared.book.NurseryBook.{NurseryBook}
-use Rattle.turn_semantics.specs.Placed.{IsAmong}
 use Rattle.task_machine.specs.States.{state_of}
 use Rattle.task_machine.specs.declared.task.Home.{Home}
 use Rattle.task_machine.specs.declared.task.Own.{Own}

@@ -3,6 +3,7 @@
 use Rattle.std.proofs.Common.{◌≡◌, ◌≢◌, ◌⊎◌, inl, inr, ℕ, zero, suc, ◌+◌, ◌-◌, ◌<◌, ◌≤◌, Option, Some, None, List, [], ◌∷◌, ◌++◌, length, refl, ap, sym, ◌∙◌, subst, arith}
 use Rattle.std.proofs.lemmas.Bool.{cases_lt}
 use Rattle.std.specs.Prelude.{slice_get}
+use Rattle.turn_semantics.specs.Lists.{IsAmong}
 use Rattle.exceptions.specs.Exceptions.{Label}
 use Rattle.cancel_scopes.specs.Tree.{Stack, stack_of, IsOpen}
 use Rattle.job_tree.specs.Names.{GivesNamesOnce}
@@ -16,7 +17,7 @@ use Rattle.job_meaning.specs.declared.clock.Clock.{Clock}
 use Rattle.job_meaning.specs.Walk.{Here}
 use Rattle.job_meaning.specs.Rest.{Event, noted, signs, enters, starts}
 use Rattle.turn_semantics.specs.Midway.{Begun}
-use Rattle.turn_semantics.specs.Turned.{Known, MadeAt, Starts, labels_of}
+use Rattle.turn_semantics.specs.Turned.{MadeAt, Starts, labels_of}
 use Rattle.task_machine.specs.declared.stop.Stop.{Stop}
 use Rattle.task_machine.specs.declared.task.Own.{Own}
 use Rattle.task_machine.specs.declared.task.Task.{Task}
@@ -53,7 +54,7 @@ use Rattle.run_refinement.proofs.Taken.{tasks_long}
 -- ---- froms
 
 -- two tables with the same froms of these labels
-pub froms_same : (f g : Table) (ls : List Label) → ((l : Label) → Known l ls → g l ≡ f l) → froms_by g ls ≡ froms_by f ls
+pub froms_same : (f g : Table) (ls : List Label) → ((l : Label) → IsAmong l ls → g l ≡ f l) → froms_by g ls ≡ froms_by f ls
 froms_same f g [] same = refl
 froms_same f g (l ∷ ls) same =
     ap (λ (d : Option ℕ). record { label = l; seen = d } ∷ froms_by g ls) (same l (inl refl))
@@ -151,7 +152,7 @@ module _ (k : Table) (job : Job) (input : List ℕ) (t m s : ℕ) (old new : Run
   -- ---- which tasks have ended
 
   -- no scope has a label that such a task entered
-  none_has : (p : ℕ) → p < m → old.task p ≡ None → (l : Label) → Known l (entered_made (c.interleaving.at p).made) → (key : ℕ) →
+  none_has : (p : ℕ) → p < m → old.task p ≡ None → (l : Label) → IsAmong l (entered_made (c.interleaving.at p).made) → (key : ℕ) →
       label_at old.world key ≡ Some l → ⊥
   none_has p below ended l i key e =
       let x = c.owned key (c.labelled key l e) in
@@ -171,7 +172,7 @@ module _ (k : Table) (job : Job) (input : List ℕ) (t m s : ℕ) (old new : Run
       g : (g : Gone) × (old.gone p ≡ Some g) × HasEnded old.world.clock c.interleaving.froms input t (c.interleaving.at p) g
       g = c.ended p below e
 
-      same_from : (l : Label) → Known l (entered_made (c.interleaving.at p).made) → T.is.froms l ≡ c.interleaving.froms l
+      same_from : (l : Label) → IsAmong l (entered_made (c.interleaving.at p).made) → T.is.froms l ≡ c.interleaving.froms l
       same_from l i = ap (λ (f : Table). f l) T.froms
           ∙ (unmoved (IsEntered c.interleaving.at) c.interleaving.froms l T.took.acts (none_has p below e l i) (p, i) T.fresh).0
 

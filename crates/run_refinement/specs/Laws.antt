@@ -1,5 +1,6 @@
 -- The laws of the tasks of the program. They are the contract of a function that does nothing.
 use Rattle.std.specs.Prelude.{◌≡◌, ℕ, ◌+◌, ◌*◌, ◌≤◌, Option, Some, None, IsSome, List, [], ◌∷◌, length}
+use Rattle.turn_semantics.specs.Lists.{IsAmong}
 use Rattle.exceptions.specs.Exceptions.{Exc}
 use Rattle.job_tree.specs.Tree.{Tree as Job}
 use Rattle.job_tree.specs.InRange.{IsInRange}
@@ -15,7 +16,6 @@ use Rattle.task_machine.specs.declared.stop.Stop.{Stop}
 use Rattle.task_machine.specs.declared.stop.Wake.{Wake}
 use Rattle.task_machine.specs.declared.task.Task.{Task}
 use Rattle.task_machine.specs.Fitting.{Fits, waits_of}
-use Rattle.interleavings.specs.Interleaving.{In}
 use Rattle.run_refinement.specs.RunState.{RunState, Refines}
 use Rattle.run_refinement.specs.Turn.{IsSound}
 use Rattle.run_refinement.specs.Begun.{IsNewRunState}
@@ -100,13 +100,13 @@ TurnsAreFew =
 -- no two of the numbers are the same
 abbrev pub AreDistinct : List ℕ → Type 0
 AreDistinct [] = Unit {0}
-AreDistinct (s ∷ ss) = (In s ss → ⊥) × AreDistinct ss
+AreDistinct (s ∷ ss) = (IsAmong s ss → ⊥) × AreDistinct ss
 
 -- And at most this number of tasks have not ended.
 abbrev pub TasksAreFew : Type 0
 TasksAreFew =
     (k : Table) (job : Job) (input : List ℕ) (t m : ℕ) (state : RunState) → Refines k job input t m None state →
-    (numbers : List ℕ) → AreDistinct numbers → ((s : ℕ) → In s numbers → IsSome (state.task s)) → length numbers ≤ 2 * size_of job.steps + 1
+    (numbers : List ℕ) → AreDistinct numbers → ((s : ℕ) → IsAmong s numbers → IsSome (state.task s)) → length numbers ≤ 2 * size_of job.steps + 1
 
 -- When all tasks have ended, what is kept of them is what the job means.
 abbrev pub RunStatesEnd : Type 0

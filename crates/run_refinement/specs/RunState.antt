@@ -1,5 +1,6 @@
 -- The tasks of the program as the code holds them, and their relation to a run of the definitions.
 use Rattle.std.specs.Prelude.{◌≡◌, ◌≢◌, ◌⊎◌, true, ℕ, suc, ◌<◌, ◌≤◌, Option, Some, None, List, [], ◌∷◌, All, map, length, slice_get}
+use Rattle.turn_semantics.specs.Lists.{IsAmong}
 use Rattle.exceptions.specs.Exceptions.{Label, Exc}
 use Rattle.cancel_scopes.specs.Sight.{Tick}
 use Rattle.cancel_scopes.specs.Tree.{Stack, stack_of, IsOpen}
@@ -19,7 +20,6 @@ use Rattle.task_machine.specs.States.{state_of}
 use Rattle.task_machine.specs.declared.entry.Entry.{Entry}
 use Rattle.task_machine.specs.declared.entry.ScopeFrom.{ScopeFrom}
 use Rattle.task_machine.specs.Noted.{entry_of, from_of, IsSlice, shown_made}
-use Rattle.turn_semantics.specs.Turned.{Known}
 use Rattle.task_machine.specs.declared.task.Home.{Home}
 use Rattle.task_machine.specs.declared.task.Own.{Own}
 use Rattle.task_machine.specs.declared.task.Task.{Task}
@@ -32,7 +32,7 @@ use Rattle.task_machine.specs.Stops.{Numbers, IsTaskState}
 use Rattle.task_machine.specs.Tasks.{home_of, home_scope}
 use Rattle.task_machine.specs.Waking.{IsInRangeTaskState}
 use Rattle.task_machine.specs.Worlds.{label_at, event_at}
-use Rattle.interleavings.specs.Interleaving.{Started, In, live}
+use Rattle.interleavings.specs.Interleaving.{Started, live}
 use Rattle.interleavings.specs.Rows.{entered_made, children_made}
 use Rattle.interleavings.specs.Runs.{Reached, turns_taken}
 
@@ -41,7 +41,7 @@ use Rattle.interleavings.specs.Runs.{Reached, turns_taken}
 -- no two tasks have the same serial number
 abbrev pub AreApart : List Started → Type 0
 AreApart [] = Unit {0}
-AreApart (q ∷ qs) = ((x : Started) → In x qs → x.serial ≢ q.serial) × AreApart qs
+AreApart (q ∷ qs) = ((x : Started) → IsAmong x qs → x.serial ≢ q.serial) × AreApart qs
 
 -- A run reaches these froms and this moment with m tasks, whose serial numbers are those below m. The task at a number that no
 -- task has has done nothing.
@@ -50,8 +50,8 @@ pub record Interleaving (k : Table) (job : Job) (input : List ℕ) (t m : ℕ) :
   pub tasks : List Started
   pub reached : Reached k job input froms t m tasks
   pub at : ℕ → Started
-  pub has : (s : ℕ) → s < m → In (at s) tasks × ((at s).serial ≡ s)
-  pub one : (q : Started) → In q tasks → (q ≡ at q.serial) × (q.serial < m)
+  pub has : (s : ℕ) → s < m → IsAmong (at s) tasks × ((at s).serial ≡ s)
+  pub one : (q : Started) → IsAmong q tasks → (q ≡ at q.serial) × (q.serial < m)
   pub differ : AreApart tasks
   pub none : (s : ℕ) → m ≤ s → (at s).made ≡ []
 
@@ -185,7 +185,7 @@ pub record Follows (state : RunState) (f : Table) (input : List ℕ) (t : ℕ) (
     pub in_range : IsInRangeTaskState task.task_state
     pub goes : CanGoOn task state.world
     pub notes : Notes state.world.clock input (at s).made task.entries.items
-    pub tracks : Tracks (λ l. (p : ℕ) × Known l (entered_made (at p).made)) f (scoping_of task state.world) (entered_made (at s).made)
+    pub tracks : Tracks (λ l. (p : ℕ) × IsAmong l (entered_made (at p).made)) f (scoping_of task state.world) (entered_made (at s).made)
     pub home : HasHome state at numbers s task.home
     pub nurseries :
         (id : ℕ) → HasNurseryOf id (blocks_of task.frames.items) (waits_of task.task_state) →

@@ -1,12 +1,12 @@
 -- What is said of a turn of one task of the program: the labels that it enters, the children that it begins, and how it stops.
 use Rattle.std.specs.Prelude.{◌≡◌, ◌⊎◌, ℕ, zero, suc, ◌+◌, ◌==◌, Bool, true, false, nat_lt, Option, Some, None, List, [], ◌∷◌}
+use Rattle.turn_semantics.specs.Lists.{IsAmong}
 use Rattle.exceptions.specs.Exceptions.{Label}
 use Rattle.cancel_scopes.specs.Tree.{Tree, IsOwn, IsChain, IsApart}
 use Rattle.job_meaning.specs.Log.{Table}
 use Rattle.job_meaning.specs.Moments.{only_at}
 use Rattle.job_meaning.specs.Rest as rest
 use Rattle.turn_semantics.specs.Midway.{Begun, none_told, begun_comes_to}
-use Rattle.turn_semantics.specs.Turned.{Known}
 use Rattle.task_machine.specs.declared.stop.Stop.{Stop}
 use Rattle.task_machine.specs.declared.stop.Stop.TheVariants.{Ask, Sleep, WaitFor, GiveUp, Wait, Ended}
 use Rattle.task_machine.specs.Stops.{Numbers}
@@ -21,7 +21,7 @@ pub record IsSound (tree : Tree) : Type 0 where
 
 -- a label that some task of a run entered
 abbrev pub IsEntered : (ℕ → Started) → Label → Type 0
-IsEntered at l = (p : ℕ) × Known l (entered_made (at p).made)
+IsEntered at l = (p : ℕ) × IsAmong l (entered_made (at p).made)
 
 -- the labels entered among events differ from those known and from each other
 abbrev pub AreNew : (Label → Type 0) → List rest.Event → Type 0

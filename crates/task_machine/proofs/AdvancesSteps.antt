@@ -1,5 +1,6 @@
 -- A step of the code that is one of the steps of a block, as the definitions' step: one lemma for each kind.
 use Rattle.std.proofs.Common.{◌≡◌, ℕ, Bool, true, false, Option, Some, None, List, [], ◌∷◌, ◌++◌, refl, ap, sym, ◌∙◌, subst}
+use Rattle.turn_semantics.specs.Lists.{IsAmong}
 use Rattle.cancel_scopes.specs.Sight.{Tick}
 use Rattle.cancel_scopes.specs.Tree.{IsChain}
 use Rattle.exceptions.specs.Exceptions.{Label}
@@ -17,7 +18,7 @@ use Rattle.job_meaning.specs.Rest as rest
 use Rattle.job_meaning.specs.Rest.{inside, path_in, asking}
 use Rattle.nursery_book.specs.declared.book.NurseryBook.{NurseryBook}
 use Rattle.turn_semantics.specs.Midway.{Place, label_among, Move}
-use Rattle.turn_semantics.specs.Names.{IsName, names_at, AreNew, IsNew, NewIn}
+use Rattle.turn_semantics.specs.Names.{names_at, AreNew, IsNew, NewIn}
 use Rattle.turn_semantics.specs.Steps.{onward, makes, sleeps, waits_on, signs_to, begins_passes, step_on, step_frames}
 use Rattle.task_machine.specs.declared.frame.Frame.{Frame}
 use Rattle.task_machine.specs.declared.frame.Frame.TheVariants.{Steps, Scope, Event, Nursery}
@@ -208,7 +209,7 @@ module _ (b : State) (first : Step) (a : AtStep b first) where
       (one : Enters (scope_at b) (label_there b name) is_event d (scoping_in b) (scoping_in u)) where
     -- where the code enters one with its label, shield and deadline, it makes the definitions' move
     enters_as : (froms : Table) (numbers : Numbers) (ps : List Place) → Stands (before_step b first a) froms numbers None ps →
-        (IsName name (names_at ps) → ⊥) → (f : Frame) → IsScope f → u.book ≡ b.book → EntersBlock b.frames u.frames f body →
+        (IsAmong name (names_at ps) → ⊥) → (f : Frame) → IsScope f → u.book ≡ b.book → EntersBlock b.frames u.frames f body →
         Took (before_step b first a) u (On None) froms numbers
         (makes (rest.enters (label_there b name) b.tick d ∷ [])
         (rest.steps_left body ∷ frame_of numbers f ∷ rest.steps_left (steps_of a.left.now) ∷ frames_of numbers a.outer)

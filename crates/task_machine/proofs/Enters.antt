@@ -1,12 +1,13 @@
 -- A scope or event that is entered inside the scopes, nurseries and events that enclose a task.
 use Rattle.std.proofs.Common.{◌≡◌, ◌≢◌, ℕ, Bool, true, false, Option, Some, None, List, [], ◌∷◌, ◌++◌, append_assoc, refl, ap, sym, ◌∙◌, subst}
 use Rattle.std.specs.Option.{unwrap_or}
+use Rattle.turn_semantics.specs.Lists.{IsAmong}
 use Rattle.exceptions.specs.Exceptions.{Label}
 use Rattle.cancel_scopes.specs.Sight.{Tick, Level}
 use Rattle.cancel_scopes.specs.Tree.{Stack, Tree, stack_of, outer_of, IsChain}
 use Rattle.job_meaning.specs.Log.{Table}
 use Rattle.turn_semantics.specs.Midway.{Place}
-use Rattle.turn_semantics.specs.Names.{IsName, names_at}
+use Rattle.turn_semantics.specs.Names.{names_at}
 use Rattle.turn_semantics.specs.Steps.{froms_after_entry}
 use Rattle.task_machine.specs.Acts.{set_at_entry}
 use Rattle.task_machine.specs.Entered.{a_scope_at, an_event_at}
@@ -46,7 +47,7 @@ pub enters_at : (labels more : Labels) (events others : Events) (old new : Tree)
     IsChain old → stack_of old key ≡ None →
     stack_of new key ≡ Some (record { label = key; shield = p.shield; from = d } ∷ outer_of old outer) →
     Updates labels more key (Some p.label) → Updates events others key (set_at_entry p.is_event) → FitsEntry p d → inner ≡ Some key →
-    (froms : Table) (ps : List Place) → (IsName p.label.name (names_at ps) → ⊥) → AreAt labels events froms (outer_of old outer) ps →
+    (froms : Table) (ps : List Place) → (IsAmong p.label.name (names_at ps) → ⊥) → AreAt labels events froms (outer_of old outer) ps →
     AreAt more others (froms_after_entry froms p.label d) (outer_of new inner) (p ∷ ps)
 enters_at labels more events others old new outer inner key p d chain closed top u v entry within froms ps named a =
     subst (λ (st : Stack). AreAt more others (froms_after_entry froms p.label d) st (p ∷ ps))

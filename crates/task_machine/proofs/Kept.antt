@@ -5,6 +5,7 @@ use Rattle.std.proofs.lemmas.List.Elements.{All-nil, All-cons, All-head, All-tai
 use Rattle.std.specs.Prelude.{All, IsSome}
 use Rattle.std.specs.Option.{IsSomeAnd, ForSome, option_map, unwrap_or}
 use Rattle.std.specs.List.{last_or}
+use Rattle.turn_semantics.specs.Lists.{IsAmong}
 use Rattle.input_lines.specs.declared.part.Part.{Part}
 use Rattle.cancel_scopes.specs.Sight.{Level, earlier}
 use Rattle.cancel_scopes.specs.Tree.{Stack, Tree, stack_of, outer_of, IsOpen, IsOwn, IsChain, IsApart, OthersKeep, after_cancel}
@@ -12,7 +13,6 @@ use Rattle.exceptions.specs.Exceptions.{Label, Exc}
 use Rattle.nursery_book.specs.Nursery.{Nursery as Members, with_body}
 use Rattle.nursery_book.specs.Book.{nursery_at, Updates, Changes}
 use Rattle.nursery_book.specs.declared.book.NurseryBook.{NurseryBook}
-use Rattle.turn_semantics.specs.Placed.{IsAmong}
 use Rattle.task_machine.specs.declared.frame.Frame.{Frame}
 use Rattle.task_machine.specs.declared.frame.Frame.TheVariants.{Nursery}
 use Rattle.task_machine.specs.declared.task.Own.{Own}

@@ -4,6 +4,7 @@ use Rattle.std.proofs.Common.{◌≡◌, ◌⊎◌, inl, inr, ℕ, ◌+◌, Bool
 use Rattle.std.proofs.lemmas.Bool.{eqb-true, eq-eqb}
 use Rattle.std.specs.Option.{option_map}
 use Rattle.std.specs.Str.{bytes_eq}
+use Rattle.turn_semantics.specs.Lists.{IsAmong}
 use Rattle.exceptions.specs.Exceptions.{Label}
 use Rattle.cancel_scopes.specs.Sight.{Tick, Level, earlier, next, is_reached, sight, seen, catches}
 use Rattle.cancel_scopes.specs.Tree.{after_cancel}
@@ -13,8 +14,8 @@ use Rattle.job_meaning.specs.Walk.{Levels, label_if, is_among, from_for, stack_f
 use Rattle.job_meaning.proofs.Distinct.{same_label_equal, same_label_itself}
 use Rattle.turn_semantics.specs.Midway.{Place, is_of_kind, label_among, level_on, stack_at}
 use Rattle.turn_semantics.specs.Steps.{home_among, froms_after_sign, from_lowered_if, froms_after_entry, from_entered_if}
-use Rattle.turn_semantics.specs.Turned.{Known, labels_of}
-use Rattle.turn_semantics.specs.Names.{IsName, names_at, OwnNames}
+use Rattle.turn_semantics.specs.Turned.{labels_of}
+use Rattle.turn_semantics.specs.Names.{names_at, OwnNames}
 use Rattle.task_machine.specs.Acts.{SetsKey, set_at_entry}
 use Rattle.task_machine.specs.Labels.{Labels, Events, is_named, key_if, is_sought, scope_named, home_key, has_label_among, level_from, seen_levels}
 use Rattle.task_machine.specs.Laws.{FitsEntry}
@@ -362,7 +363,7 @@ set_at labels events more froms (l ∷ ls) (p ∷ ps) key t label set all named 
 
 -- a label that is opened and is none of these places leaves them as they are
 pub opened_else : (labels more : Labels) (events others : Events) (froms : Table) (st : scopes.Stack) (ps : List Place) (label : Label)
-    (d : Tick) → SameOn labels more st → SameOn events others st → (Known label (labels_of ps) → ⊥) →
+    (d : Tick) → SameOn labels more st → SameOn events others st → (IsAmong label (labels_of ps) → ⊥) →
     AreAt labels events froms st ps → AreAt more others (froms_after_entry froms label d) st ps
 opened_else labels more events others froms [] [] label d same alike new a = tt
 opened_else labels more events others froms [] (p ∷ ps) label d same alike new a = a
@@ -388,7 +389,7 @@ opened_else labels more events others froms (l ∷ ls) (p ∷ ps) label d same a
 -- a scope or event that is opened with a label that is new, inside these places
 opened_at : (labels more : Labels) (events others : Events) (froms : Table) (st : scopes.Stack) (ps : List Place) (key : ℕ) (p : Place)
     (d : Tick) → more key ≡ Some p.label → others key ≡ set_at_entry p.is_event → FitsEntry p d → SameOn labels more st →
-    SameOn events others st → (Known p.label (labels_of ps) → ⊥) → AreAt labels events froms st ps →
+    SameOn events others st → (IsAmong p.label (labels_of ps) → ⊥) → AreAt labels events froms st ps →
     AreAt more others (froms_after_entry froms p.label d) (record { label = key; shield = p.shield; from = d } ∷ st) (p ∷ ps)
 opened_at labels more events others froms st ps key p d named kind entry same alike new a = (
   named,
@@ -409,14 +410,14 @@ opened_at labels more events others froms st ps key p d named kind entry same al
 -- ---- names that are apart
 
 -- a label that is known among places has a name that is among theirs
-pub known_name : (label : Label) (ps : List Place) → Known label (labels_of ps) → IsName label.name (names_at ps)
+pub known_name : (label : Label) (ps : List Place) → IsAmong label (labels_of ps) → IsAmong label.name (names_at ps)
 known_name label [] k = absurd k
 known_name label (p ∷ ps) (inl e) = inl (ap (λ (l : Label). l.name) e)
 known_name label (p ∷ ps) (inr k) = inr (known_name label ps k)
 
 -- a scope with a label that is not among the places is none of the stack
 none_alone : (labels : Labels) (events : Events) (froms : Table) (st : scopes.Stack) (ps : List Place) (key : ℕ) (label : Label) →
-    (Known label (labels_of ps) → ⊥) →
+    (IsAmong label (labels_of ps) → ⊥) →
     AreAt labels events froms st ps → Alone labels key label st
 none_alone labels events froms [] [] key label new a = tt
 none_alone labels events froms [] (p ∷ ps) key label new a = absurd a
@@ -427,7 +428,7 @@ none_alone labels events froms (l ∷ ls) (p ∷ ps) key label new a =
 -- a scope of the stack has its label among the places
 pub key_known : (labels : Labels) (events : Events) (froms : Table) (st : scopes.Stack) (ps : List Place) (key : ℕ) (label : Label) → labels key ≡ Some label →
     IsKey key st →
-    AreAt labels events froms st ps → Known label (labels_of ps)
+    AreAt labels events froms st ps → IsAmong label (labels_of ps)
 key_known labels events froms [] [] key label named i a = absurd i
 key_known labels events froms [] (p ∷ ps) key label named i a = absurd i
 key_known labels events froms (l ∷ ls) [] key label named i a = absurd a
@@ -445,10 +446,10 @@ alone_at labels events froms (l ∷ ls) (p ∷ ps) key label named (inl e) own a
     let same : label ≡ p.label = one_of label p.label (sym named ∙ ap labels e ∙ a.0) in (
       (λ f. sym e),
       none_alone labels events froms ls ps key label (λ k.
-          own.0 (subst (λ (m : Label). IsName m.name (names_at ps)) same (known_name label ps k))) a.3,
+          own.0 (subst (λ (m : Label). IsAmong m.name (names_at ps)) same (known_name label ps k))) a.3,
     )
 alone_at labels events froms (l ∷ ls) (p ∷ ps) key label named (inr i) own a = (
-  (λ e. absurd (own.0 (subst (λ (m : Label). IsName m.name (names_at ps)) (one_of label p.label (sym e ∙ a.0))
+  (λ e. absurd (own.0 (subst (λ (m : Label). IsAmong m.name (names_at ps)) (one_of label p.label (sym e ∙ a.0))
       (known_name label ps (key_known labels events froms ls ps key label named i a.3))))),
   alone_at labels events froms ls ps key label named i own.1 a.3,
 )
@@ -472,7 +473,7 @@ set_alike labels events more froms st ps key t label set all named sets i own a 
 -- a scope or event is opened inside a stack whose places have other names: its place has its deadline as from
 pub entered_alike : (labels more : Labels) (events others : Events) (froms : Table) (st : scopes.Stack) (ps : List Place) (key : ℕ)
     (p : Place) (d : Tick) → more key ≡ Some p.label → others key ≡ set_at_entry p.is_event → FitsEntry p d → SameOn labels more st →
-    SameOn events others st → (IsName p.label.name (names_at ps) → ⊥) → AreAt labels events froms st ps →
+    SameOn events others st → (IsAmong p.label.name (names_at ps) → ⊥) → AreAt labels events froms st ps →
     AreAt more others (froms_after_entry froms p.label d) (record { label = key; shield = p.shield; from = d } ∷ st) (p ∷ ps)
 entered_alike labels more events others froms st ps key p d named kind entry same alike new a =
     opened_at labels more events others froms st ps key p d named kind entry same alike (λ k. new (known_name p.label ps k)) a

@@ -6,6 +6,7 @@ use Rattle.std.proofs.lemmas.List.{append-nil}
 use Rattle.std.proofs.lemmas.Option.{none-some}
 use Rattle.std.specs.Option.{IsSomeAnd}
 use Rattle.std.specs.List.{slice_get}
+use Rattle.turn_semantics.specs.Lists.{IsAmong}
 use Rattle.input_lines.specs.Part.{buffer_of}
 use Rattle.cancel_scopes.specs.Sight.{Tick}
 use Rattle.job_tree.specs.Tree as tree
@@ -15,7 +16,7 @@ use Rattle.job_meaning.specs.Rest.{Stopped}
 use Rattle.nursery_book.specs.Nursery.{Nursery as Members, new_nursery}
 use Rattle.nursery_book.specs.Book.{nursery_at, HasNursery}
 use Rattle.turn_semantics.specs.Midway.{Place}
-use Rattle.turn_semantics.specs.Names.{IsName, names_at}
+use Rattle.turn_semantics.specs.Names.{names_at}
 use Rattle.turn_semantics.specs.Steps.{makes}
 use Rattle.task_machine.specs.declared.frame.Frame.{Frame}
 use Rattle.task_machine.specs.declared.frame.Frame.TheVariants.{Steps, Scope, Event, Nursery, Repeat, Try, Handler, Cleanup}
@@ -124,7 +125,7 @@ frames_others numbers more fs same = onto_others numbers more fs [] same
 
 module _ (b : State) (whole : List Frame) (froms : Table) (numbers : Numbers) (stopped : Option Stopped) (ps : List Place)
     (stands : Stands (with_frames b whole) froms numbers stopped ps) (u : State) (p : Place) (deadline : Tick)
-    (body : tree.Steps) (same : blocks_of b.frames ≡ blocks_of whole) (fresh : IsName p.label.name (names_at ps) → ⊥)
+    (body : tree.Steps) (same : blocks_of b.frames ≡ blocks_of whole) (fresh : IsAmong p.label.name (names_at ps) → ⊥)
     (started : u.started ≡ b.started) (entries : u.entries ≡ b.entries) (cancelled : u.cancelled ≡ b.cancelled)
     (enters : EntersAt b u p deadline)
     (one : Enters (scope_at b) p.label p.is_event deadline (scoping_in b) (scoping_in u)) where

@@ -3,6 +3,7 @@ use Rattle.std.proofs.Common.{◌≡◌, ◌⊎◌, inl, inr, ℕ, zero, suc, Bo
 use Rattle.std.proofs.lemmas.Bool.{eqb-true}
 use Rattle.std.specs.Option.{option_map}
 use Rattle.std.specs.Str.{bytes_eq}
+use Rattle.turn_semantics.specs.Lists.{IsAmong}
 use Rattle.input_lines.specs.declared.part.Part.{Part}
 use Rattle.cancel_scopes.specs.Sight.{Tick, Level}
 use Rattle.cancel_scopes.specs.Tree as scopes
@@ -15,7 +16,7 @@ use Rattle.job_meaning.specs.Rest.{Stopped, to_begin, asking, asleep, waiting_fo
 use Rattle.nursery_book.specs.declared.book.NurseryBook.{NurseryBook}
 use Rattle.turn_semantics.specs.Midway.{Place, label_among, level_on, stack_at}
 use Rattle.turn_semantics.specs.Names.{names_at, OwnNames}
-use Rattle.turn_semantics.specs.Turned.{Known, labels_of}
+use Rattle.turn_semantics.specs.Turned.{labels_of}
 use Rattle.turn_semantics.specs.Steps.{waits_on}
 use Rattle.turn_semantics.specs.Wakes.{is_checkpoint, set_at, gives_up_if, sees_from}
 use Rattle.task_machine.specs.declared.stop.TaskState.{TaskState}
@@ -35,12 +36,12 @@ use Rattle.task_machine.proofs.Stacked.{one_of, named_is_in, known_name, key_kno
 
 -- a label that a name finds is one of the places
 among_known : (sought : Bool) (name : List ℕ) (ps : List Place) (label : Label) → label_among sought name ps ≡ Some label →
-    Known label (labels_of ps)
+    IsAmong label (labels_of ps)
 among_known sought name [] label e = absurd (let f : None ≡ Some label = e in cc)
 among_known sought name (p ∷ ps) label e = by_test _ e (λ f. among_known sought name ps label f)
   where
     by_test : (b : Bool) → label_if b p.label (label_among sought name ps) ≡ Some label →
-        (label_among sought name ps ≡ Some label → Known label (labels_of ps)) → (label ≡ p.label) ⊎ Known label (labels_of ps)
+        (label_among sought name ps ≡ Some label → IsAmong label (labels_of ps)) → (label ≡ p.label) ⊎ IsAmong label (labels_of ps)
     by_test true f inside = inl (sym (one_of p.label label f))
     by_test false f inside = inr (inside f)
 
@@ -58,7 +59,7 @@ found_event labels events froms (l ∷ ls) (p ∷ ps) key name a own i e =
     by_kind (λ k f. found_event labels events froms ls ps key name a.3 own.1 k f) p.is_event refl e
   where
     -- no other place has the label of this one
-    clash : Known p.label (labels_of ps) → ⊥
+    clash : IsAmong p.label (labels_of ps) → ⊥
     clash k = own.0 (known_name p.label ps k)
 
     -- the event is further out

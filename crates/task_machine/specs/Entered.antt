@@ -1,5 +1,6 @@
 -- A task that enters a scope, a nursery or an event, and one that cancels a scope or sets an event.
 use Rattle.std.specs.Prelude.{◌≡◌, ℕ, Bool, true, false, Option, Some, None, List, [], ◌∷◌, ◌++◌}
+use Rattle.turn_semantics.specs.Lists.{IsAmong}
 use Rattle.job_tree.specs.Tree.{Steps}
 use Rattle.job_tree.specs.Blocks.{steps_of}
 use Rattle.nursery_book.specs.Nursery.{new_nursery}
@@ -10,7 +11,7 @@ use Rattle.cancel_scopes.specs.Sight.{Tick}
 use Rattle.job_meaning.specs.Log.{Table}
 use Rattle.job_meaning.specs.Walk.{with_own}
 use Rattle.turn_semantics.specs.Midway.{Place, label_among}
-use Rattle.turn_semantics.specs.Names.{IsName, names_at, OwnNames}
+use Rattle.turn_semantics.specs.Names.{names_at, OwnNames}
 use Rattle.turn_semantics.specs.Steps.{froms_after_entry, signs_to, froms_after}
 use Rattle.task_machine.specs.declared.frame.Frame.{Frame}
 use Rattle.task_machine.specs.declared.frame.Frame.TheVariants as frame
@@ -25,7 +26,7 @@ use Rattle.task_machine.specs.Tasks.{path_of}
 -- label is entered, with this deadline. No enclosing one has its name.
 abbrev pub EntersAt : State → State → Place → Tick → Type 0
 EntersAt before after p deadline =
-    (froms : Table) (ps : List Place) → (IsName p.label.name (names_at ps) → ⊥) →
+    (froms : Table) (ps : List Place) → (IsAmong p.label.name (names_at ps) → ⊥) →
     AreAt before.labels before.events froms (stack_in before) ps →
     AreAt after.labels after.events (froms_after_entry froms p.label deadline) (stack_in after) (p ∷ ps)
 

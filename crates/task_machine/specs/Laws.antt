@@ -1,12 +1,13 @@
 -- What the open scopes of a world show is what the places of a task (the scopes, nurseries and events that enclose it) show with
 -- the world's froms, and stays so.
 use Rattle.std.specs.Prelude.{◌≡◌, ℕ, Bool, true, false, None, Some, List, ◌∷◌}
+use Rattle.turn_semantics.specs.Lists.{IsAmong}
 use Rattle.exceptions.specs.Exceptions.{Label}
 use Rattle.cancel_scopes.specs.Sight.{Tick, Level, seen, catches}
 use Rattle.cancel_scopes.specs.Tree as scopes
 use Rattle.job_meaning.specs.Log.{Table}
 use Rattle.turn_semantics.specs.Midway.{Place, label_among, stack_at}
-use Rattle.turn_semantics.specs.Names.{IsName, names_at, OwnNames}
+use Rattle.turn_semantics.specs.Names.{names_at, OwnNames}
 use Rattle.turn_semantics.specs.Steps.{froms_after_sign, froms_after_entry}
 use Rattle.task_machine.specs.Labels.{Labels, Events, scope_named}
 use Rattle.task_machine.specs.Acts.{SetsKey, set_at_entry}
@@ -56,5 +57,5 @@ abbrev pub EnteredAlike : Type 0
 EnteredAlike =
     (labels more : Labels) (events others : Events) (froms : Table) (st : scopes.Stack) (ps : List Place) (key : ℕ) (p : Place) (d : Tick) →
     more key ≡ Some p.label → others key ≡ set_at_entry p.is_event → FitsEntry p d → SameOn labels more st → SameOn events others st →
-    (IsName p.label.name (names_at ps) → ⊥) → AreAt labels events froms st ps →
+    (IsAmong p.label.name (names_at ps) → ⊥) → AreAt labels events froms st ps →
     AreAt more others (froms_after_entry froms p.label d) (record { label = key; shield = p.shield; from = d } ∷ st) (p ∷ ps)

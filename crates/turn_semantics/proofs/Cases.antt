@@ -1,6 +1,7 @@
 -- What each step of a turn makes, begins and leaves, case by case.
 use Rattle.std.proofs.Common.{◌≡◌, inl, inr, ℕ, zero, suc, ◌+◌, ◌-◌, ◌*◌, ◌≤◌, Bool, true, false, not, ◌&&◌, Option, Some, None, List, [], ◌∷◌, ◌++◌, length, refl, ap, sym, ◌∙◌, subst, arith}
 use Rattle.std.specs.Str.{bytes_eq}
+use Rattle.turn_semantics.specs.Lists.{IsAmong}
 use Rattle.job_tree.specs.Tree.{Step, sleep, checkpoint, forever, pace, find, head, longest, need, raise, cancel, set_event, wait_for, scope, nursery, event, start, repeat, attempt, Steps, stop, step, Handled, unhandled, except, Cleaned, uncleaned, finally}
 use Rattle.job_tree.specs.Names.{size_of}
 use Rattle.job_tree.specs.Starting.{StartsIn, StartsAt, HandlerStarts, CleanupStarts}
@@ -19,7 +20,7 @@ use Rattle.job_meaning.specs.Asking as ask
 use Rattle.turn_semantics.specs.Midway.{Place, is_of_kind, label_among, stack_at, Midway, Begun, Move}
 use Rattle.turn_semantics.specs.Steps.{froms_after, onward, blocks_on, makes, falls_asleep, sleeps, signs_to, waits_on, home_among, signs_home, with_started, begun_one, begun_over, enters_block, enters_event, step_on, step_steps, leaves, handler_if, step_try, step_frames, step_of, begins_passes, step_pass}
 use Rattle.turn_semantics.specs.Placed.{in_body, Placed, IsSome, PlacedAfter, home_places, home_after}
-use Rattle.turn_semantics.specs.Turned.{Known, labels_of, AllKnown, known_after, MadeAt, Starts, BegunIn, AllBy, FallsAsleep, StopsAt, weight_of_stop, weight_of_begun}
+use Rattle.turn_semantics.specs.Turned.{labels_of, AllKnown, known_after, MadeAt, Starts, BegunIn, AllBy, FallsAsleep, StopsAt, weight_of_stop, weight_of_begun}
 use Rattle.turn_semantics.proofs.Events.{all_own, all_grow, known_stays, begun_append, clocks_append, made_append, starts_append, weight_append}
 use Rattle.std.proofs.Math.Nat.{suc-mul}
 
@@ -39,7 +40,7 @@ pub record Case (clock : Clock) (t : ℕ) (froms : Table) (weight_before : ℕ) 
 -- a label that is found, if one is, is known
 abbrev Found : Option Label → List Label → Type 0
 Found None ls = Unit {0}
-Found (Some l) ls = Known l ls
+Found (Some l) ls = IsAmong l ls
 
 found_further : (o : Option Label) (m : Label) (ls : List Label) → Found o ls → Found o (m ∷ ls)
 found_further None m ls k = tt

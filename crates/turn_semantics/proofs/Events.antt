@@ -1,5 +1,6 @@
 -- What events that are made one after another mean, and how the froms change by them.
 use Rattle.std.proofs.Common.{◌≡◌, inl, inr, ℕ, suc, ◌+◌, Some, List, [], ◌∷◌, ◌++◌, length, refl, sym, ◌∙◌, subst, arith}
+use Rattle.turn_semantics.specs.Lists.{IsAmong}
 use Rattle.exceptions.specs.Exceptions.{Label}
 use Rattle.job_meaning.specs.Log.{Table}
 use Rattle.job_meaning.specs.declared.clock.Clock.{Clock}
@@ -8,17 +9,17 @@ use Rattle.job_meaning.specs.Walk.{with_own}
 use Rattle.job_meaning.specs.Rest.{Event, noted, signs, enters, starts, ChildOutcomes, fill}
 use Rattle.turn_semantics.specs.Midway.{Place, Begun, own_after, OwnFits}
 use Rattle.turn_semantics.specs.Steps.{froms_after_sign, froms_after_entry, froms_after}
-use Rattle.turn_semantics.specs.Turned.{AgreesOn, AgreesIn, Known, labels_of, AllKnown, known_after, MadeAt, Starts, BegunIn, AllBy, weight_of_begun}
+use Rattle.turn_semantics.specs.Turned.{AgreesOn, AgreesIn, labels_of, AllKnown, known_after, MadeAt, Starts, BegunIn, AllBy, weight_of_begun}
 use Rattle.turn_semantics.proofs.Agreeing.{SameFrom, agrees_lowered, agrees_opened, agrees_own}
 
 -- ---- labels that are known
 
 -- a label that is known is known among more
-pub known_more : (l m : Label) (ls : List Label) → Known l ls → Known l (m ∷ ls)
+pub known_more : (l m : Label) (ls : List Label) → IsAmong l ls → IsAmong l (m ∷ ls)
 known_more l m ls k = inr k
 
 -- what was known stays known
-pub known_stays : (l : Label) (es : List Event) (ls : List Label) → Known l ls → Known l (known_after ls es)
+pub known_stays : (l : Label) (es : List Event) (ls : List Label) → IsAmong l ls → IsAmong l (known_after ls es)
 known_stays l [] ls k = k
 known_stays l (noted t e ∷ es) ls k = known_stays l es ls k
 known_stays l (signs m t ∷ es) ls k = known_stays l es ls k
@@ -26,14 +27,14 @@ known_stays l (enters m t d ∷ es) ls k = known_stays l es (m ∷ ls) (inr k)
 known_stays l (starts i m t ∷ es) ls k = known_stays l es ls k
 
 -- more labels known before, more after
-pub known_grows : (ls ms : List Label) → ((l : Label) → Known l ls → Known l ms) → (es : List Event) → (l : Label) →
-    Known l (known_after ls es) → Known l (known_after ms es)
+pub known_grows : (ls ms : List Label) → ((l : Label) → IsAmong l ls → IsAmong l ms) → (es : List Event) → (l : Label) →
+    IsAmong l (known_after ls es) → IsAmong l (known_after ms es)
 known_grows ls ms h [] l k = h l k
 known_grows ls ms h (noted t e ∷ es) l k = known_grows ls ms h es l k
 known_grows ls ms h (signs m t ∷ es) l k = known_grows ls ms h es l k
 known_grows ls ms h (enters m t d ∷ es) l k = known_grows (m ∷ ls) (m ∷ ms) grown es l k
   where
-    grown : (l : Label) → Known l (m ∷ ls) → Known l (m ∷ ms)
+    grown : (l : Label) → IsAmong l (m ∷ ls) → IsAmong l (m ∷ ms)
     grown l (inl e) = inl e
     grown l (inr k) = inr (h l k)
 known_grows ls ms h (starts i m t ∷ es) l k = known_grows ls ms h es l k
@@ -47,7 +48,7 @@ known_append (enters m t d ∷ es) fs ls = known_append es fs (m ∷ ls)
 known_append (starts i m t ∷ es) fs ls = known_append es fs ls
 
 -- each enclosing scope or nursery whose label was known is known where more labels are known
-pub all_grow : (ls ms : List Label) → ((l : Label) → Known l ls → Known l ms) → (ps : List Place) → AllKnown ps ls → AllKnown ps ms
+pub all_grow : (ls ms : List Label) → ((l : Label) → IsAmong l ls → IsAmong l ms) → (ps : List Place) → AllKnown ps ls → AllKnown ps ms
 all_grow ls ms h [] a = tt
 all_grow ls ms h (p ∷ ps) a = (h p.label a.0, all_grow ls ms h ps a.1)
 
@@ -57,13 +58,13 @@ all_own [] = tt
 all_own (p ∷ ps) = (inl refl, all_grow (labels_of ps) (p.label ∷ labels_of ps) (λ l k. inr k) ps (all_own ps))
 
 -- a label of enclosing scopes and nurseries that are all known is known
-pub place_known : (ls : List Label) (ps : List Place) → AllKnown ps ls → (l : Label) → Known l (labels_of ps) → Known l ls
+pub place_known : (ls : List Label) (ps : List Place) → AllKnown ps ls → (l : Label) → IsAmong l (labels_of ps) → IsAmong l ls
 place_known ls [] a l k = absurd k
-place_known ls (p ∷ ps) a l (inl e) = subst (λ (x : Label). Known x ls) (sym e) a.0
+place_known ls (p ∷ ps) a l (inl e) = subst (λ (x : Label). IsAmong x ls) (sym e) a.0
 place_known ls (p ∷ ps) a l (inr k) = place_known ls ps a.1 l k
 
 -- so is each enclosing scope or nursery of each child begun
-pub begun_grow : (ls ms : List Label) → ((l : Label) → Known l ls → Known l ms) → (bs : List Begun) → BegunIn ls bs → BegunIn ms bs
+pub begun_grow : (ls ms : List Label) → ((l : Label) → IsAmong l ls → IsAmong l ms) → (bs : List Begun) → BegunIn ls bs → BegunIn ms bs
 begun_grow ls ms h [] a = tt
 begun_grow ls ms h (b ∷ bs) a = (all_grow ls ms h b.places a.0, a.1, begun_grow ls ms h bs a.2)
 
@@ -80,14 +81,14 @@ clocks_append clock (x ∷ bs) cs a b = (a.0, clocks_append clock bs cs a.1 b)
 -- ---- events made in one moment
 
 -- signs for labels that are known are for known ones of more
-pub made_grows : (clock : Clock) (t : ℕ) (ls ms : List Label) → ((l : Label) → Known l ls → Known l ms) → (es : List Event) → MadeAt clock t ls es →
+pub made_grows : (clock : Clock) (t : ℕ) (ls ms : List Label) → ((l : Label) → IsAmong l ls → IsAmong l ms) → (es : List Event) → MadeAt clock t ls es →
     MadeAt clock t ms es
 made_grows clock t ls ms h [] a = tt
 made_grows clock t ls ms h (noted u e ∷ es) a = (a.0, made_grows clock t ls ms h es a.1)
 made_grows clock t ls ms h (signs l u ∷ es) a = (a.0, h l a.1, made_grows clock t ls ms h es a.2)
 made_grows clock t ls ms h (enters m u d ∷ es) a = (a.0, made_grows clock t (m ∷ ls) (m ∷ ms) grown es a.1)
   where
-    grown : (l : Label) → Known l (m ∷ ls) → Known l (m ∷ ms)
+    grown : (l : Label) → IsAmong l (m ∷ ls) → IsAmong l (m ∷ ms)
     grown l (inl e) = inl e
     grown l (inr k) = inr (h l k)
 made_grows clock t ls ms h (starts i l u ∷ es) a = (a.0, made_grows clock t ls ms h es a.1)
@@ -164,7 +165,7 @@ froms_append (starts i l t ∷ es) fs froms = froms_append es fs froms
 -- events too: a sign made at t acts from the next moment on.
 pub known_agree : (clock : Clock) (t : ℕ) (table : Table) (told : ChildOutcomes) (es : List Event) (ls : List Label) (froms : Table) → MadeAt clock t ls es →
     AgreesIn t table (fill told es) →
-    ((l : Label) → Known l ls → SameFrom t table froms l) → (l : Label) → Known l (known_after ls es) →
+    ((l : Label) → IsAmong l ls → SameFrom t table froms l) → (l : Label) → IsAmong l (known_after ls es) →
     SameFrom t table (froms_after froms es) l
 known_agree clock t table told [] ls froms a b h l k = h l k
 known_agree clock t table told (noted u e ∷ es) ls froms a b h l k = known_agree clock t table told es ls froms a.1 b h l k
@@ -173,20 +174,20 @@ known_agree clock t table told (signs m u ∷ es) ls froms a b h l k =
     (λ x i. subst (λ (v : ℕ). SameFrom t table (froms_after_sign froms m v) x) (sym a.0) (agrees_lowered t table froms m x (h x i))) l k
 known_agree clock t table told (enters m u d ∷ es) ls froms a b h l k = known_agree clock t table told es (m ∷ ls) (froms_after_entry froms m d) a.1 b.1 grown l k
   where
-    grown : (x : Label) → Known x (m ∷ ls) → SameFrom t table (froms_after_entry froms m d) x
+    grown : (x : Label) → IsAmong x (m ∷ ls) → SameFrom t table (froms_after_entry froms m d) x
     grown x (inl e) = subst (λ (y : Label). SameFrom t table (froms_after_entry froms m d) y) (sym e) (agrees_own t table froms m d b.0)
     grown x (inr i) = agrees_opened t table froms m d x b.0 (h x i)
 known_agree clock t table told (starts i m u ∷ es) ls froms a b h l k = known_agree clock t table told es ls froms a.1 b h l k
 
 -- if tables agree on enclosing scopes and nurseries, they agree on each of their labels
-pub on_places : (t : ℕ) (table froms : Table) (ps : List Place) → AgreesOn t table froms ps → (l : Label) → Known l (labels_of ps) →
+pub on_places : (t : ℕ) (table froms : Table) (ps : List Place) → AgreesOn t table froms ps → (l : Label) → IsAmong l (labels_of ps) →
     SameFrom t table froms l
 on_places t table froms [] a l k = absurd k
 on_places t table froms (p ∷ ps) a l (inl e) = subst (λ (x : Label). SameFrom t table froms x) (sym e) a.0
 on_places t table froms (p ∷ ps) a l (inr k) = on_places t table froms ps a.1 l k
 
 -- and if they agree on known labels, they agree on enclosing scopes and nurseries that are known
-pub by_known : (t : ℕ) (table froms : Table) (ls : List Label) → ((l : Label) → Known l ls → SameFrom t table froms l) → (ps : List Place) →
+pub by_known : (t : ℕ) (table froms : Table) (ls : List Label) → ((l : Label) → IsAmong l ls → SameFrom t table froms l) → (ps : List Place) →
     AllKnown ps ls → AgreesOn t table froms ps
 by_known t table froms ls h [] a = tt
 by_known t table froms ls h (p ∷ ps) a = (h p.label a.0, by_known t table froms ls h ps a.1)

@@ -1,6 +1,7 @@
 -- The froms of the world after a turn: lowered by just the signs made, and of a label entered in it, from its deadline.
 use Rattle.std.proofs.Common.{◌≡◌, inl, inr, ℕ, ◌+◌, Bool, true, false, Some, None, List, [], ◌∷◌, refl, ap, sym, ◌∙◌, subst, nat_lt, if◌then◌else◌, arith}
 use Rattle.std.proofs.lemmas.Bool.Decides.{nat_tests}
+use Rattle.turn_semantics.specs.Lists.{IsAmong}
 use Rattle.exceptions.specs.Exceptions.{Label}
 use Rattle.cancel_scopes.specs.Sight.{Tick, earlier, next}
 use Rattle.job_meaning.specs.Log.{Table, same_label, tick_if, from_by}
@@ -9,7 +10,7 @@ use Rattle.job_meaning.specs.Rest.{Event, noted, signs, enters, starts}
 use Rattle.job_meaning.proofs.Touched.{earlier_never}
 use Rattle.job_meaning.proofs.Distinct.{same_label_equal, same_label_itself}
 use Rattle.turn_semantics.specs.Steps.{froms_after_sign, from_lowered_if, froms_after_entry, from_entered_if, froms_after}
-use Rattle.turn_semantics.specs.Turned.{Known, MadeAt, made_sign, EntersIn, EntersOnceWith}
+use Rattle.turn_semantics.specs.Turned.{MadeAt, made_sign, EntersIn, EntersOnceWith}
 
 -- the earliest of three ticks
 pub earlier_assoc : (a b c : Tick) → earlier (earlier a b) c ≡ earlier a (earlier b c)
@@ -54,7 +55,7 @@ from_lowered (enters m t d ∷ es) froms l h =
 from_lowered (starts i m t ∷ es) froms l h = from_lowered es froms l h
 
 -- the from of a label that was entered once, and was not known before, is its deadline, lowered likewise
-pub from_opened : (clock : Clock) (t : ℕ) (es : List Event) (ls : List Label) (froms : Table) (l : Label) (d : Tick) → MadeAt clock t ls es → (Known l ls → ⊥) →
+pub from_opened : (clock : Clock) (t : ℕ) (es : List Event) (ls : List Label) (froms : Table) (l : Label) (d : Tick) → MadeAt clock t ls es → (IsAmong l ls → ⊥) →
     EntersOnceWith l d es →
     froms_after froms es l ≡ from_by d (made_sign l es)
 from_opened clock t [] ls froms l d a k o = absurd o
@@ -64,7 +65,7 @@ from_opened clock t (signs m u ∷ es) ls froms l d a k o =
     ∙ ap (λ (b : Bool). from_by d (earlier (tick_if b u) (made_sign l es))) (sym (same_differs l m differs))
   where
     differs : (l ≡ m) → ⊥
-    differs e = k (subst (λ (x : Label). Known x ls) (sym e) a.1)
+    differs e = k (subst (λ (x : Label). IsAmong x ls) (sym e) a.1)
 from_opened clock t (enters m u c ∷ es) ls froms l d a k (inl o) =
     from_lowered es (froms_after_entry froms m c) l o.2
     ∙ (ap (λ (b : Bool). from_by (from_entered_if b c (froms l)) (made_sign l es))
@@ -72,7 +73,7 @@ from_opened clock t (enters m u c ∷ es) ls froms l d a k (inl o) =
     ∙ ap (λ (x : Tick). from_by x (made_sign l es)) (sym o.1))
 from_opened clock t (enters m u c ∷ es) ls froms l d a k (inr o) = from_opened clock t es (m ∷ ls) (froms_after_entry froms m c) l d a.1 new o.1
   where
-    new : Known l (m ∷ ls) → ⊥
+    new : IsAmong l (m ∷ ls) → ⊥
     new (inl e) = o.0 e
     new (inr i) = k i
 from_opened clock t (starts i m u ∷ es) ls froms l d a k o = from_opened clock t es ls froms l d a.1 k o
@@ -91,16 +92,16 @@ signed_now clock t (enters m v d ∷ es) ls l u a e = signed_now clock t es (m �
 signed_now clock t (starts i m v ∷ es) ls l u a e = signed_now clock t es ls l u a.1 e
 
 -- and there is one only for a label that was known, or was entered
-pub unsigned : (clock : Clock) (t : ℕ) (es : List Event) (ls : List Label) (l : Label) → MadeAt clock t ls es → (Known l ls → ⊥) → (EntersIn l es → ⊥) →
+pub unsigned : (clock : Clock) (t : ℕ) (es : List Event) (ls : List Label) (l : Label) → MadeAt clock t ls es → (IsAmong l ls → ⊥) → (EntersIn l es → ⊥) →
     made_sign l es ≡ None
 unsigned clock t [] ls l a k h = refl
 unsigned clock t (noted v x ∷ es) ls l a k h = unsigned clock t es ls l a.1 k h
 unsigned clock t (signs m v ∷ es) ls l a k h =
-    ap (λ (b : Bool). earlier (tick_if b v) (made_sign l es)) (same_differs l m (λ e. k (subst (λ (x : Label). Known x ls) (sym e) a.1)))
+    ap (λ (b : Bool). earlier (tick_if b v) (made_sign l es)) (same_differs l m (λ e. k (subst (λ (x : Label). IsAmong x ls) (sym e) a.1)))
     ∙ unsigned clock t es ls l a.2 k h
 unsigned clock t (enters m v d ∷ es) ls l a k h = unsigned clock t es (m ∷ ls) l a.1 new (λ i. h (inr i))
   where
-    new : Known l (m ∷ ls) → ⊥
+    new : IsAmong l (m ∷ ls) → ⊥
     new (inl e) = h (inl e)
     new (inr i) = k i
 unsigned clock t (starts i m v ∷ es) ls l a k h = unsigned clock t es ls l a.1 k h

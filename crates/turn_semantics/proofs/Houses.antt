@@ -1,5 +1,6 @@
 -- Each child that a task begins belongs to a nursery of the task, which keeps it until it is settled.
 use Rattle.std.proofs.Common.{◌≡◌, ◌⊎◌, inl, inr, ℕ, zero, suc, ◌+◌, ◌-◌, ◌<◌, Bool, true, false, IsTrue, Option, Some, None, List, [], ◌∷◌, ◌++◌, refl, ap, arith}
+use Rattle.turn_semantics.specs.Lists.{IsAmong}
 use Rattle.job_tree.specs.Tree.{Step, sleep, checkpoint, forever, pace, find, head, longest, need, raise, cancel, set_event, wait_for, scope, nursery, event, start, repeat, attempt, Steps, stop, step, Handled, unhandled, except, Cleaned, uncleaned, finally}
 use Rattle.job_tree.specs.Starting.{StartsIn, StartsAt}
 use Rattle.exceptions.specs.Exceptions.{Label, Exc}
@@ -15,7 +16,7 @@ use Rattle.job_meaning.specs.Asking.{Answer, lines, missing, counted, Purpose, s
 use Rattle.turn_semantics.specs.Midway.{Place, label_among, stack_at, Midway, Begun, Move}
 use Rattle.turn_semantics.specs.Steps.{sleeps, falls_asleep, waits_on, with_started, begun_over, handler_if, step_try, step_on, step_steps, step_frames, step_of, begins_passes, step_pass}
 use Rattle.turn_semantics.specs.Wakes.{Wake, begins, sees, gives_up, is_due, has_answer, settles, goes_on_with, with_answer, leaves_settled, ends_at, is_checkpoint, gives_up_if, notes_wait, sees_from, is_due_from, wake_of, CanWake, from_start, from_asking, from_sleep, from_due, from_seen_waiting, from_set, from_giving_up, from_wait}
-use Rattle.turn_semantics.specs.Placed.{in_body, Placed, outer_places, IsAmong, HasChild, HasChildAfter, AllHoused}
+use Rattle.turn_semantics.specs.Placed.{in_body, Placed, outer_places, HasChild, HasChildAfter, AllHoused}
 use Rattle.turn_semantics.proofs.Keeps.{last_or_before}
 
 among_left : (i : ℕ) (is js : List ℕ) → IsAmong i is → IsAmong i (is ++ js)

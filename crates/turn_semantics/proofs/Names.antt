@@ -1,5 +1,6 @@
 -- No scope is entered that has the name of an enclosing one: each step of a task keeps that.
 use Rattle.std.proofs.Common.{◌≡◌, inl, inr, ℕ, zero, suc, ◌+◌, Bool, true, false, Option, Some, None, List, [], ◌∷◌, ◌++◌, length, refl, subst}
+use Rattle.turn_semantics.specs.Lists.{IsAmong}
 use Rattle.job_tree.specs.Tree.{Step, sleep, checkpoint, forever, pace, find, head, longest, need, raise, cancel, set_event, wait_for, scope, nursery, event, start, repeat, attempt, Steps, stop, step, Handled, unhandled, except, Cleaned, uncleaned, finally, Tree}
 use Rattle.job_tree.specs.Names.{names_of, names_in, handled_names, cleaned_names, GivesNamesOnce}
 use Rattle.exceptions.specs.Exceptions.{Label, Exc}
@@ -17,13 +18,13 @@ use Rattle.turn_semantics.specs.Midway.{Place, label_among, stack_at, Midway, Be
 use Rattle.turn_semantics.specs.Wakes.{Wake, goes_on_with, leaves_settled, ends_at, is_checkpoint, gives_up_if, notes_wait, wake_of, turn_from, CanWake, from_start, from_sleep, from_due, from_seen_waiting, from_set, from_asking, from_giving_up, from_wait}
 use Rattle.turn_semantics.specs.Placed.{outer_places}
 use Rattle.turn_semantics.specs.Steps.{falls_asleep, sleeps, waits_on, with_started, begun_over, step_on, step_steps, handler_if, step_try, step_frames, step_of, froms_after, turn_of, begins_passes, step_pass}
-use Rattle.turn_semantics.specs.Names.{IsName, names_at, OwnNames, AreNew, IsNew, IsNewHandler, IsNewCleanup, NewIn, AllNew, StaysNew}
+use Rattle.turn_semantics.specs.Names.{names_at, OwnNames, AreNew, IsNew, IsNewHandler, IsNewCleanup, NewIn, AllNew, StaysNew}
 
 -- ---- steps whose names are given once
 
 -- no name of one list is in the other
 abbrev NoName : List (List ℕ) → List (List ℕ) → Type 0
-NoName ns around = (n : List ℕ) → Among n ns → IsName n around → ⊥
+NoName ns around = (n : List ℕ) → Among n ns → IsAmong n around → ⊥
 
 more_around : (name : List ℕ) (ns around : List (List ℕ)) → (Among name ns → ⊥) → NoName ns around → NoName ns (name ∷ around)
 more_around name ns around d h n i (inl e) = d (subst (λ (x : List ℕ). Among x ns) e i)

@@ -1,5 +1,6 @@
 -- A whole turn keeps the result of the task, and what its steps promise.
 use Rattle.std.proofs.Common.{◌≡◌, inl, inr, ℕ, zero, suc, ◌+◌, Option, Some, None, List, ◌++◌, length, refl, ap, sym, ◌∙◌, subst, length-append, arith}
+use Rattle.turn_semantics.specs.Lists.{IsAmong}
 use Rattle.exceptions.specs.Exceptions.{Label}
 use Rattle.job_meaning.specs.Log.{Log, nil, entry, sign, entered, task, followed_by, Result, Table}
 use Rattle.job_meaning.specs.Moments.{a_round_after, Now}
@@ -10,7 +11,7 @@ use Rattle.job_meaning.proofs.Finish.{followed_assoc, fill_append}
 use Rattle.turn_semantics.specs.Midway.{Place, Midway, Move, after_move, no_move, then_move, OwnFits, now_after, after_events, left_of, left_after, stop_comes_to}
 use Rattle.turn_semantics.specs.Steps.{froms_after, step_of, turn_of}
 use Rattle.turn_semantics.specs.Placed.{Placed, PlacedAfter, home_after, KidsAfter, HasChildAfter, AllHoused}
-use Rattle.turn_semantics.specs.Turned.{AgreesOn, AgreesIn, AgreesAhead, AllTold, Known, labels_of, AllKnown, known_after, StopsAt, BegunIn, Turned, Goes}
+use Rattle.turn_semantics.specs.Turned.{AgreesOn, AgreesIn, AgreesAhead, AllTold, labels_of, AllKnown, known_after, StopsAt, BegunIn, TurnContext, Turned, Goes}
 use Rattle.turn_semantics.proofs.Keeps.{told_first, told_second, step_keeps}
 use Rattle.turn_semantics.proofs.Events.{known_append, known_grows, place_known, all_own, all_grow, known_stays, made_append, made_grows, own_append, own_fits, begun_append, begun_grow, clocks_append, starts_append, froms_append, weight_append, agrees_after}
 use Rattle.turn_semantics.proofs.Cases.{step_cases}
@@ -102,16 +103,30 @@ module _ (now : Now) (here : Here) (froms : Table) (Given : Table → ChildOutco
     (fits : (table : Table) (told : ChildOutcomes) → Given table told → OwnFits here.clock now.own) (before : Table → ChildOutcomes → Result) (bound : ℕ)
     (was : Option Stopped) (fs : List Frame) (ps : List Place) (n : ℕ)
   where
+    abbrev pub begins : TurnContext
+    begins = record {
+      now = now;
+      here = here;
+      froms = froms;
+      Given = Given;
+      before = before;
+      bound = bound;
+      stopped = was;
+      frames = fs;
+      places = ps;
+      count = n;
+    }
+
     -- a table that agrees with the froms before a move agrees with those after it
-    pub turned_agrees : (o : Move) → Turned now here froms Given before bound was fs ps n o → (table : Table) (told : ChildOutcomes) →
+    pub turned_agrees : (o : Move) → Turned begins o → (table : Table) (told : ChildOutcomes) →
         AgreesOn now.at table froms ps → AgreesIn now.at table (fill told o.made) → AgreesOn now.at table (froms_after froms o.made) o.places
     turned_agrees o h table told a b = agrees_after here.clock now.at table told o.made ps o.places froms h.made_now h.places a b
 
     -- the two of them keep the promise of one
-    pub turned_then : (o q : Move) → o.stopped ≡ None → Turned now here froms Given before bound was fs ps n o →
+    pub turned_then : (o q : Move) → o.stopped ≡ None → Turned begins o →
         Goes (now_after here.clock now o.made) here (froms_after froms o.made) (record { frames = o.frames; places = o.places; exc = o.exc; count = n + length o.begun })
         q →
-        Turned now here froms Given before bound was fs ps n (then_move None o q)
+        Turned begins (then_move None o q)
     turned_then o q s x y =
         record {
           keeps = keeps;
@@ -167,7 +182,7 @@ module _ (now : Now) (here : Here) (froms : Table) (Given : Table → ChildOutco
         between : List Label
         between = known_after (labels_of ps) o.made
 
-        known : (l : Label) → Known l (labels_of o.places) → Known l between
+        known : (l : Label) → IsAmong l (labels_of o.places) → IsAmong l between
         known l k = place_known between o.places x.places l k
 
         on : (table : Table) (told : ChildOutcomes) → left_after table told here now o ≡ left_of table told here later after
@@ -202,10 +217,10 @@ module _ (now : Now) (here : Here) (froms : Table) (Given : Table → ChildOutco
             (inr (agrees_in_second now.at table (fill told o.made) left parts)) h
 
     -- a move, and then a turn from there
-    pub turned_on : (s : Option Stopped) (o q : Move) → o.stopped ≡ s → Turned now here froms Given before bound was fs ps n o →
+    pub turned_on : (s : Option Stopped) (o q : Move) → o.stopped ≡ s → Turned begins o →
         (Placed o.frames o.places → Goes (now_after here.clock now o.made) here (froms_after froms o.made)
         (record { frames = o.frames; places = o.places; exc = o.exc; count = n + length o.begun }) q) →
-        Turned now here froms Given before bound was fs ps n (then_move s o q)
+        Turned begins (then_move s o q)
     turned_on (Some s) o q e x go = x
     turned_on None o q e x go = turned_then o q e x (go (subst (λ (s : Option Stopped). PlacedAfter s o.frames o.places) e x.placed))
 

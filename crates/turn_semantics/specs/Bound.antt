@@ -11,24 +11,15 @@ abbrev mutual
   turn_length (step s ss) = step_length s + turn_length ss
 
   pub step_length : Step → ℕ
-  step_length (sleep n) = 1
   step_length checkpoint = 1
   step_length forever = 1
-  step_length (pace k) = 1
-  step_length (find text) = 1
-  step_length (head n) = 1
   step_length longest = 1
-  step_length (need text name) = 1
-  step_length (raise name) = 1
-  step_length (cancel name) = 1
-  step_length (set_event name) = 1
-  step_length (wait_for name) = 1
   step_length (scope name deadline shield fail body) = 2 + turn_length body
   step_length (nursery name deadline shield body) = 2 + turn_length body
   step_length (event name body) = 2 + turn_length body
-  step_length (start name over body) = 1
   step_length (repeat count body) = 1 + count * (1 + turn_length body)
   step_length (attempt body handler cleanup) = 2 + turn_length body + (handler_length handler + cleanup_length cleanup)
+  step_length _ = 1
 
   pub handler_length : Handled → ℕ
   handler_length unhandled = 0
@@ -40,13 +31,11 @@ abbrev mutual
 
 abbrev pub frame_length : Frame → ℕ
 frame_length (steps_left ss) = turn_length ss
-frame_length (in_scope fail) = 1
 frame_length in_event = 1
-frame_length (in_nursery children) = 1
 frame_length (in_repeat pass left body) = 1 + left * (1 + turn_length body)
 frame_length (in_try handler cleanup) = 1 + handler_length handler + cleanup_length cleanup
 frame_length (in_handler rest cleanup) = 2 + cleanup_length cleanup
-frame_length (in_cleanup outcome) = 1
+frame_length _ = 1
 
 -- steps until a task with these frames has none left
 abbrev pub frames_length : List Frame → ℕ

@@ -1,5 +1,6 @@
 -- The laws of steps and turns. Each is the contract of a function that does nothing.
 use Rattle.std.specs.Prelude.{◌≡◌, ℕ, ◌<◌, Some, List, [], ◌∷◌, ◌++◌}
+use Rattle.turn_semantics.specs.Lists.{IsAmong}
 use Rattle.job_tree.specs.Tree.{Tree}
 use Rattle.job_tree.specs.Names.{GivesNamesOnce}
 use Rattle.exceptions.specs.Exceptions.{Label}
@@ -13,7 +14,7 @@ use Rattle.turn_semantics.specs.Midway.{Place, stack_at, Midway, Move, now_after
 use Rattle.turn_semantics.specs.Steps.{froms_after, step_of}
 use Rattle.turn_semantics.specs.Placed.{Placed, IsSome, PlacedStop, outer_places}
 use Rattle.turn_semantics.specs.Wakes.{Wake, wake_of, turn_from, WakesBy, CanWake}
-use Rattle.turn_semantics.specs.Turned.{AgreesOn, AgreesAhead, AllTold, Known, MadeAt, made_sign, EntersIn, EntersOnceWith, Goes, TurnsOver}
+use Rattle.turn_semantics.specs.Turned.{AgreesOn, AgreesAhead, AllTold, MadeAt, made_sign, EntersIn, EntersOnceWith, Goes, TurnsOver}
 use Rattle.turn_semantics.specs.Bound.{frames_length}
 use Rattle.turn_semantics.specs.Names.{names_at, OwnNames, NewIn, StaysNew}
 
@@ -56,7 +57,7 @@ FromsAreLowered = (es : List Event) (froms : Table) (l : Label) → (EntersIn l 
 -- and that of a label that was entered once, and was none of those before, starts as its deadline
 abbrev pub FromsAreOpened : Type 0
 FromsAreOpened =
-    (clock : Clock) (t : ℕ) (es : List Event) (ls : List Label) (froms : Table) (l : Label) (d : Tick) → MadeAt clock t ls es → (Known l ls → ⊥) →
+    (clock : Clock) (t : ℕ) (es : List Event) (ls : List Label) (froms : Table) (l : Label) (d : Tick) → MadeAt clock t ls es → (IsAmong l ls → ⊥) →
     EntersOnceWith l d es →
     froms_after froms es l ≡ from_by d (made_sign l es)
 

@@ -1,3 +1,5 @@
+pub mod Lists
+pub mod Made
 pub mod Midway
 pub mod Steps
 pub mod Placed

@@ -9,7 +9,8 @@ use Rattle.job_meaning.specs.Moments.{Now, only_at}
 use Rattle.job_meaning.specs.declared.clock.Clock.{Clock}
 use Rattle.job_meaning.specs.declared.clock.Clock.TheVariants.{ByTicks as by_ticks, ByRounds as by_rounds}
 use Rattle.job_meaning.specs.Walk.{Stack, no_stack, by_table, Here, label_if, done_at, with_own}
-use Rattle.job_meaning.specs.Rest.{Event, noted, signs, enters, starts, ChildOutcomes, fill, Frame, Stopped, finish, finished_from, rest_comes_to, rest_at_start}
+use Rattle.turn_semantics.specs.Made.{SignedLabel, signed_in}
+use Rattle.job_meaning.specs.Rest.{Event, ChildOutcomes, fill, Frame, Stopped, finish, finished_from, rest_comes_to, rest_at_start}
 
 -- a scope or nursery that encloses a task, or an event; its from is in the world's table
 pub record Place : Type 0 where
@@ -77,13 +78,14 @@ then_move None o q =
     record { frames = q.frames; places = q.places; exc = q.exc; made = o.made ++ q.made; begun = o.begun ++ q.begun; stopped = q.stopped }
 then_move (Some s) o q = o
 
--- what a task has cancelled in this moment, after these events of it; it counts only where there are rounds
+-- what a task has cancelled in this moment, after these signs of it; it counts only where there are rounds
+abbrev pub own_with : Clock → List Label → List SignedLabel → List Label
+own_with clock own [] = own
+own_with clock own (s ∷ ss) = own_with clock (with_own clock (Some s.label) own) ss
+
+-- and after these events
 abbrev pub own_after : Clock → List Label → List Event → List Label
-own_after clock own [] = own
-own_after clock own (noted t e ∷ es) = own_after clock own es
-own_after clock own (signs l t ∷ es) = own_after clock (with_own clock (Some l) own) es
-own_after clock own (enters l t d ∷ es) = own_after clock own es
-own_after clock own (starts i l t ∷ es) = own_after clock own es
+own_after clock own es = own_with clock own (signed_in es)
 
 -- where moments are ticks, what a task has cancelled in a moment does not count, and nothing is kept of it
 abbrev pub OwnFits : Clock → List Label → Type 0

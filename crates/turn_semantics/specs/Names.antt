@@ -2,13 +2,9 @@
 use Rattle.std.specs.Prelude.{◌≡◌, ◌⊎◌, ℕ, List, [], ◌∷◌}
 use Rattle.job_tree.specs.Tree.{Step, sleep, checkpoint, forever, pace, find, head, longest, need, raise, cancel, set_event, wait_for, scope, nursery, event, start, repeat, attempt, Steps, stop, step, Handled, unhandled, except, Cleaned, uncleaned, finally}
 use Rattle.job_meaning.specs.Rest.{Frame, steps_left, in_scope, in_event, in_nursery, in_repeat, in_try, in_handler, in_cleanup}
+use Rattle.turn_semantics.specs.Lists.{IsAmong}
 use Rattle.turn_semantics.specs.Midway.{Place, Begun, Move}
 use Rattle.turn_semantics.specs.Placed.{outer_places}
-
--- a name is among these
-abbrev pub IsName : List ℕ → List (List ℕ) → Type 0
-IsName name [] = ⊥
-IsName name (n ∷ ns) = (name ≡ n) ⊎ IsName name ns
 
 -- the names of enclosing scopes and nurseries
 abbrev pub names_at : List Place → List (List ℕ)
@@ -18,7 +14,7 @@ names_at (p ∷ ps) = p.label.name ∷ names_at ps
 -- each enclosing scope or nursery has a name that differs from those that enclose it
 abbrev pub OwnNames : List (List ℕ) → Type 0
 OwnNames [] = Unit {0}
-OwnNames (n ∷ ns) = (IsName n ns → ⊥) × OwnNames ns
+OwnNames (n ∷ ns) = (IsAmong n ns → ⊥) × OwnNames ns
 
 -- steps inside scopes of these names, none of which enters a scope with the name of an enclosing one
 abbrev mutual
@@ -27,24 +23,16 @@ abbrev mutual
   AreNew around (step s ss) = IsNew around s × AreNew around ss
 
   pub IsNew : List (List ℕ) → Step → Type 0
-  IsNew around (sleep n) = Unit {0}
   IsNew around checkpoint = Unit {0}
   IsNew around forever = Unit {0}
-  IsNew around (pace k) = Unit {0}
-  IsNew around (find text) = Unit {0}
-  IsNew around (head n) = Unit {0}
   IsNew around longest = Unit {0}
-  IsNew around (need text name) = Unit {0}
-  IsNew around (raise name) = Unit {0}
-  IsNew around (cancel name) = Unit {0}
-  IsNew around (set_event name) = Unit {0}
-  IsNew around (wait_for name) = Unit {0}
-  IsNew around (scope name deadline shield fail body) = (IsName name around → ⊥) × AreNew (name ∷ around) body
-  IsNew around (nursery name deadline shield body) = (IsName name around → ⊥) × AreNew (name ∷ around) body
-  IsNew around (event name body) = (IsName name around → ⊥) × AreNew (name ∷ around) body
+  IsNew around (scope name deadline shield fail body) = (IsAmong name around → ⊥) × AreNew (name ∷ around) body
+  IsNew around (nursery name deadline shield body) = (IsAmong name around → ⊥) × AreNew (name ∷ around) body
+  IsNew around (event name body) = (IsAmong name around → ⊥) × AreNew (name ∷ around) body
   IsNew around (start name over body) = AreNew around body
   IsNew around (repeat count body) = AreNew around body
   IsNew around (attempt body handler cleanup) = AreNew around body × IsNewHandler around handler × IsNewCleanup around cleanup
+  IsNew around _ = Unit {0}
 
   pub IsNewHandler : List (List ℕ) → Handled → Type 0
   IsNewHandler around unhandled = Unit {0}
@@ -58,16 +46,14 @@ abbrev mutual
 abbrev pub NewIn : List Frame → List Place → Type 0
 NewIn [] ps = Unit {0}
 NewIn (steps_left ss ∷ fs) ps = AreNew (names_at ps) ss × NewIn fs ps
-NewIn (in_scope fail ∷ fs) [] = NewIn fs []
 NewIn (in_scope fail ∷ fs) (p ∷ ps) = NewIn fs ps
-NewIn (in_event ∷ fs) [] = NewIn fs []
 NewIn (in_event ∷ fs) (p ∷ ps) = NewIn fs ps
-NewIn (in_nursery children ∷ fs) [] = NewIn fs []
 NewIn (in_nursery children ∷ fs) (p ∷ ps) = NewIn fs ps
 NewIn (in_repeat pass left body ∷ fs) ps = AreNew (names_at ps) body × NewIn fs ps
 NewIn (in_try handler cleanup ∷ fs) ps = IsNewHandler (names_at ps) handler × IsNewCleanup (names_at ps) cleanup × NewIn fs ps
 NewIn (in_handler rest cleanup ∷ fs) ps = IsNewCleanup (names_at ps) cleanup × NewIn fs ps
 NewIn (in_cleanup outcome ∷ fs) ps = NewIn fs ps
+NewIn (_ ∷ fs) [] = NewIn fs []
 
 -- and for each child begun
 abbrev pub AllNew : List Begun → Type 0

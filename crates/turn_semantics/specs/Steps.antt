@@ -36,10 +36,9 @@ froms_after_entry froms label deadline l = from_entered_if (same_label l label) 
 -- the froms after these events
 abbrev pub froms_after : Table → List Event → Table
 froms_after froms [] = froms
-froms_after froms (noted t e ∷ es) = froms_after froms es
 froms_after froms (signs l t ∷ es) = froms_after (froms_after_sign froms l t) es
 froms_after froms (enters l t d ∷ es) = froms_after (froms_after_entry froms l d) es
-froms_after froms (starts i l t ∷ es) = froms_after froms es
+froms_after froms (_ ∷ es) = froms_after froms es
 
 -- ---- what a step does
 
@@ -207,16 +206,14 @@ ends_as s exc t fs ps = record { frames = fs; places = ps; exc = None; made = si
 abbrev pub step_frames : Table → Now → Here → List Frame → List Place → Option Exc → ℕ → Move
 step_frames froms now here [] ps exc count = ends_as (at_end now.at exc) exc now.at [] ps
 step_frames froms now here (steps_left ss ∷ fs) ps exc count = step_steps froms now here ss fs ps exc count
-step_frames froms now here (in_scope fail ∷ fs) [] exc count = onward fs [] exc
 step_frames froms now here (in_scope fail ∷ fs) (p ∷ ps) exc count = leaves here.clock froms now (a_scope fail) fs p ps exc
-step_frames froms now here (in_event ∷ fs) [] exc count = onward fs [] exc
 step_frames froms now here (in_event ∷ fs) (p ∷ ps) exc count = onward fs ps exc
-step_frames froms now here (in_nursery children ∷ fs) [] exc count = onward fs [] exc
 step_frames froms now here (in_nursery children ∷ fs) (p ∷ ps) exc count = ends_as (awaiting children now.at exc) exc now.at fs (p ∷ ps)
 step_frames froms now here (in_repeat pass left body ∷ fs) ps exc count = step_pass pass left body fs ps exc
 step_frames froms now here (in_try handler cleanup ∷ fs) ps exc count = step_try handler cleanup fs ps exc
 step_frames froms now here (in_handler rest cleanup ∷ fs) ps exc count = onward (in_try unhandled cleanup ∷ fs) ps (handler_exc exc rest)
 step_frames froms now here (in_cleanup outcome ∷ fs) ps exc count = onward fs ps (outcome_after outcome exc)
+step_frames froms now here (_ ∷ fs) [] exc count = onward fs [] exc
 
 -- one step of a task in a moment of a world with these froms
 unfoldable pub step_of : Table → Now → Here → Midway → Move

@@ -42,11 +42,7 @@ goes_on_with froms t here (counted n) (needs name) fs ps = onward fs ps None
 abbrev pub with_answer : Table → ℕ → Here → Answer → Stopped → List Frame → List Place → Move
 with_answer froms t here a (asking kernel purpose) fs ps = goes_on_with froms t here a purpose fs ps
 with_answer froms t here a to_begin fs ps = onward fs ps None
-with_answer froms t here a (asleep paced n since) fs ps = onward fs ps None
-with_answer froms t here a (waiting_for event since) fs ps = onward fs ps None
-with_answer froms t here a (giving_up since) fs ps = onward fs ps None
-with_answer froms t here a (awaiting children ended exc) fs ps = onward fs ps None
-with_answer froms t here a (at_end u e) fs ps = onward fs ps None
+with_answer froms t here a _ fs ps = onward fs ps None
 
 -- a nursery whose last member ended is left
 abbrev pub leaves_settled : Clock → Table → Now → Option Exc → List Frame → List Place → Move
@@ -81,14 +77,10 @@ notes_wait (Some l) t fs ps = makes (noted t (waited l.label) ∷ []) fs ps
 abbrev pub sees_from : Clock → Table → ℕ → Stopped → List Frame → List Place → Move
 sees_from clock froms t (asleep false zero since) fs ps = blocks_on (giving_up t) fs ps
 sees_from clock froms t (asleep false (suc n) since) fs ps = onward fs ps (Some cancelled)
-sees_from clock froms t (asleep true n since) fs ps = onward fs ps (Some cancelled)
 sees_from clock froms t to_begin fs ps = onward fs ps (Some cancelled)
-sees_from clock froms t (asking kernel purpose) fs ps = onward fs ps (Some cancelled)
 sees_from clock froms t (waiting_for event since) fs ps =
     gives_up_if (is_checkpoint clock (ends_at clock froms event since ps) since) t fs ps
-sees_from clock froms t (giving_up since) fs ps = onward fs ps (Some cancelled)
-sees_from clock froms t (awaiting children ended exc) fs ps = onward fs ps (Some cancelled)
-sees_from clock froms t (at_end u e) fs ps = onward fs ps (Some cancelled)
+sees_from clock froms t _ fs ps = onward fs ps (Some cancelled)
 
 -- a task whose wait is over continues
 abbrev pub is_due_from : Table → ℕ → Stopped → List Frame → List Place → Move
