@@ -18,7 +18,7 @@ pub struct Left {
 }
 
 /// Leaves a scope or nursery with an exception or none. If it catches, every `Cancelled` leaf is removed from the exception,
-/// and the rest propagates. The only error is that memory runs out; the exception is then gone.
+/// and the rest propagates. The only error is that memory runs out; the exception is then dropped.
 pub fn left_with(alloc: Global, catches: bool, exc: Option<Exc>) -> Result<Left, AllocError>
     ensures { IfOk result (λ left. left_of left ≡ left_with catches (option_map exc_of exc)) }
 {
@@ -71,7 +71,7 @@ fn fails(kind: Kind) -> bool
 }
 
 /// Returns the exception after a handler: what the handler raised, and the rest that it did not handle. If there are both, they
-/// are the members of a group, in this order. The only error is that memory runs out; both exceptions are then gone.
+/// are the members of a group, in this order. The only error is that memory runs out; both exceptions are then dropped.
 pub fn handler_exc(
     alloc: Global,
     raised: Option<Exc>,

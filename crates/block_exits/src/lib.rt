@@ -1,7 +1,8 @@
 //! Which exception leaves a block: a scope or nursery that may catch, a handler that raises, and a cleanup.
 //!
 //! The layer promises that its functions return what the rules of `job_meaning` (`specs/Walk.antt`) say. A run of a job
-//! (`task_machine`) and a walk over its tree (`job_story`) both leave their blocks with it. It uses the exceptions of `exceptions`.
+//! (`task_machine`) and a walk over its tree (`job_story`) both leave their blocks with it. It uses the exceptions of
+//! `exceptions`.
 #![tactic(auto)]
 
 mod exits;

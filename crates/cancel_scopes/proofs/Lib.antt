@@ -1,7 +1,7 @@
 pub mod StackLemmas
 pub mod DepthLemmas
 pub mod SlotLemmas
-pub mod PlaceLemmas
+pub mod IndexLemmas
 pub mod MarkLemmas
 pub mod LowerLemmas
 pub mod FreshLemmas

@@ -4,7 +4,7 @@ use Rattle.std.proofs.lemmas.Bool.{cases_eq}
 use Rattle.std.specs.Option.{option_map, unwrap_or}
 use Rattle.cancel_scopes.specs.Sight.{Level, Tick, sight}
 use Rattle.cancel_scopes.specs.Tree.{Stack, Tree, stack_of, outer_of, is_changed, OthersKeep, SameMarks}
-use Rattle.cancel_scopes.specs.Kept.{Outline, Slots, Find, level_of, full, upward, stack_at, scope_in, find_in, outline_of, tree_of, IsUnder, IsTree, own_sight, sight_of, seen_at, place_of, places_in, is_listed, IsListed, Family, IsReady}
+use Rattle.cancel_scopes.specs.Kept.{Outline, Slots, Find, level_of, full, upward, stack_at, scope_in, find_in, outline_of, tree_of, IsUnder, IsTree, own_sight, sight_of, seen_at, index_of, indices_in, is_listed, IsListed, Family, IsReady}
 use Rattle.cancel_scopes.proofs.StackLemmas.{stack_of-tree_of, stack_seen, stack_at-kept, upward-under, is_changed-tree_of, mark_seen}
 use Rattle.cancel_scopes.specs.Children.{SameOutlines}
 use Rattle.cancel_scopes.proofs.MarkLemmas.{same-tree, same-sights, listed-same}
@@ -124,7 +124,7 @@ module _ (slots inserted : Slots) (key : ℕ) (s : Scope) where
         tree = same-tree inserted new same.finds (IsTree-opens (find_in slots) (find_in inserted) key (outline_of s) at_key h.tree);
         family = family;
         sights = same-sights inserted new same.finds same.sights (λ k. sight_at k (cases_eq k key));
-        listed = subst (IsListed new) (sym list_is) (listed-same slots new was (λ k. same.marks k ∙ place_at k (cases_eq k key)) h.listed);
+        listed = subst (IsListed new) (sym list_is) (listed-same slots new was (λ k. same.marks k ∙ index_at k (cases_eq k key)) h.listed);
         changed_fits = fits;
         none_lowered = none;
         lowered_fits = lowered_fits;
@@ -149,10 +149,10 @@ module _ (slots inserted : Slots) (key : ℕ) (s : Scope) where
           ap own_sight (ins.others k differs) ∙ h.sights k
           ∙ sym (ap sight_of (stack_at-keeps (find_in slots) (find_in inserted) (opens-keeps at_key) h.tree k (at_key.others k differs)))
 
-      place_at : (k : ℕ) → (k ≡ key) ⊎ (k ≢ key) → places_in inserted k ≡ places_in slots k
-      place_at k (inl same) = ap (places_in inserted) same ∙ ap place_of ins.kept ∙ unmarked ∙ sym (ap place_of ins.free)
-          ∙ ap (places_in slots) (sym same)
-      place_at k (inr differs) = ap place_of (ins.others k differs)
+      index_at : (k : ℕ) → (k ≡ key) ⊎ (k ≢ key) → indices_in inserted k ≡ indices_in slots k
+      index_at k (inl same) = ap (indices_in inserted) same ∙ ap index_of ins.kept ∙ unmarked ∙ sym (ap index_of ins.free)
+          ∙ ap (indices_in slots) (sym same)
+      index_at k (inr differs) = ap index_of (ins.others k differs)
 
   -- the new scope is not marked as changed
   pub opened-unmarked : scope_in inserted key ≡ Some s → s.listed ≡ None → is_changed (tree_of inserted) key ≡ false

@@ -5,7 +5,7 @@ use Rattle.std.proofs.lemmas.Bool.{cases_eq}
 use Rattle.std.specs.Option.{option_map}
 use Rattle.cancel_scopes.specs.Sight.{Tick, earlier, before, sight}
 use Rattle.cancel_scopes.specs.Tree.{Stack, Tree, stack_of, is_changed, IsOpen, OtherMarksKeep, after_cancel}
-use Rattle.cancel_scopes.specs.Kept.{Outline, Slots, IsTree, full, outline_of, scope_in, find_in, tree_of, stack_at, own_sight, sight_of, seen_at, HasSights, place_of, places_in, is_listed, IsListed, IsReady, SameScopes, Marks, AllFresh, place_under, children_at, Family}
+use Rattle.cancel_scopes.specs.Kept.{Outline, Slots, IsTree, full, outline_of, scope_in, find_in, tree_of, stack_at, own_sight, sight_of, seen_at, HasSights, index_of, indices_in, is_listed, IsListed, IsReady, SameScopes, Marks, AllFresh, index_under, children_at, Family}
 use Rattle.cancel_scopes.specs.Children.{SameOutlines}
 use Rattle.cancel_scopes.specs.Lowering.{sight_by, outer_sight, AllRight, Along, Starts}
 use Rattle.std.proofs.lemmas.List.{length-set}
@@ -41,7 +41,7 @@ module _ (slots : Slots) (key tick : ℕ) (s : Scope) (from : Tick) where
   -- the list of changed scopes stays right
   pub cancelled-listed : (changed : List ℕ) → scope_in slots key ≡ Some s → IsListed slots changed → IsListed set_from changed
   cancelled-listed changed kept listed =
-      listed-same slots set_from changed (same_by place_of slots key s (Some (record s { from = from })) kept refl) listed
+      listed-same slots set_from changed (same_by index_of slots key s (Some (record s { from = from })) kept refl) listed
 
   -- after that only its own effective deadline may be wrong
   pub cancelled-starts : (changed : List ℕ) → scope_in slots key ≡ Some s → from ≡ earlier s.from (Some (tick + 1)) →
@@ -51,7 +51,7 @@ module _ (slots : Slots) (key tick : ℕ) (s : Scope) (from : Tick) where
       let all : AllRight slots = rights_of slots tree sights in
       record {
         tree = cancelled-tree kept is tree;
-        family = family-same slots set_from (λ p. same_by (place_under p) slots key s after kept refl)
+        family = family-same slots set_from (λ p. same_by (index_under p) slots key s after kept refl)
             (same_by children_at slots key s after kept refl) family;
         listed = cancelled-listed changed kept listed;
         others = λ other t differs found. all.right other t (sym (unwritten slots key other after differs) ∙ found)
@@ -75,8 +75,8 @@ module _ (slots : Slots) (key tick : ℕ) (s : Scope) (from : Tick) where
       IsReady new changed changed_room lowered lowered_room
   cancelled-ready new changed changed_room lowered lowered_room kept is tree family h all listed changed_fits none lowered_fits = record {
     tree = same-tree set_from new h.finds (cancelled-tree kept is tree);
-    family = family-same set_from new h.places h.children (family-same slots set_from
-        (λ p. same_by (place_under p) slots key s (Some (record s { from = from })) kept refl)
+    family = family-same set_from new h.indices h.children (family-same slots set_from
+        (λ p. same_by (index_under p) slots key s (Some (record s { from = from })) kept refl)
         (same_by children_at slots key s (Some (record s { from = from })) kept refl) family);
     sights = sights_of new (same-tree set_from new h.finds (cancelled-tree kept is tree)) all;
     listed = listed;
@@ -118,7 +118,7 @@ pub marked-ready : (old new : Slots) (was changed : List ℕ) (changed_room lowe
     IsReady new changed changed_room lowered lowered_room
 marked-ready old new was changed changed_room lowered lowered_room h same listed = record {
   tree = same-tree old new same.finds h.tree;
-  family = family-same old new same.places same.children h.family;
+  family = family-same old new same.indices same.children h.family;
   sights = same-sights old new same.finds same.sights h.sights;
   listed = listed;
   changed_fits = (let e = same.long in let f = h.changed_fits in omega (arith, e, f));
@@ -128,12 +128,12 @@ marked-ready old new was changed changed_room lowered lowered_room h same listed
 
 -- room is made, and nothing else changes
 pub roomier-ready : (old new : Slots) (was changed : List ℕ) (had lowered_was lowered_had room lowered lowered_room : ℕ) →
-    IsReady old was had lowered_was lowered_had → SameScopes old new → ((key : ℕ) → places_in new key ≡ places_in old key) → changed ≡ was →
+    IsReady old was had lowered_was lowered_had → SameScopes old new → ((key : ℕ) → indices_in new key ≡ indices_in old key) → changed ≡ was →
     had ≤ room → lowered ≡ lowered_was → lowered_had ≤ lowered_room → IsReady new changed room lowered lowered_room
 roomier-ready old new was changed had lowered_was lowered_had room lowered lowered_room h same marks list_is fits as_was lowered_fits =
     record {
       tree = same-tree old new same.finds h.tree;
-      family = family-same old new same.places same.children h.family;
+      family = family-same old new same.indices same.children h.family;
       sights = same-sights old new same.finds same.sights h.sights;
       listed = subst (IsListed new) (sym list_is) (listed-same old new was marks h.listed);
       changed_fits = (let e = same.long in let f = h.changed_fits in omega (arith, e, f, fits));
@@ -170,11 +170,11 @@ marked-here old new key mark h = is_changed-tree_of new key ∙ h.here
 -- nothing is marked where the list is empty
 pub none_marked : (tree : Tree) (slots : Slots) (changed : List ℕ) → tree_of slots ≡ tree → IsListed slots changed → length changed ≤ 0 →
     (key : ℕ) → is_changed tree key ≡ false
-none_marked tree slots changed is listed empty key = mark_seen tree slots key is ∙ by_place (places_in slots key) refl
+none_marked tree slots changed is listed empty key = mark_seen tree slots key is ∙ by_index (indices_in slots key) refl
   where
-    by_place : (o : Option ℕ) → places_in slots key ≡ o → is_some (places_in slots key) ≡ false
-    by_place None e = ap is_some e
-    by_place (Some place) e = absurd (omega (arith, (listed.places.stands key place e).0, empty))
+    by_index : (o : Option ℕ) → indices_in slots key ≡ o → is_some (indices_in slots key) ≡ false
+    by_index None e = ap is_some e
+    by_index (Some index) e = absurd (omega (arith, (listed.indices.stands key index e).0, empty))
 
 -- the last scope in the list is marked
 pub last_marked : (tree : Tree) (slots : Slots) (changed : List ℕ) (key : ℕ) → tree_of slots ≡ tree → IsListed slots changed →
@@ -182,27 +182,27 @@ pub last_marked : (tree : Tree) (slots : Slots) (changed : List ℕ) (key : ℕ)
 last_marked tree slots changed key is listed some last =
     mark_seen tree slots key is
     ∙ ap (λ (k : ℕ). is_listed (scope_in slots k)) last
-    ∙ ap is_some (listed.places.placed (length changed - 1) (omega (arith, some)))
+    ∙ ap is_some (listed.indices.placed (length changed - 1) (omega (arith, some)))
 
 -- a scope that was unmarked is closed, and leaves its parent's children
-module _ (slots unmarked gone new : Slots) (key : ℕ) (s : Scope) where
+module _ (slots unmarked emptied new : Slots) (key : ℕ) (s : Scope) where
   -- what is kept of the others stays
-  pub closed-finds : Marks slots unmarked key false → ((other : ℕ) → other ≢ key → scope_in gone other ≡ scope_in unmarked other) →
-      SameOutlines gone new → (other : ℕ) → other ≢ key → find_in new other ≡ find_in slots other
+  pub closed-finds : Marks slots unmarked key false → ((other : ℕ) → other ≢ key → scope_in emptied other ≡ scope_in unmarked other) →
+      SameOutlines emptied new → (other : ℕ) → other ≢ key → find_in new other ≡ find_in slots other
   closed-finds marks others same other differs =
       same.finds other ∙ ap (option_map outline_of) (others other differs) ∙ marks.same.finds other
 
   -- so the tree is ready again
   pub closed-ready : (was changed : List ℕ) (changed_room lowered lowered_room : ℕ) → IsReady slots was changed_room lowered lowered_room →
       Marks slots unmarked key false → IsListed unmarked changed → Closes (find_in slots) (find_in new) key (outline_of s) →
-      length gone ≡ length unmarked → scope_in gone key ≡ None → ((other : ℕ) → other ≢ key →
-      scope_in gone other ≡ scope_in unmarked other) → SameOutlines gone new → Family new →
+      length emptied ≡ length unmarked → scope_in emptied key ≡ None → ((other : ℕ) → other ≢ key →
+      scope_in emptied other ≡ scope_in unmarked other) → SameOutlines emptied new → Family new →
       IsReady new changed changed_room lowered lowered_room
   closed-ready was changed changed_room lowered lowered_room h marks listed closes long free others same family = record {
     tree = IsTree-closes closes h.tree;
     family = family;
     sights = λ k. sight_at k (cases_eq k key);
-    listed = listed-same unmarked new changed (λ k. same.marks k ∙ place_at k (cases_eq k key)) listed;
+    listed = listed-same unmarked new changed (λ k. same.marks k ∙ index_at k (cases_eq k key)) listed;
     changed_fits = (let e = marks.same.long in let f = h.changed_fits in let g = same.long in omega (arith, e, f, g, long));
     none_lowered = h.none_lowered;
     lowered_fits = (let e = marks.same.long in let f = h.lowered_fits in let g = same.long in omega (arith, e, f, g, long));
@@ -210,7 +210,7 @@ module _ (slots unmarked gone new : Slots) (key : ℕ) (s : Scope) where
     where
       sight_at : (k : ℕ) → (k ≡ key) ⊎ (k ≢ key) → own_sight (scope_in new k) ≡ seen_at (find_in new) k
       sight_at k (inl same_key) =
-          let none : scope_in gone k ≡ None = ap (scope_in gone) same_key ∙ free in
+          let none : scope_in emptied k ≡ None = ap (scope_in emptied) same_key ∙ free in
           let found : find_in new k ≡ None = same.finds k ∙ ap (option_map outline_of) none in
           let at : stack_at (find_in new) k ≡ None = rw found refl in
           same.sights k ∙ ap own_sight none ∙ sym (ap sight_of at)
@@ -218,27 +218,27 @@ module _ (slots unmarked gone new : Slots) (key : ℕ) (s : Scope) where
           same.sights k ∙ ap own_sight (others k differs) ∙ marks.same.sights k ∙ h.sights k
           ∙ sym (ap sight_of (stack_at-closes (find_in slots) (find_in new) key (outline_of s) closes k differs))
 
-      no_place : (p : Option ℕ) → is_some p ≡ false → p ≡ None
-      no_place None e = refl
-      no_place (Some p) e = absurd (let f : true ≡ false = e in cc)
+      no_index : (p : Option ℕ) → is_some p ≡ false → p ≡ None
+      no_index None e = refl
+      no_index (Some p) e = absurd (let f : true ≡ false = e in cc)
 
-      place_at : (k : ℕ) → (k ≡ key) ⊎ (k ≢ key) → places_in gone k ≡ places_in unmarked k
-      place_at k (inl same_key) =
-          ap place_of (ap (scope_in gone) same_key ∙ free)
-          ∙ sym (no_place (places_in unmarked k) (ap (λ (n : ℕ). is_listed (scope_in unmarked n)) same_key ∙ marks.here))
-      place_at k (inr differs) = ap place_of (others k differs)
+      index_at : (k : ℕ) → (k ≡ key) ⊎ (k ≢ key) → indices_in emptied k ≡ indices_in unmarked k
+      index_at k (inl same_key) =
+          ap index_of (ap (scope_in emptied) same_key ∙ free)
+          ∙ sym (no_index (indices_in unmarked k) (ap (λ (n : ℕ). is_listed (scope_in unmarked n)) same_key ∙ marks.here))
+      index_at k (inr differs) = ap index_of (others k differs)
 
   -- and no other mark changes
   pub closed-marks : (tree : Tree) (id : ℕ) → tree_of slots ≡ tree → key ≡ id → Marks slots unmarked key false →
-      ((other : ℕ) → other ≢ key → scope_in gone other ≡ scope_in unmarked other) → SameOutlines gone new →
+      ((other : ℕ) → other ≢ key → scope_in emptied other ≡ scope_in unmarked other) → SameOutlines emptied new →
       OtherMarksKeep tree (tree_of new) id
   closed-marks tree id is at marks others same other differs =
       let away : other ≢ key = λ e. differs (e ∙ at) in
       is_changed-tree_of new other
-      ∙ ap is_some (same.marks other ∙ ap place_of (others other away))
+      ∙ ap is_some (same.marks other ∙ ap index_of (others other away))
       ∙ marks.others other away
       ∙ sym (mark_seen tree slots other is)
 
   -- the scope that was closed is no longer marked
-  pub closed-unmarked : (id : ℕ) → key ≡ id → scope_in gone key ≡ None → SameOutlines gone new → is_changed (tree_of new) id ≡ false
-  closed-unmarked id at free same = rw (← at) (is_changed-tree_of new key ∙ ap is_some (same.marks key ∙ ap place_of free))
+  pub closed-unmarked : (id : ℕ) → key ≡ id → scope_in emptied key ≡ None → SameOutlines emptied new → is_changed (tree_of new) id ≡ false
+  closed-unmarked id at free same = rw (← at) (is_changed-tree_of new key ∙ ap is_some (same.marks key ∙ ap index_of free))

@@ -7,7 +7,7 @@ use Rattle.std.proofs.lemmas.List.FromFn.{get_or-map-range_with_len, length-map-
 use Rattle.std.specs.Option.{option_map}
 use Rattle.std.specs.List.{range_with_len}
 use Rattle.cancel_scopes.specs.Tree.{Stack, Tree, stack_of, is_changed}
-use Rattle.cancel_scopes.specs.Kept.{Outline, Slots, Find, full, upward, stack_at, scope_in, find_in, outline_of, place_of, is_listed, tree_of, IsUnder, IsTree}
+use Rattle.cancel_scopes.specs.Kept.{Outline, Slots, Find, full, upward, stack_at, scope_in, find_in, outline_of, index_of, is_listed, tree_of, IsUnder, IsTree}
 use Rattle.cancel_scopes.specs.declared.store.Scope.{Scope}
 
 -- a key's stack is that of what is kept under it
@@ -48,7 +48,7 @@ stacks_of-same old new long finds =
 
 -- and the same in all where marks stay too
 pub tree_of-same : (old new : Slots) → length new ≡ length old → ((key : ℕ) → find_in new key ≡ find_in old key) →
-    ((key : ℕ) → place_of (scope_in new key) ≡ place_of (scope_in old key)) → tree_of new ≡ tree_of old
+    ((key : ℕ) → index_of (scope_in new key) ≡ index_of (scope_in old key)) → tree_of new ≡ tree_of old
 tree_of-same old new long finds marks =
     let marked : Slots → ℕ → Bool = λ slots key. is_listed (scope_in slots key) in
     let changed : (tree_of new).changed ≡ (tree_of old).changed =

@@ -74,7 +74,7 @@ module _ (tick key : ℕ) (slots : Slots) (changed : List ℕ) where
         family = family-along tick slots new along state.family;
         listed = listed;
         near = subst N (sym h.written)
-            (near-lowered slots tick key s (Some h.place) (below []) (below ([] ++ key ∷ [])) h.kept late
+            (near-lowered slots tick key s (Some h.index) (below []) (below ([] ++ key ∷ [])) h.kept late
             (λ k t differs kept. inl (state.others k t differs kept))
             (λ k t differs kept w. none_in w.0 w.2)
             (λ k t inside. (key, inside, Contains-push [] key))
@@ -87,17 +87,17 @@ module _ (tick key : ℕ) (slots : Slots) (changed : List ℕ) where
       s = h.scope
 
       lower : Slots
-      lower = slice_set slots key (Some (record s { sight = Some tick; listed = Some h.place }))
+      lower = slice_set slots key (Some (record s { sight = Some tick; listed = Some h.index }))
 
       low_at : (k : ℕ) → Contains [] k ⊎ (key ≡ k) → own_sight (scope_in new k) ≡ Some tick
       low_at k (inl c) = none_in k c
       low_at k (inr same) =
           ap (λ (n : ℕ). own_sight (scope_in new n)) (sym same)
           ∙ ap (λ (l : Slots). own_sight (scope_in l key)) h.written
-          ∙ ap own_sight (written slots key h.scope (Some (record h.scope { sight = Some tick; listed = Some h.place })) h.kept)
+          ∙ ap own_sight (written slots key h.scope (Some (record h.scope { sight = Some tick; listed = Some h.index })) h.kept)
 
       here : Some tick ≡ sight_by s.shield s.from
-          (outer_sight (slice_set slots key (Some (record s { sight = Some tick; listed = Some h.place }))) s.parent)
+          (outer_sight (slice_set slots key (Some (record s { sight = Some tick; listed = Some h.index }))) s.parent)
       here = by_shield s.shield refl ∙ ap (λ (f : Tick). sight_by s.shield f (outer_sight lower s.parent)) (sym from_is)
         where
           own : (from : Tick) × (s.from ≡ earlier from (Some tick)) × (s.sight ≡ sight_by s.shield from (outer_sight slots s.parent))
@@ -117,11 +117,11 @@ module _ (tick key : ℕ) (slots : Slots) (changed : List ℕ) where
                 | inl same ↦
                     let low : own_sight (scope_in lower p) ≡ Some tick =
                     ap (λ (n : ℕ). own_sight (scope_in lower n)) same ∙ ap own_sight
-                    (written slots key s (Some (record s { sight = Some tick; listed = Some h.place })) h.kept) in
+                    (written slots key s (Some (record s { sight = Some tick; listed = Some h.index })) h.kept) in
                     ap (earlier (Some tick)) low ∙ ap Some (tick_same_ticks tick)
                 | inr differs ↦
                     let same : own_sight (scope_in lower p) ≡ own_sight (scope_in slots p) =
-                    ap own_sight (unwritten slots key p (Some (record s { sight = Some tick; listed = Some h.place })) differs) in
+                    ap own_sight (unwritten slots key p (Some (record s { sight = Some tick; listed = Some h.index })) differs) in
                     ap (earlier (Some tick)) same ∙ tick_first tick (own_sight (scope_in slots p)) later
               ]
 

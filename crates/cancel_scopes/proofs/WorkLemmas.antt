@@ -8,7 +8,7 @@ use Rattle.std.proofs.lemmas.List.{length-append, length-set, get_or_read}
 use Rattle.std.proofs.lemmas.List.Elements.{Contains-push, Contains-push_cases, Contains-append_left}
 use Rattle.std.specs.Option.{option_map}
 use Rattle.cancel_scopes.specs.Sight.{Tick, earlier, before}
-use Rattle.cancel_scopes.specs.Kept.{Slots, outline_of, scope_in, own_sight, is_listed, IsPlaced, IsListed, parent_is, place_under, children_at, Family}
+use Rattle.cancel_scopes.specs.Kept.{Slots, outline_of, scope_in, own_sight, is_listed, IsPlaced, IsListed, parent_is, index_under, children_at, Family}
 use Rattle.cancel_scopes.specs.Lowering.{sight_by, outer_sight, IsRight, AllRight, IsNear, AllNear, below, or_child, is_later, work, Lowering, Lowers, Moves, Along}
 use Rattle.cancel_scopes.proofs.SlotLemmas.{written, unwritten, same_by, count_set}
 use Rattle.cancel_scopes.proofs.MarkLemmas.{same-tree}
@@ -27,41 +27,41 @@ not_later t (Some f) = tick_bound t f
 pub clash : {X : Type 0} (b : Bool) → b ≡ true → b ≡ false → X
 clash b yes_it_is no_it_is = absurd (let e : true ≡ false = sym yes_it_is ∙ no_it_is in cc)
 
--- what a place under a parent says
-pub under_at : (parent place : ℕ) (o : Option Scope) → place_under parent o ≡ Some place → (s : Scope) × (o ≡ Some s)
-    × (s.parent ≡ Some parent) × (s.place ≡ place)
-under_at parent place None at = absurd (let e : None ≡ Some place = at in cc)
-under_at parent place (Some s) at = by_parent s.parent refl
+-- what an index under a parent says
+pub under_at : (parent index : ℕ) (o : Option Scope) → index_under parent o ≡ Some index → (s : Scope) × (o ≡ Some s)
+    × (s.parent ≡ Some parent) × (s.index ≡ index)
+under_at parent index None at = absurd (let e : None ≡ Some index = at in cc)
+under_at parent index (Some s) at = by_parent s.parent refl
   where
     by_test : (other : ℕ) (b : Bool) → (other == parent) ≡ b → s.parent ≡ Some other → (t : Scope) × (Some s ≡ Some t)
-        × (t.parent ≡ Some parent) × (t.place ≡ place)
+        × (t.parent ≡ Some parent) × (t.index ≡ index)
     by_test other true same up =
         let e : other ≡ parent = eqb-true other parent same in
         let test : parent_is parent s.parent ≡ true = ap (parent_is parent) up ∙ same in
-        let here : Some s.place ≡ Some place = sym (ap (λ (b : Bool). if b then Some s.place else None) test) ∙ at in
+        let here : Some s.index ≡ Some index = sym (ap (λ (b : Bool). if b then Some s.index else None) test) ∙ at in
         (s, refl, up ∙ ap Some e, (cc))
     by_test other false differs up =
         let test : parent_is parent s.parent ≡ false = ap (parent_is parent) up ∙ differs in
-        let here : None ≡ Some place = sym (ap (λ (b : Bool). if b then Some s.place else None) test) ∙ at in
+        let here : None ≡ Some index = sym (ap (λ (b : Bool). if b then Some s.index else None) test) ∙ at in
         absurd (cc)
 
-    by_parent : (o : Option ℕ) → s.parent ≡ o → (t : Scope) × (Some s ≡ Some t) × (t.parent ≡ Some parent) × (t.place ≡ place)
+    by_parent : (o : Option ℕ) → s.parent ≡ o → (t : Scope) × (Some s ≡ Some t) × (t.parent ≡ Some parent) × (t.index ≡ index)
     by_parent None up =
         let test : parent_is parent s.parent ≡ false = ap (parent_is parent) up in
-        let here : None ≡ Some place = sym (ap (λ (b : Bool). if b then Some s.place else None) test) ∙ at in
+        let here : None ≡ Some index = sym (ap (λ (b : Bool). if b then Some s.index else None) test) ∙ at in
         absurd (cc)
     by_parent (Some other) up = by_test other (other == parent) refl up
 
--- a scope has its place under its parent
+-- a scope has its index under its parent
 pub under_is : (slots : Slots) (parent key : ℕ) (s : Scope) → scope_in slots key ≡ Some s → s.parent ≡ Some parent →
-    place_under parent (scope_in slots key) ≡ Some s.place
+    index_under parent (scope_in slots key) ≡ Some s.index
 under_is slots parent key s kept up =
     let test : parent_is parent s.parent ≡ true = ap (parent_is parent) up ∙ eq-eqb parent parent refl in
-    ap (place_under parent) kept ∙ ap (λ (b : Bool). if b then Some s.place else None) test
+    ap (index_under parent) kept ∙ ap (λ (b : Bool). if b then Some s.index else None) test
 
 -- nothing changes
 pub along-none : (tick : ℕ) (slots : Slots) → Along tick slots slots
-along-none tick slots = record { long = refl; finds = λ k. refl; places = λ p k. refl; children = λ k. refl; moves = λ k. inl (refl, refl) }
+along-none tick slots = record { long = refl; finds = λ k. refl; indices = λ p k. refl; children = λ k. refl; moves = λ k. inl (refl, refl) }
 
 moves-then : (tick : ℕ) (a b c : Option Scope) → Moves tick a b → Moves tick b c → Moves tick a c
 moves-then tick a b c (inl h) (inl g) = inl (g.0 ∙ h.0, g.1 ∙ h.1)
@@ -74,7 +74,7 @@ pub along-then : (tick : ℕ) (a b c : Slots) → Along tick a b → Along tick 
 along-then tick a b c h g = record {
   long = g.long ∙ h.long;
   finds = λ k. g.finds k ∙ h.finds k;
-  places = λ p k. g.places p k ∙ h.places p k;
+  indices = λ p k. g.indices p k ∙ h.indices p k;
   children = λ k. g.children k ∙ h.children k;
   moves = λ k. moves-then tick (scope_in a k) (scope_in b k) (scope_in c k) (h.moves k) (g.moves k);
 }
@@ -84,8 +84,8 @@ pub family-along : (tick : ℕ) (old new : Slots) → Along tick old new → Fam
 family-along tick old new h family = record {
   children = λ parent.
       let P : (ℕ → Option ℕ) → Type 0 = λ f. IsPlaced f (children_at (scope_in new parent)) in
-      let Q : List ℕ → Type 0 = λ l. IsPlaced (λ key. place_under parent (scope_in old key)) l in
-      subst P (sym (fun_ext (h.places parent))) (subst Q (sym (h.children parent)) (family.children parent));
+      let Q : List ℕ → Type 0 = λ l. IsPlaced (λ key. index_under parent (scope_in old key)) l in
+      subst P (sym (fun_ext (h.indices parent))) (subst Q (sym (h.children parent)) (family.children parent));
 }
 
 -- what was lowered to the tick stays there
@@ -97,19 +97,19 @@ low_stays tick old new key h low = by_move (h.moves key)
     by_move (inl m) = m.0 ∙ low
     by_move (inr m) = m.0
 
-module _ (tick : ℕ) (slots : Slots) (key : ℕ) (s : Scope) (place : ℕ) where
+module _ (tick : ℕ) (slots : Slots) (key : ℕ) (s : Scope) (index : ℕ) where
   abbrev fallen : Scope
-  fallen = record s { sight = Some tick; listed = Some place }
+  fallen = record s { sight = Some tick; listed = Some index }
 
   abbrev after : Slots
-  after = slice_set slots key (Some (record s { sight = Some tick; listed = Some place }))
+  after = slice_set slots key (Some (record s { sight = Some tick; listed = Some index }))
 
   -- a scope that is lowered from a later effective deadline is a `Moves` step
   pub along-set : scope_in slots key ≡ Some s → before (Some tick) s.sight ≡ true → Along tick slots after
   along-set kept late = record {
     long = length-set slots key (Some fallen);
     finds = same_by (option_map outline_of) slots key s (Some fallen) kept refl;
-    places = λ p. same_by (place_under p) slots key s (Some fallen) kept refl;
+    indices = λ p. same_by (index_under p) slots key s (Some fallen) kept refl;
     children = same_by children_at slots key s (Some fallen) kept refl;
     moves = λ k. by_key k (cases_eq k key);
   }
@@ -138,22 +138,22 @@ module _ (tick : ℕ) (slots : Slots) (key : ℕ) (s : Scope) (place : ℕ) wher
 -- the same of a scope that was lowered and marked
 pub lowers-along : (tick : ℕ) (old new : Slots) (key : ℕ) (h : Lowers tick old new key) → before (Some tick) h.scope.sight ≡ true →
     Along tick old new
-lowers-along tick old new key h late = subst (Along tick old) (sym h.written) (along-set tick old key h.scope h.place h.kept late)
+lowers-along tick old new key h late = subst (Along tick old) (sym h.written) (along-set tick old key h.scope h.index h.kept late)
 
 -- and of the count
 pub lowers-count : (tick : ℕ) (old new : Slots) (key : ℕ) (h : Lowers tick old new key) → before (Some tick) h.scope.sight ≡ true →
     count_by (is_later tick) new + 1 ≡ count_by (is_later tick) old
 lowers-count tick old new key h late =
-    ap (λ (l : Slots). count_by (is_later tick) l + 1) h.written ∙ count-fallen tick old key h.scope h.place h.kept late
+    ap (λ (l : Slots). count_by (is_later tick) l + 1) h.written ∙ count-fallen tick old key h.scope h.index h.kept late
 
 -- a child is lowered
-module _ (tick parent place : ℕ) (slots : Slots) (changed lowered : List ℕ) (key : ℕ) where
-  -- a scope that waits at this place is that child
-  only_child : Family slots → place_under parent (scope_in slots key) ≡ Some place → (k : ℕ) (t : Scope) → scope_in slots k ≡ Some t →
-      t.parent ≡ Some parent → t.place ≡ place → k ≡ key
+module _ (tick parent index : ℕ) (slots : Slots) (changed lowered : List ℕ) (key : ℕ) where
+  -- a scope that waits at this index is that child
+  only_child : Family slots → index_under parent (scope_in slots key) ≡ Some index → (k : ℕ) (t : Scope) → scope_in slots k ≡ Some t →
+      t.parent ≡ Some parent → t.index ≡ index → k ≡ key
   only_child family at k t kept up here =
-      let mine = (family.children parent).stands key place at in
-      let other = (family.children parent).stands k t.place (under_is slots parent k t kept up) in
+      let mine = (family.children parent).stands key index at in
+      let other = (family.children parent).stands k t.index (under_is slots parent k t kept up) in
       sym other.1 ∙ ap (λ (n : ℕ). get_or (children_at (scope_in slots parent)) n 0) here ∙ mine.1
 
   own_near : (s : Scope) → (waits : ℕ → Scope → Type 0) → s.parent ≡ Some parent → own_sight (scope_in slots parent) ≡ Some tick →
@@ -170,60 +170,60 @@ module _ (tick parent place : ℕ) (slots : Slots) (changed lowered : List ℕ) 
       ∙ sym (ap (λ (b : Bool). sight_by b s.from (Some tick)) bare)
 
   -- a child whose effective deadline was later is lowered, and its children wait
-  pub child-lowered : (new : Slots) (now : List ℕ) → Lowering tick (or_child parent place lowered) slots changed lowered →
-      own_sight (scope_in slots parent) ≡ Some tick → place_under parent (scope_in slots key) ≡ Some place →
+  pub child-lowered : (new : Slots) (now : List ℕ) → Lowering tick (or_child parent index lowered) slots changed lowered →
+      own_sight (scope_in slots parent) ≡ Some tick → index_under parent (scope_in slots key) ≡ Some index →
       (h : Lowers tick slots new key) → h.scope.shield ≡ false → before (Some tick) h.scope.sight ≡ true → IsListed new now →
-      Lowering tick (or_child parent (place + 1) (lowered ++ key ∷ [])) new now (lowered ++ key ∷ [])
+      Lowering tick (or_child parent (index + 1) (lowered ++ key ∷ [])) new now (lowered ++ key ∷ [])
   child-lowered new now state sees at h bare late listed =
       let s : Scope = h.scope in
-      let child = under_at parent place (scope_in slots key) at in
+      let child = under_at parent index (scope_in slots key) at in
       let same : Some child.0 ≡ Some s = sym child.1 ∙ h.kept in
       let is : child.0 ≡ s = cc in
       let up : s.parent ≡ Some parent = ap (λ (t : Scope). t.parent) (sym is) ∙ child.2 in
       let along : Along tick slots new = lowers-along tick slots new key h late in
       let parent_low : own_sight (scope_in new parent) ≡ Some tick = low_stays tick slots new parent along sees in
-      let lower : Slots = slice_set slots key (Some (record s { sight = Some tick; listed = Some h.place })) in
+      let lower : Slots = slice_set slots key (Some (record s { sight = Some tick; listed = Some h.index })) in
       let parent_lower : outer_sight lower s.parent ≡ Some tick = ap (outer_sight lower) up
       ∙ ap (λ (l : Slots). own_sight (scope_in l parent)) (sym h.written) ∙ parent_low in
-      let own = own_near s (or_child parent place lowered) up sees bare late (state.near.near key s h.kept) in
-      let N : Slots → Type 0 = λ l. AllNear l tick (or_child parent (place + 1) (lowered ++ key ∷ [])) in
+      let own = own_near s (or_child parent index lowered) up sees bare late (state.near.near key s h.kept) in
+      let N : Slots → Type 0 = λ l. AllNear l tick (or_child parent (index + 1) (lowered ++ key ∷ [])) in
       record {
         tree = same-tree slots new along.finds state.tree;
         family = family-along tick slots new along state.family;
         listed = listed;
         near = subst N (sym h.written)
-            (near-lowered slots tick key s (Some h.place) (or_child parent place lowered)
-            (or_child parent (place + 1) (lowered ++ key ∷ [])) h.kept late
+            (near-lowered slots tick key s (Some h.index) (or_child parent index lowered)
+            (or_child parent (index + 1) (lowered ++ key ∷ [])) h.kept late
             (λ k t differs kept. state.near.near k t kept)
             (λ k t differs kept w. on k t differs kept w)
             (λ k t inside. inl (key, inside, Contains-push lowered key))
             (own ∙ sym (ap (sight_by s.shield s.from) parent_lower)));
-        low = λ k in_list. by_place k (Contains-push_cases lowered key k in_list) along;
+        low = λ k in_list. by_index k (Contains-push_cases lowered key k in_list) along;
         room = (let count = lowers-count tick slots new key h late in
             omega (arith, count, state.room, along.long, length-append lowered (key ∷ [])));
       }
     where
-      on : (k : ℕ) (t : Scope) → k ≢ key → scope_in slots k ≡ Some t → or_child parent place lowered k t →
-          or_child parent (place + 1) (lowered ++ key ∷ []) k t
+      on : (k : ℕ) (t : Scope) → k ≢ key → scope_in slots k ≡ Some t → or_child parent index lowered k t →
+          or_child parent (index + 1) (lowered ++ key ∷ []) k t
       on k t differs kept (inl w) = inl (w.0, w.1, Contains-append_left lowered (key ∷ []) w.0 w.2)
       on k t differs kept (inr w) =
-          inr (w.0, by_place_of (cases_eq t.place place))
+          inr (w.0, by_index_of (cases_eq t.index index))
         where
-          by_place_of : (t.place ≡ place) ⊎ (t.place ≢ place) → place + 1 ≤ t.place
-          by_place_of (inl here) = absurd (differs (only_child state.family at k t kept w.0 here))
-          by_place_of (inr away) = omega (arith, away, w.1)
+          by_index_of : (t.index ≡ index) ⊎ (t.index ≢ index) → index + 1 ≤ t.index
+          by_index_of (inl here) = absurd (differs (only_child state.family at k t kept w.0 here))
+          by_index_of (inr away) = omega (arith, away, w.1)
 
-      by_place : (k : ℕ) → Contains lowered k ⊎ (key ≡ k) → Along tick slots new → own_sight (scope_in new k) ≡ Some tick
-      by_place k (inl was) along = low_stays tick slots new k along (state.low k was)
-      by_place k (inr same) along =
+      by_index : (k : ℕ) → Contains lowered k ⊎ (key ≡ k) → Along tick slots new → own_sight (scope_in new k) ≡ Some tick
+      by_index k (inl was) along = low_stays tick slots new k along (state.low k was)
+      by_index k (inr same) along =
           ap (λ (n : ℕ). own_sight (scope_in new n)) (sym same)
           ∙ ap (λ (l : Slots). own_sight (scope_in l key)) h.written
-          ∙ ap own_sight (written slots key h.scope (Some (record h.scope { sight = Some tick; listed = Some h.place })) h.kept)
+          ∙ ap own_sight (written slots key h.scope (Some (record h.scope { sight = Some tick; listed = Some h.index })) h.kept)
 
   -- a child stays as it is
-  pub child-stays : (s : Scope) → Lowering tick (or_child parent place lowered) slots changed lowered →
-      own_sight (scope_in slots parent) ≡ Some tick → place_under parent (scope_in slots key) ≡ Some place → scope_in slots key ≡ Some s →
-      (s.shield ≡ true) ⊎ (before (Some tick) s.sight ≡ false) → Lowering tick (or_child parent (place + 1) lowered) slots changed lowered
+  pub child-stays : (s : Scope) → Lowering tick (or_child parent index lowered) slots changed lowered →
+      own_sight (scope_in slots parent) ≡ Some tick → index_under parent (scope_in slots key) ≡ Some index → scope_in slots key ≡ Some s →
+      (s.shield ≡ true) ⊎ (before (Some tick) s.sight ≡ false) → Lowering tick (or_child parent (index + 1) lowered) slots changed lowered
   child-stays s state sees at kept stays = record {
     tree = state.tree;
     family = state.family;
@@ -235,25 +235,25 @@ module _ (tick parent place : ℕ) (slots : Slots) (changed lowered : List ℕ) 
     where
       up : s.parent ≡ Some parent
       up =
-          let child = under_at parent place (scope_in slots key) at in
+          let child = under_at parent index (scope_in slots key) at in
           let same : Some child.0 ≡ Some s = sym child.1 ∙ kept in
           let is : child.0 ≡ s = cc in
           ap (λ (t : Scope). t.parent) (sym is) ∙ child.2
 
-      by_near : (k : ℕ) (t : Scope) → scope_in slots k ≡ Some t → IsNear slots tick (or_child parent place lowered) k t →
-          IsNear slots tick (or_child parent (place + 1) lowered) k t
+      by_near : (k : ℕ) (t : Scope) → scope_in slots k ≡ Some t → IsNear slots tick (or_child parent index lowered) k t →
+          IsNear slots tick (or_child parent (index + 1) lowered) k t
       by_near k t found (inl right) = inl right
       by_near k t found (inr (w, outer, late, sight)) = by_wait w
         where
-          by_wait : or_child parent place lowered k t → IsNear slots tick (or_child parent (place + 1) lowered) k t
+          by_wait : or_child parent index lowered k t → IsNear slots tick (or_child parent (index + 1) lowered) k t
           by_wait (inl b) = inr (inl b, outer, late, sight)
           by_wait (inr b) =
-              elim (cases_eq t.place place) [
+              elim (cases_eq t.index index) [
                 | inl here ↦
                     let same : k ≡ key = only_child state.family at k t found b.0 here in
                     let e : Some s ≡ Some t = sym kept ∙ ap (scope_in slots) (sym same) ∙ found in
                     let is : s ≡ t = cc in
-                    inl (subst (IsRight slots) is (settled slots tick parent (or_child parent place lowered) key s up sees
+                    inl (subst (IsRight slots) is (settled slots tick parent (or_child parent index lowered) key s up sees
                     (state.near.near key s kept) stays))
                 | inr away ↦ inr (inr (b.0, omega (arith, away, b.1)), outer, late, sight)
               ]
@@ -281,13 +281,13 @@ pub popped : (tick parent : ℕ) (slots : Slots) (changed rest : List ℕ) →
     Lowering tick (or_child parent 0 rest) slots changed rest
 popped tick parent slots changed rest state =
     waits-as tick slots changed (rest ++ parent ∷ []) rest (below (rest ++ parent ∷ [])) (or_child parent 0 rest) state
-    (λ k t found w. by_place k t w (Contains-push_cases rest parent w.0 w.2))
+    (λ k t found w. by_index k t w (Contains-push_cases rest parent w.0 w.2))
     (λ k in_list. Contains-append_left rest (parent ∷ []) k in_list)
     (omega (arith, length-append rest (parent ∷ [])))
   where
-    by_place : (k : ℕ) (t : Scope) (w : below (rest ++ parent ∷ []) k t) → Contains rest w.0 ⊎ (parent ≡ w.0) → or_child parent 0 rest k t
-    by_place k t w (inl inside) = inl (w.0, w.1, inside)
-    by_place k t w (inr same) = inr (w.1 ∙ ap Some (sym same), omega arith)
+    by_index : (k : ℕ) (t : Scope) (w : below (rest ++ parent ∷ []) k t) → Contains rest w.0 ⊎ (parent ≡ w.0) → or_child parent 0 rest k t
+    by_index k t w (inl inside) = inl (w.0, w.1, inside)
+    by_index k t w (inr same) = inr (w.1 ∙ ap Some (sym same), omega arith)
 
 -- and its effective deadline is the tick
 pub popped_low : (tick parent : ℕ) (slots : Slots) (changed rest : List ℕ) →
@@ -305,8 +305,8 @@ all_children tick parent count slots changed lowered long state =
     by_wait : (k : ℕ) (t : Scope) → scope_in slots k ≡ Some t → or_child parent count lowered k t → below lowered k t
     by_wait k t found (inl w) = w
     by_wait k t found (inr w) =
-        let place = (state.family.children parent).stands k t.place (under_is slots parent k t found w.0) in
-        absurd (omega (arith, place.0, w.1, long))
+        let index = (state.family.children parent).stands k t.index (under_is slots parent k t found w.0) in
+        absurd (omega (arith, index.0, w.1, long))
 
 -- nothing waits any more
 pub all_done : (tick : ℕ) (slots : Slots) (changed : List ℕ) → Lowering tick (below []) slots changed [] → AllRight slots
@@ -316,16 +316,16 @@ all_done tick slots changed state = record { right = λ k t found. by_near k t (
     by_near k t (inl right) = right
     by_near k t (inr w) = absurd (omega (arith, w.0.2.1))
 
--- the child at a place
-pub child_key : (slots : Slots) (parent place key : ℕ) (s : Scope) → scope_in slots parent ≡ Some s → Family slots →
-    place < length (children_at (scope_in slots parent)) → key ≡ get_or s.children.items place key →
-    place_under parent (scope_in slots key) ≡ Some place
-child_key slots parent place key s kept family within is =
+-- the child at an index
+pub child_key : (slots : Slots) (parent index key : ℕ) (s : Scope) → scope_in slots parent ≡ Some s → Family slots →
+    index < length (children_at (scope_in slots parent)) → key ≡ get_or s.children.items index key →
+    index_under parent (scope_in slots key) ≡ Some index
+child_key slots parent index key s kept family within is =
     let same : children_at (scope_in slots parent) ≡ s.children.items = ap children_at kept in
-    let inside : place < length s.children.items = subst (λ (l : List ℕ). place < length l) same within in
-    let at : key ≡ get_or (children_at (scope_in slots parent)) place 0 =
-    get_or_read s.children.items place key inside is 0 ∙ ap (λ (l : List ℕ). get_or l place 0) (sym same) in
-    ap (λ (k : ℕ). place_under parent (scope_in slots k)) at ∙ (family.children parent).placed place within
+    let inside : index < length s.children.items = subst (λ (l : List ℕ). index < length l) same within in
+    let at : key ≡ get_or (children_at (scope_in slots parent)) index 0 =
+    get_or_read s.children.items index key inside is 0 ∙ ap (λ (l : List ℕ). get_or l index 0) (sym same) in
+    ap (λ (k : ℕ). index_under parent (scope_in slots k)) at ∙ (family.children parent).placed index within
 
 -- a scope that is lowered leaves no more to do
 pub lowers-work : (tick : ℕ) (old new : Slots) (key : ℕ) (lowered : List ℕ) (h : Lowers tick old new key) →

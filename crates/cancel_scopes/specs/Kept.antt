@@ -64,13 +64,13 @@ scope_in slots key = slice_index_or slots key None
 abbrev pub find_in : Slots → Find
 find_in slots key = option_map outline_of (scope_in slots key)
 
--- its place in the list of changed scopes, if it is there
-abbrev pub place_of : Option Scope → Option ℕ
-place_of None = None
-place_of (Some s) = s.listed
+-- its index in the list of changed scopes, if it is there
+abbrev pub index_of : Option Scope → Option ℕ
+index_of None = None
+index_of (Some s) = s.listed
 
 abbrev pub is_listed : Option Scope → Bool
-is_listed o = is_some (place_of o)
+is_listed o = is_some (index_of o)
 
 -- what contracts see of the open scopes
 abbrev pub tree_of : Slots → Tree
@@ -96,17 +96,17 @@ seen_at find key = sight_of (stack_at find key)
 abbrev pub HasSights : Slots → Type 0
 HasSights slots = (key : ℕ) → own_sight (scope_in slots key) ≡ seen_at (find_in slots) key
 
--- each key that has a place is at that place in the list, and each key in the list has its place
-pub record IsPlaced (places : ℕ → Option ℕ) (list : List ℕ) : Type 0 where
-  pub stands : (key place : ℕ) → places key ≡ Some place → (place < length list) × (slice_index list place ≡ key)
-  pub placed : (place : ℕ) → place < length list → places (slice_index list place) ≡ Some place
+-- each key that has an index is at that index in the list, and each key in the list has its index
+pub record IsPlaced (indices : ℕ → Option ℕ) (list : List ℕ) : Type 0 where
+  pub stands : (key index : ℕ) → indices key ≡ Some index → (index < length list) × (slice_index list index ≡ key)
+  pub placed : (index : ℕ) → index < length list → indices (slice_index list index) ≡ Some index
 
-abbrev pub places_in : Slots → ℕ → Option ℕ
-places_in slots key = place_of (scope_in slots key)
+abbrev pub indices_in : Slots → ℕ → Option ℕ
+indices_in slots key = index_of (scope_in slots key)
 
--- the list of changed scopes contains exactly the scopes that have a place in it
+-- the list of changed scopes contains exactly the scopes that have an index in it
 pub record IsListed (slots : Slots) (changed : List ℕ) : Type 0 where
-  pub places : IsPlaced (places_in slots) changed
+  pub indices : IsPlaced (indices_in slots) changed
   pub counted : length changed ≡ count_by is_listed slots
 
 -- whether a scope's parent is this one
@@ -114,24 +114,24 @@ abbrev pub parent_is : ℕ → Option ℕ → Bool
 parent_is parent None = false
 parent_is parent (Some other) = other == parent
 
-abbrev pub place_under : ℕ → Option Scope → Option ℕ
-place_under parent None = None
-place_under parent (Some s) = if parent_is parent s.parent then Some s.place else None
+abbrev pub index_under : ℕ → Option Scope → Option ℕ
+index_under parent None = None
+index_under parent (Some s) = if parent_is parent s.parent then Some s.index else None
 
 abbrev pub children_at : Option Scope → List ℕ
 children_at None = []
 children_at (Some s) = s.children.items
 
--- the children of each scope are exactly the scopes that have a place under it
+-- the children of each scope are exactly the scopes that have an index under it
 pub record Family (slots : Slots) : Type 0 where
-  pub children : (parent : ℕ) → IsPlaced (λ key. place_under parent (scope_in slots key)) (children_at (scope_in slots parent))
+  pub children : (parent : ℕ) → IsPlaced (λ key. index_under parent (scope_in slots key)) (children_at (scope_in slots parent))
 
 -- everything stays the same except which scopes are marked
 pub record SameScopes (old new : Slots) : Type 0 where
   pub long : length new ≡ length old
   pub finds : (key : ℕ) → find_in new key ≡ find_in old key
   pub sights : (key : ℕ) → own_sight (scope_in new key) ≡ own_sight (scope_in old key)
-  pub places : (parent key : ℕ) → place_under parent (scope_in new key) ≡ place_under parent (scope_in old key)
+  pub indices : (parent key : ℕ) → index_under parent (scope_in new key) ≡ index_under parent (scope_in old key)
   pub children : (key : ℕ) → children_at (scope_in new key) ≡ children_at (scope_in old key)
 
 -- the scope of this key now has this mark, and every other scope keeps its mark

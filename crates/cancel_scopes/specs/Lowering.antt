@@ -2,7 +2,7 @@
 use Rattle.std.specs.Prelude.{◌≡◌, ◌≢◌, ℕ, ◌+◌, ◌*◌, ◌≤◌, ◌⊎◌, Bool, true, if◌then◌else◌, List, [], ◌∷◌, ◌++◌, length, count_by, Option, Some, None, slice_set}
 use Rattle.std.specs.List.{Contains}
 use Rattle.cancel_scopes.specs.Sight.{Tick, earlier, before}
-use Rattle.cancel_scopes.specs.Kept.{Slots, IsTree, scope_in, find_in, own_sight, place_of, is_listed, IsListed, place_under, children_at, Family}
+use Rattle.cancel_scopes.specs.Kept.{Slots, IsTree, scope_in, find_in, own_sight, index_of, is_listed, IsListed, index_under, children_at, Family}
 use Rattle.cancel_scopes.specs.declared.store.Scope.{Scope}
 
 -- the effective deadline of a scope, from its own tick and the effective deadline of the scope that encloses it
@@ -33,9 +33,9 @@ pub record AllNear (slots : Slots) (tick : ℕ) (waits : ℕ → Scope → Type 
 abbrev pub below : List ℕ → ℕ → Scope → Type 0
 below lowered key s = (parent : ℕ) × (s.parent ≡ Some parent) × Contains lowered parent
 
--- or if it is a child of this parent, from this place on
+-- or if it is a child of this parent, from this index on
 abbrev pub or_child : ℕ → ℕ → List ℕ → ℕ → Scope → Type 0
-or_child parent place lowered key s = below lowered key s ⊎ ((s.parent ≡ Some parent) × (place ≤ s.place))
+or_child parent index lowered key s = below lowered key s ⊎ ((s.parent ≡ Some parent) × (index ≤ s.index))
 
 abbrev pub is_later : ℕ → Option Scope → Bool
 is_later tick o = before (Some tick) (own_sight o)
@@ -56,9 +56,9 @@ pub record Lowering (tick : ℕ) (waits : ℕ → Scope → Type 0) (slots : Slo
 -- a scope is lowered and marked
 pub record Lowers (tick : ℕ) (old new : Slots) (key : ℕ) : Type 0 where
   pub scope : Scope
-  pub place : ℕ
+  pub index : ℕ
   pub kept : scope_in old key ≡ Some scope
-  pub written : new ≡ slice_set old key (Some (record scope { sight = Some tick; listed = Some place }))
+  pub written : new ≡ slice_set old key (Some (record scope { sight = Some tick; listed = Some index }))
 
 -- a scope keeps its effective deadline and its mark, or is lowered from a later effective deadline and marked
 abbrev pub Moves : ℕ → Option Scope → Option Scope → Type 0
@@ -69,7 +69,7 @@ Moves tick old new =
 pub record Along (tick : ℕ) (old new : Slots) : Type 0 where
   pub long : length new ≡ length old
   pub finds : (key : ℕ) → find_in new key ≡ find_in old key
-  pub places : (parent key : ℕ) → place_under parent (scope_in new key) ≡ place_under parent (scope_in old key)
+  pub indices : (parent key : ℕ) → index_under parent (scope_in new key) ≡ index_under parent (scope_in old key)
   pub children : (key : ℕ) → children_at (scope_in new key) ≡ children_at (scope_in old key)
   pub moves : (key : ℕ) → Moves tick (scope_in old key) (scope_in new key)
 
@@ -82,10 +82,10 @@ pub record Starts (tick key : ℕ) (slots : Slots) (changed : List ℕ) : Type 0
   pub own : (s : Scope) → scope_in slots key ≡ Some s → (from : Tick) × (s.from ≡ earlier from (Some tick))
       × (s.sight ≡ sight_by s.shield from (outer_sight slots s.parent))
 
--- the place of a key in the list of changed scopes, to which it is appended if it has none
+-- the index of a key in the list of changed scopes, to which it is appended if it has none
 abbrev pub lists_at : Option ℕ → ℕ → List ℕ → List ℕ → ℕ → Type 0
-lists_at (Some at) key old new place = (place ≡ at) × (new ≡ old)
-lists_at None key old new place = (place ≡ length old) × (new ≡ old ++ key ∷ [])
+lists_at (Some at) key old new index = (index ≡ at) × (new ≡ old)
+lists_at None key old new index = (index ≡ length old) × (new ≡ old ++ key ∷ [])
 
 abbrev pub lists : ℕ → Option Scope → List ℕ → List ℕ → ℕ → Type 0
-lists key o old new place = lists_at (place_of o) key old new place
+lists key o old new index = lists_at (index_of o) key old new index

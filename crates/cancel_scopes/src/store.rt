@@ -1,9 +1,9 @@
 ghost use Rattle.std.specs.Prelude.{◌≡◌, ℕ, ◌+◌, ◌*◌, ◌<◌, ◌≤◌, ◌++◌, ◌∷◌, [], false, Some, OnOk, length, vec_len, vec_capacity};
-ghost use Rattle.cancel_scopes.specs.Kept.{IsListed, Marks, SameScopes, Family, places_in, scope_in, own_sight, children_at};
+ghost use Rattle.cancel_scopes.specs.Kept.{IsListed, Marks, SameScopes, Family, indices_in, scope_in, own_sight, children_at};
 ghost use Rattle.cancel_scopes.specs.Lowering.{Lowering, Lowers, Along, AllRight, Starts, work, below, or_child, lists};
 ghost use Rattle.slab.specs.Slab.{ContainsKey, HasRoomFor, get};
 ghost use Rattle.std.specs.Option.{ForSome};
-ghost use Rattle.cancel_scopes.specs.Children.{HasPlace, SameOutlines, Orphaned, Lost};
+ghost use Rattle.cancel_scopes.specs.Children.{HasIndex, SameOutlines, Orphaned, Lost};
 
 use crate::scope_id::ScopeId;
 use crate::ticks::before;
@@ -21,12 +21,12 @@ pub(crate) struct Scope {
     pub(crate) depth: usize,
     // The effective deadline (`sight`): the tick from which a task in the scope sees a cancellation.
     pub(crate) sight: Option<u64>,
-    // Its place in the list of changed scopes, if it is there.
+    // Its index in the list of changed scopes, if it is there.
     pub(crate) listed: Option<usize>,
     // The keys of the scopes directly inside it.
     pub(crate) children: Vec<usize>,
-    // Its own place among its parent's children.
-    pub(crate) place: usize,
+    // Its own index among its parent's children.
+    pub(crate) index: usize,
 }
 
 // The open scopes by their keys. Both lists have room for the key of each slot.
@@ -91,27 +91,27 @@ impl Store {
         ensures changed_room { vec_capacity self.new.changed ≡ vec_capacity self.old.changed }
         ensures lowered_room { vec_capacity self.new.lowered ≡ vec_capacity self.old.lowered }
     {
-        'children: for place in 0..self.scopes[parent].children.len() {
-            self.lower_child(parent, place, tick);
+        'children: for index in 0..self.scopes[parent].children.len() {
+            self.lower_child(parent, index, tick);
         }
     }
 
-    // Lowers the effective deadline of the child at this place, if it has no shield and its effective deadline is later.
-    fn lower_child(&mut self, parent: usize, place: usize, tick: u64)
-        requires state { Lowering tick (or_child parent place self.old.lowered.items) self.old.scopes.slots self.old.changed.items
+    // Lowers the effective deadline of the child at this index, if it has no shield and its effective deadline is later.
+    fn lower_child(&mut self, parent: usize, index: usize, tick: u64)
+        requires state { Lowering tick (or_child parent index self.old.lowered.items) self.old.scopes.slots self.old.changed.items
             self.old.lowered.items }
         requires parent { own_sight (scope_in self.old.scopes.slots parent) ≡ Some tick }
-        requires place { place < length (children_at (scope_in self.old.scopes.slots parent)) }
+        requires index { index < length (children_at (scope_in self.old.scopes.slots parent)) }
         requires changed_room { length self.old.scopes.slots ≤ vec_capacity self.old.changed }
         requires lowered_room { length self.old.scopes.slots ≤ vec_capacity self.old.lowered }
-        ensures state { Lowering tick (or_child parent (place + 1) self.new.lowered.items) self.new.scopes.slots self.new.changed.items
+        ensures state { Lowering tick (or_child parent (index + 1) self.new.lowered.items) self.new.scopes.slots self.new.changed.items
             self.new.lowered.items }
         ensures along { Along tick self.old.scopes.slots self.new.scopes.slots }
         ensures work { work tick self.new.scopes.slots self.new.lowered.items ≤ work tick self.old.scopes.slots self.old.lowered.items }
         ensures changed_room { vec_capacity self.new.changed ≡ vec_capacity self.old.changed }
         ensures lowered_room { vec_capacity self.new.lowered ≡ vec_capacity self.old.lowered }
     {
-        let key = self.scopes[parent].children[place];
+        let key = self.scopes[parent].children[index];
         let scope = &self.scopes[key];
         if scope.shield {
             return;
@@ -133,15 +133,15 @@ impl Store {
         ensures changed_room { vec_capacity self.new.changed ≡ vec_capacity self.old.changed }
         ensures lowered_room { vec_capacity self.new.lowered ≡ vec_capacity self.old.lowered }
     {
-        let place = self.place_in_list(key);
+        let index = self.index_in_list(key);
         let scope = &mut self.scopes[key];
         scope.sight = Some(tick);
-        scope.listed = Some(place);
+        scope.listed = Some(index);
         self.lowered.push_reserved(key);
     }
 
-    // Returns the place of a scope in the list of changed scopes. Appends the scope if it is not in the list.
-    fn place_in_list(&mut self, key: usize) -> usize
+    // Returns the index of a scope in the list of changed scopes. Appends the scope if it is not in the list.
+    fn index_in_list(&mut self, key: usize) -> usize
         requires kept { ContainsKey self.old.scopes key }
         requires listed { IsListed self.old.scopes.slots self.old.changed.items }
         requires room { length self.old.scopes.slots ≤ vec_capacity self.old.changed }
@@ -150,12 +150,12 @@ impl Store {
         ensures room { vec_capacity self.new.changed ≡ vec_capacity self.old.changed }
         ensures lowered { self.new.lowered ≡ self.old.lowered }
     {
-        if let Some(place) = self.scopes[key].listed {
-            return place;
+        if let Some(index) = self.scopes[key].listed {
+            return index;
         }
-        let place = self.changed.len();
+        let index = self.changed.len();
         self.changed.push_reserved(key);
-        place
+        index
     }
 
     // Removes a scope from the list of changed scopes, if it is there.
@@ -167,16 +167,16 @@ impl Store {
         ensures listed { IsListed self.new.scopes.slots self.new.changed.items }
         ensures room { vec_capacity self.new.changed ≡ vec_capacity self.old.changed }
     {
-        let Some(place) = self.scopes[key].listed else {
+        let Some(index) = self.scopes[key].listed else {
             return;
         };
-        let _ = self.changed.swap_remove(place);
+        let _ = self.changed.swap_remove(index);
         let scope = &mut self.scopes[key];
         scope.listed = None;
-        if place < self.changed.len() {
-            let moved = self.changed[place];
+        if index < self.changed.len() {
+            let moved = self.changed[index];
             let scope = &mut self.scopes[moved];
-            scope.listed = Some(place);
+            scope.listed = Some(index);
         }
     }
 }
@@ -186,7 +186,7 @@ impl Store {
     pub(crate) fn make_room(&mut self, parent: Option<usize>) -> Result<(), AllocError>
         requires parent { ForSome parent (ContainsKey self.old.scopes) }
         ensures same { SameScopes self.old.scopes.slots self.new.scopes.slots }
-        ensures marks { (key : ℕ) → places_in self.new.scopes.slots key ≡ places_in self.old.scopes.slots key }
+        ensures marks { (key : ℕ) → indices_in self.new.scopes.slots key ≡ indices_in self.old.scopes.slots key }
         ensures changed { self.new.changed.items ≡ self.old.changed.items }
         ensures lowered { vec_len self.new.lowered ≡ vec_len self.old.lowered }
         ensures room { OnOk result (HasRoomFor self.new.scopes 1) }
@@ -194,7 +194,7 @@ impl Store {
         ensures lowered_grows { vec_capacity self.old.lowered ≤ vec_capacity self.new.lowered }
         ensures changed_room { OnOk result (self.new.scopes.capacity ≤ vec_capacity self.new.changed) }
         ensures lowered_room { OnOk result (self.new.scopes.capacity ≤ vec_capacity self.new.lowered) }
-        ensures place { OnOk result (HasPlace self.new.scopes.slots parent) }
+        ensures index { OnOk result (HasIndex self.new.scopes.slots parent) }
     {
         self.scopes.reserve(1)?;
         let capacity = self.scopes.capacity();
@@ -218,7 +218,7 @@ impl Store {
 
     // Appends a scope to its parent's children, where memory is reserved for it.
     pub(crate) fn add_child(&mut self, parent: Option<usize>, key: usize)
-        requires parent { HasPlace self.old.scopes.slots parent }
+        requires parent { HasIndex self.old.scopes.slots parent }
         requires orphan { Orphaned self.old.scopes.slots key parent }
         ensures same { SameOutlines self.old.scopes.slots self.new.scopes.slots }
         ensures family { Family self.new.scopes.slots }
@@ -233,9 +233,9 @@ impl Store {
         scope.children.push_reserved(key);
     }
 
-    // Removes a child from its parent's children. The last child moves to its place.
-    pub(crate) fn remove_child(&mut self, parent: Option<usize>, place: usize)
-        requires lost { Lost self.old.scopes.slots parent place }
+    // Removes a child from its parent's children. The last child moves to its index.
+    pub(crate) fn remove_child(&mut self, parent: Option<usize>, index: usize)
+        requires lost { Lost self.old.scopes.slots parent index }
         ensures same { SameOutlines self.old.scopes.slots self.new.scopes.slots }
         ensures family { Family self.new.scopes.slots }
         ensures changed { self.new.changed ≡ self.old.changed }
@@ -245,11 +245,11 @@ impl Store {
             return;
         };
         let scope = &mut self.scopes[parent];
-        let _ = scope.children.swap_remove(place);
-        if place < scope.children.len() {
-            let moved = scope.children[place];
+        let _ = scope.children.swap_remove(index);
+        if index < scope.children.len() {
+            let moved = scope.children[index];
             let scope = &mut self.scopes[moved];
-            scope.place = place;
+            scope.index = index;
         }
     }
 }

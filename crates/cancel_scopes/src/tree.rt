@@ -180,7 +180,7 @@ impl ScopeTree {
     {
         self.store.unmark(id.key);
         let scope = self.store.scopes.remove(id.key);
-        self.store.remove_child(key_of(scope.parent), scope.place);
+        self.store.remove_child(key_of(scope.parent), scope.index);
         scope.from
     }
 
@@ -224,7 +224,7 @@ fn scope_under(store: &Store, parent: Option<usize>, shield: bool, from: Option<
         ∷ upward (find_in store.now.scopes.slots) result.depth parent) }
     ensures unmarked { result.listed ≡ None }
     ensures childless { result.children.items ≡ [] }
-    ensures place { ForSome parent (λ p. result.place ≡ length (children_at (scope_in store.now.scopes.slots p))) }
+    ensures index { ForSome parent (λ p. result.index ≡ length (children_at (scope_in store.now.scopes.slots p))) }
 {
     let scopes = &store.scopes;
     let children = store.no_children();
@@ -241,7 +241,7 @@ fn scope_under(store: &Store, parent: Option<usize>, shield: bool, from: Option<
             },
             listed: None,
             children,
-            place: scopes[parent].children.len(),
+            index: scopes[parent].children.len(),
         },
         None => Scope {
             parent: None,
@@ -251,7 +251,7 @@ fn scope_under(store: &Store, parent: Option<usize>, shield: bool, from: Option<
             sight: from,
             listed: None,
             children,
-            place: 0,
+            index: 0,
         },
     }
 }

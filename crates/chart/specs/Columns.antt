@@ -40,7 +40,7 @@ log2 n = halvings 64 n
 abbrev pub gap : ℕ → ℕ → ℕ
 gap t u = length (decimal t) + 1 + log2 (u - t)
 
--- the same with so much less room, but at least one character
+-- the room from a tick to the next one, less this number of characters, but at least one
 abbrev pub gap_less : ℕ → ℕ → ℕ → ℕ
 gap_less less t u = max 1 (gap t u - less)
 

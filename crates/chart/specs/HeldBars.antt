@@ -6,14 +6,14 @@ use Rattle.std.specs.Global.{Vec}
 use Rattle.indexmap.specs.IndexMap.{IndexMap, get_by}
 use Rattle.exceptions.specs.Exceptions.{Label}
 use Rattle.job_meaning.specs.Log.{same_label}
-use Rattle.job_story.specs.Events as told
+use Rattle.job_story.specs.Events as story_events
 use Rattle.job_story.specs.declared.event.Event.{Event}
 use Rattle.story_index.specs.Seen.{event_in}
 use Rattle.chart.specs.Bars as bars
 use Rattle.chart.specs.declared.bar.Bar.{Bar}
 
 -- a borrowed event, if there is one
-abbrev pub event_seen : Option (Bor Event) → Option told.Event
+abbrev pub event_seen : Option (Bor Event) → Option story_events.Event
 event_seen e = option_map event_in e
 
 abbrev pub bar_of : Bar → bars.Bar
@@ -25,11 +25,11 @@ abbrev pub items_of : Option (Vec (Bor Event)) → List (Bor Event)
 items_of None = []
 items_of (Some events) = events.items
 
-abbrev pub events_at : {S : Type 0} → IndexMap (Bor Label) (Vec (Bor Event)) S → Label → List told.Event
+abbrev pub events_at : {S : Type 0} → IndexMap (Bor Label) (Vec (Bor Event)) S → Label → List story_events.Event
 events_at map_ l = map event_in (items_of (get_by (λ k. same_label l k.now) map_))
 
 -- the event of a label in a map
-abbrev pub event_at : {S : Type 0} → IndexMap (Bor Label) (Bor Event) S → Label → Option told.Event
+abbrev pub event_at : {S : Type 0} → IndexMap (Bor Label) (Bor Event) S → Label → Option story_events.Event
 event_at map_ l = event_seen (get_by (λ k. same_label l k.now) map_)
 
 -- whether a borrowed label is this one

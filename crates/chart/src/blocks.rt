@@ -1,5 +1,5 @@
 ghost use Rattle.std.specs.Prelude.{◌≡◌, ◌++◌, ◌∷◌, List, OnOk, map};
-ghost use Rattle.job_story.specs.Froms.{table_in};
+ghost use Rattle.job_story.specs.CancelledFrom.{table_in};
 ghost use Rattle.job_story.specs.Held.{event_of, what_of};
 ghost use Rattle.story_index.specs.Seen.{event_in};
 ghost use Rattle.chart.specs.Bars as chart;
@@ -11,7 +11,7 @@ use crate::bar::Bar;
 use crate::index::StoryIndex;
 use crate::indexing::no_events;
 use job_meaning::Clock;
-use job_story::{Event, Froms, Happening, What};
+use job_story::{CancelledFrom, Event, Happening, What};
 use std::alloc::AllocError;
 
 // Appends a bar for each scope and nursery that is entered with one of these events, in their order.
@@ -19,15 +19,15 @@ pub(crate) fn push_blocks<'i, 'e>(
     bars: &mut Vec<Bar<'i, 'e>>,
     index: &'i StoryIndex<'_, 'e>,
     clock: Clock,
-    froms: &Froms,
+    cancelled_from: &CancelledFrom,
     until: Option<u64>,
     events: &[&'e Event],
 ) -> Result<(), AllocError>
     ensures { OnOk result (map bar_of bars.new.items ≡ map bar_of bars.old.items
-        ++ block_bars clock (table_in froms.now) until (walked_in index.entry.now) (map event_in events.now)) }
+        ++ block_bars clock (table_in cancelled_from.now) until (walked_in index.entry.now) (map event_in events.now)) }
 {
     'events: for event in events {
-        push_block(bars, index, clock, froms, until, event)?;
+        push_block(bars, index, clock, cancelled_from, until, event)?;
     }
     Ok(())
 }
@@ -37,12 +37,12 @@ fn push_block<'i, 'e>(
     bars: &mut Vec<Bar<'i, 'e>>,
     index: &'i StoryIndex<'_, 'e>,
     clock: Clock,
-    froms: &Froms,
+    cancelled_from: &CancelledFrom,
     until: Option<u64>,
     event: &'e Event,
 ) -> Result<(), AllocError>
     ensures { OnOk result ((others : List chart.Bar) → map bar_of bars.new.items ++ others ≡ map bar_of bars.old.items
-        ++ with_block clock (table_in froms.now) until (walked_in index.entry.now) (event_of event.entry.now) (what_of event.entry.now.what) others) }
+        ++ with_block clock (table_in cancelled_from.now) until (walked_in index.entry.now) (event_of event.entry.now) (what_of event.entry.now.what) others) }
 {
     let What::Happens(Happening::Enters { label, .. }) = &event.what else {
         return Ok(());
@@ -52,7 +52,7 @@ fn push_block<'i, 'e>(
         first: event,
         last,
         own: no_events(),
-        cancelled: moment_between(clock, until, event, last, froms.of(label)),
+        cancelled: moment_between(clock, until, event, last, cancelled_from.of(label)),
     })?;
     Ok(())
 }

@@ -6,8 +6,8 @@ use crate::column::Column;
 use crate::sorting::sort_ticks;
 use std::alloc::{AllocError, Global};
 
-/// Returns the columns for these ticks, which may be in any order, with one for each thing that happens. The result has each tick once and
-/// in order, with the number of times that it was given. Returns `AllocError` if memory runs out.
+/// Returns the columns for these ticks, which may be in any order, with one for each thing that happens. The result has each tick
+/// once and in order, with the number of times that it was given. Returns `AllocError` if memory runs out.
 pub fn columns_of(alloc: Global, ticks: &[u64]) -> Result<Vec<Column>, AllocError>
     ensures { IfOk result (λ columns. map column_of columns.items ≡ columns_of ticks.now) }
 {

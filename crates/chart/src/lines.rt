@@ -70,8 +70,8 @@ fn push_margin(line: &mut Vec<u8>, names: usize) -> Result<(), AllocError>
     Ok(())
 }
 
-// How a chart is laid out: the clock of its story, how wide it is, its last tick, by how much its gaps are smaller than they would be
-// with ample room, and the length of its longest name.
+// How a chart is laid out: the clock of its story, how wide it is, its last tick, by how much its gaps are smaller than they
+// would be with ample room, and the length of its longest name.
 #[derive(Clone, Copy)]
 pub(crate) struct Sheet {
     pub clock: Clock,

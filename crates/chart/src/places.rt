@@ -4,8 +4,8 @@ ghost use Rattle.chart.specs.HeldColumns.{column_of};
 
 use crate::column::Column;
 
-/// Returns the tick of the last column that is not after `tick`, at which something that happens at `tick` is shown. Returns the tick of
-/// the first column if all are after `tick` itself if there are no columns. The columns are expected in order of ticks.
+/// Returns the tick of the last column that is not after `tick`, at which something that happens at `tick` is shown. Returns the
+/// tick of the first column if all are after `tick` itself if there are no columns. The columns are expected in order of ticks.
 pub fn column_at(columns: &[Column], tick: u64) -> u64
     ensures { result ≡ column_at (map column_of columns.now) tick }
 {
@@ -29,8 +29,9 @@ fn column_from(before: u64, columns: &[Column], tick: u64) -> u64
     found
 }
 
-/// Returns the tick of the first column that is not before `tick`, at which something that holds from `tick` on begins to be shown.
-/// Returns the tick of the last column if all are before `tick`, and 0 if there are no columns. The columns are expected in order of ticks.
+/// Returns the tick of the first column that is not before `tick`, at which something that holds from `tick` on begins to be
+/// shown. Returns the tick of the last column if all are before `tick`, and 0 if there are no columns. The columns are expected
+/// in order of ticks.
 pub fn column_by(columns: &[Column], tick: u64) -> u64
     ensures { result ≡ column_by (map column_of columns.now) tick }
 {

@@ -16,14 +16,14 @@ use std::alloc::{AllocError, Global};
 /// The minimum number of columns in a panel.
 const LEAST_PANEL: usize = 10;
 
-/// Returns the text of a chart with these events, in the order of the walk, and their bars: up to four lines with the ticks of the
-/// columns, and a line for each bar. There is a column for each tick at which something happens. `clock` says how the moments of the
-/// events are counted. What happens in different rounds of a tick is shown in the column of the tick. If the story is cut off at a
-/// limit (`until`), a line says so.
+/// Returns the text of a chart with these events, in the order of the walk, and their bars: up to four lines with the ticks of
+/// the columns, and a line for each bar. There is a column for each tick at which something happens. `clock` says how the moments
+/// of the events are counted. What happens in different rounds of a tick is shown in the column of the tick. If the story is cut
+/// off at a limit (`until`), a line says so.
 ///
-/// The gaps between columns grow with the logarithm of the time between them; if the columns do not fit so, each gap is smaller by the
-/// same number of characters, but at least one character. If they do not fit even with gaps of one character, the chart has
-/// several panels, one below the other; a bar that goes on in another panel is marked by `~`.
+/// The gaps between columns grow with the logarithm of the time between them; if the columns do not fit so, each gap is smaller
+/// by the same number of characters, but at least one character. If they do not fit even with gaps of one character, the chart
+/// has several panels, one below the other; a bar that goes on in another panel is marked by `~`.
 ///
 /// No line is longer than `width` bytes, not counting its newline, if `width` is at least 2. Returns `AllocError` if memory runs
 /// out.

@@ -10,9 +10,9 @@ use std::alloc::{AllocError, Global};
 /// The maximum room that is kept for outcomes, in bytes. A longer outcome is cut if it does not fit.
 pub const MAX_OUTCOME: usize = 24;
 
-/// Returns by how many characters gaps are made smaller so that these columns fit into a width, in characters, beside the names and
-/// outcomes of these bars: the least number that suffices, or the one with which each gap is one character if none does. Long outcomes
-/// take no more than 24 characters. Returns `AllocError` if memory runs out.
+/// Returns by how many characters gaps are made smaller so that these columns fit into a width, in characters, beside the names
+/// and outcomes of these bars: the least number that suffices, or the one with which each gap is one character if none does. Long
+/// outcomes take no more than 24 characters. Returns `AllocError` if memory runs out.
 pub fn less_to_fit(
     alloc: Global,
     width: usize,

@@ -18,8 +18,8 @@ const BACK: &str = ".SH SEE ALSO
 The folder docs/ of the repository: the job language, its formats and its meaning.
 ";
 
-/// Returns the man page as text for troff: the program's version, and a section for each command, with its help. The only error is
-/// that memory runs out.
+/// Returns the man page as text for troff: the program's version, and a section for each command, with its help. The only error
+/// is that memory runs out.
 pub fn man_page(alloc: Global) -> Result<String, AllocError> {
     let command = command_line(alloc)?;
     let mut out = String::from_str(alloc, HEAD)?;

@@ -8,7 +8,7 @@ use std::alloc::{AllocError, Global};
 /// The limit if none is given, in ticks.
 pub const DEFAULT_LIMIT: u64 = 1_000_000;
 
-// The same, as the help prints it.
+// The default limit, as the help prints it.
 pub(crate) const SHOWN_LIMIT: &str = "1000000";
 
 /// The minimum width of a chart, in columns of text.
@@ -17,8 +17,8 @@ pub const LEAST_WIDTH: usize = 20;
 /// The maximum width of a chart, in columns of text.
 pub const MAX_WIDTH: usize = 1_000;
 
-/// The maximum length in bytes of the label in `--task`. No label is longer: it is a name of at most 32 bytes and, for each of at most
-/// 32 blocks around the task, a dot and a number of at most 10 digits.
+/// The maximum length in bytes of the label in `--task`. No label is longer: it is a name of at most 32 bytes and, for each of at
+/// most 32 blocks around the task, a dot and a number of at most 10 digits.
 pub const MAX_LABEL: usize = 384;
 
 /// The greatest number by which ticks are multiplied.

@@ -53,9 +53,10 @@ struct Seen {
 }
 
 impl Target {
-    /// Looks at the file with this name, or at the file that a link with this name leads to. To be called before the file is read, so
-    /// that what is replaced later is what was read. Returns `ReplaceFault::NotRegular` if there is something that is not a regular
-    /// file, which is not opened, so that a FIFO is not waited for; and `ReplaceFault::System` if the file may not be written.
+    /// Looks at the file with this name, or at the file that a link with this name leads to. To be called before the file is
+    /// read, so that what is replaced later is what was read. Returns `ReplaceFault::NotRegular` if there is something that is
+    /// not a regular file, which is not opened, so that a FIFO is not waited for; and `ReplaceFault::System` if the file may not
+    /// be written.
     pub fn of<R: Files + AllocGlobal>(rt: &R, name: &str) -> Result<Target, ReplaceFault> {
         let alloc = rt.alloc();
         match fs::canonicalize(rt, name) {
@@ -74,10 +75,10 @@ impl Target {
     }
 
     /// Replaces the bytes of the file, or writes a new file if there was none. The bytes are written to a new file in the same
-    /// folder, under a name that no file has, with the owner and the permissions of the old one; it then takes the file's name. So
-    /// whatever fails, the file holds either its old bytes or the new ones. Returns a `ReplaceFault` if the file is no longer the one
-    /// that was looked at, or has other bytes; if its owner or its permissions cannot be kept; if no name is free after 100 tries;
-    /// or if the system refuses a call.
+    /// folder, under a name that no file has, with the owner and the permissions of the old one; it then takes the file's name.
+    /// So whatever fails, the file holds either its old bytes or the new ones. Returns a `ReplaceFault` if the file is no longer
+    /// the one that was looked at, or has other bytes; if its owner or its permissions cannot be kept; if no name is free after
+    /// 100 tries; or if the system refuses a call.
     pub fn replace<R: Files + AllocGlobal>(
         &self,
         rt: &R,
@@ -114,7 +115,7 @@ impl Target {
             None => refuse_if_there(rt, path)?,
             Some(was) => {
                 if seen_at(rt, path)? != was {
-                    return Err(told(rt.alloc(), path, "changed after it was read"));
+                    return Err(refused(rt.alloc(), path, "changed after it was read"));
                 }
             }
         }
@@ -132,7 +133,7 @@ fn seen_at<R: Files + AllocGlobal>(rt: &R, path: &str) -> Result<Seen, ReplaceFa
         Err(error) => return Err(fault_of(rt.alloc(), path, error.kind())),
     };
     if !metadata.is_file() {
-        let reason = told_line(rt.alloc(), path, "not a regular file")?;
+        let reason = refused_line(rt.alloc(), path, "not a regular file")?;
         return Err(ReplaceFault::NotRegular { reason });
     }
     let opened = OpenOptions::new().write(true).open(rt, path);
@@ -155,9 +156,9 @@ fn seen_at<R: Files + AllocGlobal>(rt: &R, path: &str) -> Result<Seen, ReplaceFa
 fn refuse_if_there<R: Files + AllocGlobal>(rt: &R, path: &str) -> Result<(), ReplaceFault> {
     match fs::symlink_metadata(rt, path) {
         Ok(metadata) if metadata.is_symlink() => {
-            Err(told(rt.alloc(), path, "a link that leads to no file"))
+            Err(refused(rt.alloc(), path, "a link that leads to no file"))
         }
-        Ok(_) => Err(told(rt.alloc(), path, "changed after it was read")),
+        Ok(_) => Err(refused(rt.alloc(), path, "changed after it was read")),
         Err(error) if error.kind() == ErrorKind::NotFound => Ok(()),
         Err(error) => Err(fault_of(rt.alloc(), path, error.kind())),
     }
@@ -182,7 +183,7 @@ fn create_beside<R: Files + AllocGlobal>(
         }
     }
     let last = name_beside(alloc, path, MAX_TRIES - 1)?;
-    Err(told(
+    Err(refused(
         alloc,
         last.as_str(),
         "already there, as 99 files with lower numbers are",
@@ -217,15 +218,15 @@ fn fault_of(alloc: Global, name: &str, kind: ErrorKind) -> ReplaceFault {
 }
 
 // Returns that a file may not be replaced, with the reason.
-fn told(alloc: Global, name: &str, why: &str) -> ReplaceFault {
-    match told_line(alloc, name, why) {
+fn refused(alloc: Global, name: &str, why: &str) -> ReplaceFault {
+    match refused_line(alloc, name, why) {
         Ok(reason) => ReplaceFault::System { reason },
         Err(_) => ReplaceFault::NoMemory,
     }
 }
 
 // Returns a line that names a file and says what is wrong with it.
-fn told_line(alloc: Global, name: &str, why: &str) -> Result<String, AllocError> {
+fn refused_line(alloc: Global, name: &str, why: &str) -> Result<String, AllocError> {
     let shown = shown_name(alloc, name)?;
     format!(in alloc; "{shown}: {why}\n")
 }

@@ -21,9 +21,9 @@ pub(crate) struct CommandRow {
     pub(crate) group: Option<GroupRow>,
 }
 
-// The commands stand in three tables, and each table is named by one function alone: the proof of a function that names a table has
-// all of it, and takes a time that grows with the square of its rows. One after the other the tables have the commands in the order in
-// which the help shows them.
+// The commands stand in three tables, and each table is named by one function alone: the proof of a function that names a table
+// has all of it, and takes a time that grows with the square of its rows. One after the other the tables have the commands in the
+// order in which the help shows them.
 
 // The commands that show one run of a job.
 const RUNS: &[CommandRow] = &[

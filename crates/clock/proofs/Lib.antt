@@ -1,4 +1,4 @@
 pub mod TickLemmas
 pub mod ClockLemmas
-pub mod PlaceLemmas
+pub mod IndexLemmas
 pub mod SleepSlotLemmas

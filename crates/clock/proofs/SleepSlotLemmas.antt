@@ -8,10 +8,10 @@ use Rattle.std.specs.List.{slice_get}
 use Rattle.std.specs.declared.vec.Vec.{Vec}
 use Rattle.clock.specs.Sleeping.{scope_at}
 use Rattle.cancel_scopes.specs.Kept.{IsPlaced}
-use Rattle.clock.specs.KeptSleepers.{Puts, IsSame, IsEmpty, scope_of, sleep_slot_at, place_under, tasks_of, tasks_at, AllPlaced, SameSleepSlots, SameTasks}
+use Rattle.clock.specs.KeptSleepers.{Puts, IsSame, IsEmpty, scope_of, sleep_slot_at, index_under, tasks_of, tasks_at, AllPlaced, SameSleepSlots, SameTasks}
 use Rattle.clock.specs.declared.sleep_slots.SleepSlot.{SleepSlot}
-use Rattle.cancel_scopes.proofs.PlaceLemmas.{Removed, placed-push, placed-removed, removed, some_same}
-use Rattle.clock.proofs.PlaceLemmas.{placed-same, moved_is}
+use Rattle.cancel_scopes.proofs.IndexLemmas.{Removed, placed-push, placed-removed, removed, some_same}
+use Rattle.clock.proofs.IndexLemmas.{placed-same, moved_is}
 
 -- what contracts see of a table
 pub scope_seen : (sleep_slots : List (Option SleepSlot)) (task : ℕ) → scope_at (map scope_of sleep_slots) task ≡ scope_of (sleep_slot_at sleep_slots task)
@@ -23,32 +23,32 @@ scope_seen (b ∷ sleep_slots) (suc task) = scope_seen sleep_slots task
 pub same_seen : (old new : List (Option SleepSlot)) → SameSleepSlots old new → IsSame (map scope_of old) (map scope_of new)
 same_seen old new same task = scope_seen new task ∙ ap scope_of (same task) ∙ sym (scope_seen old task)
 
--- places under a scope
-under_own : (sleep_slot : SleepSlot) → place_under sleep_slot.scope (Some sleep_slot) ≡ Some sleep_slot.place
+-- indices under a scope
+under_own : (sleep_slot : SleepSlot) → index_under sleep_slot.scope (Some sleep_slot) ≡ Some sleep_slot.index
 under_own sleep_slot = rw (eq-eqb sleep_slot.scope sleep_slot.scope refl) refl
 
-under_other : (scope : ℕ) (o : Option SleepSlot) (other : ℕ) → scope_of o ≡ Some other → scope ≢ other → place_under scope o ≡ None
+under_other : (scope : ℕ) (o : Option SleepSlot) (other : ℕ) → scope_of o ≡ Some other → scope ≢ other → index_under scope o ≡ None
 under_other scope None other e apart = refl
 under_other scope (Some sleep_slot) other e apart =
     rw (ne_eqb sleep_slot.scope scope (λ same. apart (let own : sleep_slot.scope ≡ other = some_same sleep_slot.scope other e in sym same ∙ own))) refl
 
-under_none : (scope : ℕ) (o : Option SleepSlot) → scope_of o ≡ None → place_under scope o ≡ None
+under_none : (scope : ℕ) (o : Option SleepSlot) → scope_of o ≡ None → index_under scope o ≡ None
 under_none scope None e = refl
 under_none scope (Some sleep_slot) e = absurd (cc)
 
--- a task that has a place under a scope sleeps there
-pub under_is : (scope : ℕ) (o : Option SleepSlot) (place : ℕ) → place_under scope o ≡ Some place → scope_of o ≡ Some scope
-under_is scope None place e = absurd (cc)
-under_is scope (Some sleep_slot) place e =
+-- a task that has an index under a scope sleeps there
+pub under_is : (scope : ℕ) (o : Option SleepSlot) (index : ℕ) → index_under scope o ≡ Some index → scope_of o ≡ Some scope
+under_is scope None index e = absurd (cc)
+under_is scope (Some sleep_slot) index e =
     elim (cases_eq sleep_slot.scope scope) [
       | inl same ↦ ap Some same
-      | inr apart ↦ absurd (let none : place_under scope (Some sleep_slot) ≡ None = rw (ne_eqb sleep_slot.scope scope apart) refl in cc)
+      | inr apart ↦ absurd (let none : index_under scope (Some sleep_slot) ≡ None = rw (ne_eqb sleep_slot.scope scope apart) refl in cc)
     ]
 
--- a task that sleeps in a scope has a place under it
-pub under_has : (scope : ℕ) (o : Option SleepSlot) → scope_of o ≡ Some scope → (place : ℕ) × (place_under scope o ≡ Some place)
+-- a task that sleeps in a scope has an index under it
+pub under_has : (scope : ℕ) (o : Option SleepSlot) → scope_of o ≡ Some scope → (index : ℕ) × (index_under scope o ≡ Some index)
 under_has scope None e = absurd (cc)
-under_has scope (Some sleep_slot) e = (sleep_slot.place, rw (eq-eqb sleep_slot.scope scope (some_same sleep_slot.scope scope e)) refl)
+under_has scope (Some sleep_slot) e = (sleep_slot.index, rw (eq-eqb sleep_slot.scope scope (some_same sleep_slot.scope scope e)) refl)
 
 -- a slot that is written
 written : (sleep_slots : List (Option SleepSlot)) (task : ℕ) (o : Option SleepSlot) → task < length sleep_slots → sleep_slot_at (slice_set sleep_slots task o) task ≡ o
@@ -90,10 +90,10 @@ module _ {Z : Type 0} where
   tasks_read (l ∷ lists) (suc scope) v within e = tasks_read lists scope v (omega arith) e
 
   -- a scope with a task in its list is in the table
-  pub has_list : (lists : List (Vec ℕ Z)) (scope place : ℕ) → place < length (tasks_at lists scope) → scope < length lists
-  has_list [] scope place inside = absurd (omega arith)
-  has_list (l ∷ lists) zero place inside = omega arith
-  has_list (l ∷ lists) (suc scope) place inside = omega (arith, has_list lists scope place inside)
+  pub has_list : (lists : List (Vec ℕ Z)) (scope index : ℕ) → index < length (tasks_at lists scope) → scope < length lists
+  has_list [] scope index inside = absurd (omega arith)
+  has_list (l ∷ lists) zero index inside = omega arith
+  has_list (l ∷ lists) (suc scope) index inside = omega (arith, has_list lists scope index inside)
 
   -- a list that was written back unchanged
   pub tasks_again : (lists : List (Vec ℕ Z)) (scope : ℕ) (v w : Vec ℕ Z) → scope < length lists → v ≡ get_or lists scope v →
@@ -112,58 +112,58 @@ module _ {Z : Type 0} where
   pub placed_grown : (sleep_slots more : List (Option SleepSlot)) (lists later : List (Vec ℕ Z)) → AllPlaced sleep_slots lists → SameSleepSlots sleep_slots more →
       SameTasks lists later → AllPlaced more later
   placed_grown sleep_slots more lists later h sleep_slots_same tasks_same = record {
-    placed = λ scope. placed-same (λ task. place_under scope (sleep_slot_at sleep_slots task)) (λ task. place_under scope (sleep_slot_at more task))
-        (tasks_at lists scope) (tasks_at later scope) (h.placed scope) (λ task. ap (place_under scope) (sleep_slots_same task))
+    placed = λ scope. placed-same (λ task. index_under scope (sleep_slot_at sleep_slots task)) (λ task. index_under scope (sleep_slot_at more task))
+        (tasks_at lists scope) (tasks_at later scope) (h.placed scope) (λ task. ap (index_under scope) (sleep_slots_same task))
         (tasks_same scope);
   }
 
   -- a task that is appended to the list of its scope
   pub placed_added : (sleep_slots : List (Option SleepSlot)) (lists : List (Vec ℕ Z)) (task : ℕ) (sleep_slot : SleepSlot) (v w : Vec ℕ Z) →
       AllPlaced sleep_slots lists → scope_of (sleep_slot_at sleep_slots task) ≡ None → task < length sleep_slots → sleep_slot.scope < length lists →
-      v ≡ get_or lists sleep_slot.scope v → w.items ≡ v.items ++ task ∷ [] → sleep_slot.place ≡ length v.items →
+      v ≡ get_or lists sleep_slot.scope v → w.items ≡ v.items ++ task ∷ [] → sleep_slot.index ≡ length v.items →
       AllPlaced (slice_set sleep_slots task (Some sleep_slot)) (slice_set lists sleep_slot.scope w)
   placed_added sleep_slots lists task sleep_slot v w h awake within kept read pushed last = record {
     placed = λ scope. elim (cases_eq scope sleep_slot.scope) [
       | inl here ↦ rw here own
       | inr differs ↦
-          placed-same (places scope) (later scope) (tasks_at lists scope) (tasks_at (slice_set lists sleep_slot.scope w) scope) (h.placed scope)
+          placed-same (indices scope) (later scope) (tasks_at lists scope) (tasks_at (slice_set lists sleep_slot.scope w) scope) (h.placed scope)
           (λ k. elsewhere scope differs k)
           (ap tasks_of (get-unwritten lists sleep_slot.scope scope w differs))
     ];
   }
     where
-      places : ℕ → ℕ → Option ℕ
-      places scope k = place_under scope (sleep_slot_at sleep_slots k)
+      indices : ℕ → ℕ → Option ℕ
+      indices scope k = index_under scope (sleep_slot_at sleep_slots k)
 
       later : ℕ → ℕ → Option ℕ
-      later scope k = place_under scope (sleep_slot_at (slice_set sleep_slots task (Some sleep_slot)) k)
+      later scope k = index_under scope (sleep_slot_at (slice_set sleep_slots task (Some sleep_slot)) k)
 
-      elsewhere : (scope : ℕ) → scope ≢ sleep_slot.scope → (k : ℕ) → place_under scope (sleep_slot_at (slice_set sleep_slots task (Some sleep_slot)) k)
-          ≡ place_under scope (sleep_slot_at sleep_slots k)
+      elsewhere : (scope : ℕ) → scope ≢ sleep_slot.scope → (k : ℕ) → index_under scope (sleep_slot_at (slice_set sleep_slots task (Some sleep_slot)) k)
+          ≡ index_under scope (sleep_slot_at sleep_slots k)
       elsewhere scope differs k =
           elim (cases_eq k task) [
             | inl same ↦
                 rw same
-                (ap (place_under scope) (written sleep_slots task (Some sleep_slot) within)
+                (ap (index_under scope) (written sleep_slots task (Some sleep_slot) within)
                 ∙ under_other scope (Some sleep_slot) sleep_slot.scope refl differs
                 ∙ sym (under_none scope (sleep_slot_at sleep_slots task) awake))
-            | inr apart ↦ ap (place_under scope) (unwritten sleep_slots task k (Some sleep_slot) apart)
+            | inr apart ↦ ap (index_under scope) (unwritten sleep_slots task k (Some sleep_slot) apart)
           ]
 
-      own : IsPlaced (λ k. place_under sleep_slot.scope (sleep_slot_at (slice_set sleep_slots task (Some sleep_slot)) k))
+      own : IsPlaced (λ k. index_under sleep_slot.scope (sleep_slot_at (slice_set sleep_slots task (Some sleep_slot)) k))
           (tasks_at (slice_set lists sleep_slot.scope w) sleep_slot.scope)
       own =
           let tasks : tasks_at lists sleep_slot.scope ≡ v.items = tasks_read lists sleep_slot.scope v kept read in
           let now : tasks_at lists sleep_slot.scope ++ task ∷ [] ≡ tasks_at (slice_set lists sleep_slot.scope w) sleep_slot.scope =
           ap (λ (l : List ℕ). l ++ task ∷ []) tasks ∙ sym pushed ∙ sym (ap tasks_of (get-written lists sleep_slot.scope w kept)) in
-          subst (λ (l : List ℕ). IsPlaced (λ k. place_under sleep_slot.scope (sleep_slot_at (slice_set sleep_slots task (Some sleep_slot)) k)) l) now
-          (placed-push (λ k. place_under sleep_slot.scope (sleep_slot_at sleep_slots k))
-          (λ k. place_under sleep_slot.scope (sleep_slot_at (slice_set sleep_slots task (Some sleep_slot)) k)) (tasks_at lists sleep_slot.scope) task
+          subst (λ (l : List ℕ). IsPlaced (λ k. index_under sleep_slot.scope (sleep_slot_at (slice_set sleep_slots task (Some sleep_slot)) k)) l) now
+          (placed-push (λ k. index_under sleep_slot.scope (sleep_slot_at sleep_slots k))
+          (λ k. index_under sleep_slot.scope (sleep_slot_at (slice_set sleep_slots task (Some sleep_slot)) k)) (tasks_at lists sleep_slot.scope) task
           (h.placed sleep_slot.scope)
           (under_none sleep_slot.scope (sleep_slot_at sleep_slots task) awake)
-          (ap (place_under sleep_slot.scope) (written sleep_slots task (Some sleep_slot) within) ∙ under_own sleep_slot
+          (ap (index_under sleep_slot.scope) (written sleep_slots task (Some sleep_slot) within) ∙ under_own sleep_slot
           ∙ ap Some (last ∙ sym (ap length tasks)))
-          (λ other apart. ap (place_under sleep_slot.scope) (unwritten sleep_slots task other (Some sleep_slot) apart)))
+          (λ other apart. ap (index_under sleep_slot.scope) (unwritten sleep_slots task other (Some sleep_slot) apart)))
 
 -- where tasks sleep after a change
 pub puts_added : (sleep_slots more : List (Option SleepSlot)) (task : ℕ) (sleep_slot : SleepSlot) → SameSleepSlots sleep_slots more → task < length more →
@@ -182,66 +182,66 @@ pub record Leaves {Z : Type 0} (sleep_slots : List (Option SleepSlot)) (lists : 
     pub kept : AllPlaced sleep_slots lists
     pub slept : sleep_slot_at sleep_slots task ≡ Some sleep_slot
     pub read : v ≡ get_or lists sleep_slot.scope v
-    pub taken : Removed v.items w.items sleep_slot.place
+    pub taken : Removed v.items w.items sleep_slot.index
 
 -- its slot has no task any more, or the last task of its scope
 pub record Clears {Z : Type 0} (sleep_slots later : List (Option SleepSlot)) (task : ℕ) (sleep_slot : SleepSlot) (w : Vec ℕ Z) : Type 0 where
-  pub gone : sleep_slot_at later task ≡ None
-  pub moved : sleep_slot.place < length w.items → sleep_slot_at later (get_or w.items sleep_slot.place 0) ≡ Some sleep_slot
-  pub others : (k : ℕ) → k ≢ task → (sleep_slot.place < length w.items → k ≢ get_or w.items sleep_slot.place 0) → sleep_slot_at later k ≡ sleep_slot_at sleep_slots k
+  pub freed : sleep_slot_at later task ≡ None
+  pub moved : sleep_slot.index < length w.items → sleep_slot_at later (get_or w.items sleep_slot.index 0) ≡ Some sleep_slot
+  pub others : (k : ℕ) → k ≢ task → (sleep_slot.index < length w.items → k ≢ get_or w.items sleep_slot.index 0) → sleep_slot_at later k ≡ sleep_slot_at sleep_slots k
 
 module _ {Z : Type 0} (sleep_slots : List (Option SleepSlot)) (lists : List (Vec ℕ Z)) (task : ℕ) (sleep_slot : SleepSlot) where
-  own_place : sleep_slot_at sleep_slots task ≡ Some sleep_slot → place_under sleep_slot.scope (sleep_slot_at sleep_slots task) ≡ Some sleep_slot.place
-  own_place slept = ap (place_under sleep_slot.scope) slept ∙ under_own sleep_slot
+  own_index : sleep_slot_at sleep_slots task ≡ Some sleep_slot → index_under sleep_slot.scope (sleep_slot_at sleep_slots task) ≡ Some sleep_slot.index
+  own_index slept = ap (index_under sleep_slot.scope) slept ∙ under_own sleep_slot
 
   -- so it is in the table of slots
   pub task_within : sleep_slot_at sleep_slots task ≡ Some sleep_slot → task < length sleep_slots
   task_within slept = is_within sleep_slots task sleep_slot.scope (ap scope_of slept)
 
-  -- its place is one in the list of the scope that it sleeps in
-  pub place_within : AllPlaced sleep_slots lists → sleep_slot_at sleep_slots task ≡ Some sleep_slot → sleep_slot.place < length (tasks_at lists sleep_slot.scope)
-  place_within kept slept = ((kept.placed sleep_slot.scope).stands task sleep_slot.place (own_place slept)).0
+  -- its index is one in the list of the scope that it sleeps in
+  pub index_within : AllPlaced sleep_slots lists → sleep_slot_at sleep_slots task ≡ Some sleep_slot → sleep_slot.index < length (tasks_at lists sleep_slot.scope)
+  index_within kept slept = ((kept.placed sleep_slot.scope).stands task sleep_slot.index (own_index slept)).0
 
   -- its scope has a list in the table
   pub scope_within : AllPlaced sleep_slots lists → sleep_slot_at sleep_slots task ≡ Some sleep_slot → sleep_slot.scope < length lists
-  scope_within kept slept = has_list lists sleep_slot.scope sleep_slot.place (place_within kept slept)
+  scope_within kept slept = has_list lists sleep_slot.scope sleep_slot.index (index_within kept slept)
 
 module _ {Z : Type 0} (sleep_slots : List (Option SleepSlot)) (lists : List (Vec ℕ Z)) (task : ℕ) (sleep_slot : SleepSlot) (v w : Vec ℕ Z) where
-  placed_in : Leaves sleep_slots lists task sleep_slot v w → IsPlaced (λ k. place_under sleep_slot.scope (sleep_slot_at sleep_slots k)) v.items
+  placed_in : Leaves sleep_slots lists task sleep_slot v w → IsPlaced (λ k. index_under sleep_slot.scope (sleep_slot_at sleep_slots k)) v.items
   placed_in h =
-      subst (λ (l : List ℕ). IsPlaced (λ k. place_under sleep_slot.scope (sleep_slot_at sleep_slots k)) l)
+      subst (λ (l : List ℕ). IsPlaced (λ k. index_under sleep_slot.scope (sleep_slot_at sleep_slots k)) l)
       (tasks_read lists sleep_slot.scope v (scope_within sleep_slots lists task sleep_slot h.kept h.slept) h.read) (h.kept.placed sleep_slot.scope)
 
   -- the last task of the list sleeps in the same scope, and is another task
-  last_is : Leaves sleep_slots lists task sleep_slot v w → (moved : ℕ) → sleep_slot.place < length w.items → moved ≡ get_or w.items sleep_slot.place 0 →
+  last_is : Leaves sleep_slots lists task sleep_slot v w → (moved : ℕ) → sleep_slot.index < length w.items → moved ≡ get_or w.items sleep_slot.index 0 →
       (scope_of (sleep_slot_at sleep_slots moved) ≡ Some sleep_slot.scope) × (moved ≢ task)
   last_is h moved inside is =
-      let m = moved_is (λ k. place_under sleep_slot.scope (sleep_slot_at sleep_slots k)) v.items w.items task sleep_slot.place moved (placed_in h)
-      (own_place sleep_slots lists task sleep_slot h.slept) h.taken inside is in
+      let m = moved_is (λ k. index_under sleep_slot.scope (sleep_slot_at sleep_slots k)) v.items w.items task sleep_slot.index moved (placed_in h)
+      (own_index sleep_slots lists task sleep_slot h.slept) h.taken inside is in
       (under_is sleep_slot.scope (sleep_slot_at sleep_slots moved) (length v.items - 1) m.0, m.1)
 
-  -- the task that gets its place is in the table of slots
-  pub moved_within : Leaves sleep_slots lists task sleep_slot v w → (moved : ℕ) → sleep_slot.place < length w.items →
-      moved ≡ get_or w.items sleep_slot.place 0 → moved < length sleep_slots
+  -- the task that gets its index is in the table of slots
+  pub moved_within : Leaves sleep_slots lists task sleep_slot v w → (moved : ℕ) → sleep_slot.index < length w.items →
+      moved ≡ get_or w.items sleep_slot.index 0 → moved < length sleep_slots
   moved_within h moved inside is = is_within sleep_slots moved sleep_slot.scope (last_is h moved inside is).0
 
   -- where the task was the last of its list, its slot is removed and no other task moves
-  pub clears_last : Leaves sleep_slots lists task sleep_slot v w → length w.items ≤ sleep_slot.place →
+  pub clears_last : Leaves sleep_slots lists task sleep_slot v w → length w.items ≤ sleep_slot.index →
       Clears sleep_slots (slice_set sleep_slots task None) task sleep_slot w
   clears_last h out = record {
-    gone = written sleep_slots task None (task_within sleep_slots lists task sleep_slot h.slept);
+    freed = written sleep_slots task None (task_within sleep_slots lists task sleep_slot h.slept);
     moved = λ inside. absurd (omega (arith, inside, out));
     others = λ k differs apart. unwritten sleep_slots task k None differs;
   }
 
   -- where it was not, the last task of the list gets its slot
-  pub clears_moved : Leaves sleep_slots lists task sleep_slot v w → (moved : ℕ) → sleep_slot.place < length w.items →
-      moved ≡ get_or w.items sleep_slot.place 0 → Clears sleep_slots (slice_set (slice_set sleep_slots task None) moved (Some sleep_slot)) task sleep_slot w
+  pub clears_moved : Leaves sleep_slots lists task sleep_slot v w → (moved : ℕ) → sleep_slot.index < length w.items →
+      moved ≡ get_or w.items sleep_slot.index 0 → Clears sleep_slots (slice_set (slice_set sleep_slots task None) moved (Some sleep_slot)) task sleep_slot w
   clears_moved h moved inside is =
       let one : List (Option SleepSlot) = slice_set sleep_slots task None in
       let within : moved < length one = omega (arith, moved_within h moved inside is, length-set sleep_slots task None) in
       record {
-        gone =
+        freed =
             unwritten one moved task (Some sleep_slot) (λ same. (last_is h moved inside is).1 (sym same))
             ∙ written sleep_slots task None (task_within sleep_slots lists task sleep_slot h.slept);
         moved = λ _. ap (λ (k : ℕ). sleep_slot_at (slice_set one moved (Some sleep_slot)) k) (sym is) ∙ written one moved (Some sleep_slot) within;
@@ -250,49 +250,49 @@ module _ {Z : Type 0} (sleep_slots : List (Option SleepSlot)) (lists : List (Vec
             ∙ unwritten sleep_slots task k None differs;
       }
 
-  -- after that the list of each scope again has the tasks with places in it
+  -- after that the list of each scope again has the tasks with indices in it
   pub placed_left : (later : List (Option SleepSlot)) → Leaves sleep_slots lists task sleep_slot v w → Clears sleep_slots later task sleep_slot w →
       AllPlaced later (slice_set lists sleep_slot.scope w)
   placed_left later h c = record {
     placed = λ scope. elim (cases_eq scope sleep_slot.scope) [
       | inl here ↦ rw here own
       | inr differs ↦
-          placed-same (λ k. place_under scope (sleep_slot_at sleep_slots k)) (λ k. place_under scope (sleep_slot_at later k)) (tasks_at lists scope)
+          placed-same (λ k. index_under scope (sleep_slot_at sleep_slots k)) (λ k. index_under scope (sleep_slot_at later k)) (tasks_at lists scope)
           (tasks_at (slice_set lists sleep_slot.scope w) scope) (h.kept.placed scope)
           (λ k. elsewhere scope differs k)
           (ap tasks_of (get-unwritten lists sleep_slot.scope scope w differs))
     ];
   }
     where
-      own : IsPlaced (λ k. place_under sleep_slot.scope (sleep_slot_at later k)) (tasks_at (slice_set lists sleep_slot.scope w) sleep_slot.scope)
+      own : IsPlaced (λ k. index_under sleep_slot.scope (sleep_slot_at later k)) (tasks_at (slice_set lists sleep_slot.scope w) sleep_slot.scope)
       own =
-          subst (λ (l : List ℕ). IsPlaced (λ k. place_under sleep_slot.scope (sleep_slot_at later k)) l)
+          subst (λ (l : List ℕ). IsPlaced (λ k. index_under sleep_slot.scope (sleep_slot_at later k)) l)
           (sym (ap tasks_of (get-written lists sleep_slot.scope w (scope_within sleep_slots lists task sleep_slot h.kept h.slept))))
-          (placed-removed (λ k. place_under sleep_slot.scope (sleep_slot_at sleep_slots k)) (λ k. place_under sleep_slot.scope (sleep_slot_at later k)) v.items
-          w.items task sleep_slot.place (placed_in h) (own_place sleep_slots lists task sleep_slot h.slept) h.taken.long h.taken.seam
-          h.taken.keeps (ap (place_under sleep_slot.scope) c.gone)
-          (λ inside. ap (place_under sleep_slot.scope) (c.moved inside) ∙ under_own sleep_slot)
-          (λ other differs apart. ap (place_under sleep_slot.scope) (c.others other differs apart)))
+          (placed-removed (λ k. index_under sleep_slot.scope (sleep_slot_at sleep_slots k)) (λ k. index_under sleep_slot.scope (sleep_slot_at later k)) v.items
+          w.items task sleep_slot.index (placed_in h) (own_index sleep_slots lists task sleep_slot h.slept) h.taken.long h.taken.seam
+          h.taken.keeps (ap (index_under sleep_slot.scope) c.freed)
+          (λ inside. ap (index_under sleep_slot.scope) (c.moved inside) ∙ under_own sleep_slot)
+          (λ other differs apart. ap (index_under sleep_slot.scope) (c.others other differs apart)))
 
       -- under another scope nothing changes
-      elsewhere : (scope : ℕ) → scope ≢ sleep_slot.scope → (k : ℕ) → place_under scope (sleep_slot_at later k) ≡ place_under scope (sleep_slot_at sleep_slots k)
+      elsewhere : (scope : ℕ) → scope ≢ sleep_slot.scope → (k : ℕ) → index_under scope (sleep_slot_at later k) ≡ index_under scope (sleep_slot_at sleep_slots k)
       elsewhere scope differs k =
           elim (cases_eq k task) [
             | inl same ↦
                 rw same
-                (ap (place_under scope) c.gone
+                (ap (index_under scope) c.freed
                 ∙ sym (under_other scope (sleep_slot_at sleep_slots task) sleep_slot.scope (ap scope_of h.slept) differs))
             | inr apart ↦
-                elim (cases_lt sleep_slot.place (length w.items)) [
+                elim (cases_lt sleep_slot.index (length w.items)) [
                   | inl inside ↦
-                      elim (cases_eq k (get_or w.items sleep_slot.place 0)) [
+                      elim (cases_eq k (get_or w.items sleep_slot.index 0)) [
                         | inl is ↦
                             under_other scope (sleep_slot_at later k) sleep_slot.scope (ap (λ (n : ℕ). scope_of (sleep_slot_at later n)) is
                             ∙ ap scope_of (c.moved inside)) differs
                             ∙ sym (under_other scope (sleep_slot_at sleep_slots k) sleep_slot.scope (last_is h k inside is).0 differs)
-                        | inr other ↦ ap (place_under scope) (c.others k apart (λ _. other))
+                        | inr other ↦ ap (index_under scope) (c.others k apart (λ _. other))
                       ]
-                  | inr out ↦ ap (place_under scope) (c.others k apart (λ inside. absurd (omega (arith, inside, out))))
+                  | inr out ↦ ap (index_under scope) (c.others k apart (λ inside. absurd (omega (arith, inside, out))))
                 ]
           ]
 
@@ -300,15 +300,15 @@ module _ {Z : Type 0} (sleep_slots : List (Option SleepSlot)) (lists : List (Vec
   pub puts_left : (later : List (Option SleepSlot)) → Leaves sleep_slots lists task sleep_slot v w → Clears sleep_slots later task sleep_slot w →
       Puts (map scope_of sleep_slots) (map scope_of later) task None
   puts_left later h c = record {
-    changed = scope_seen later task ∙ ap scope_of c.gone;
+    changed = scope_seen later task ∙ ap scope_of c.freed;
     others = λ other differs. scope_seen later other ∙ stays other differs ∙ sym (scope_seen sleep_slots other);
   }
     where
       stays : (k : ℕ) → k ≢ task → scope_of (sleep_slot_at later k) ≡ scope_of (sleep_slot_at sleep_slots k)
       stays k apart =
-          elim (cases_lt sleep_slot.place (length w.items)) [
+          elim (cases_lt sleep_slot.index (length w.items)) [
             | inl inside ↦
-                elim (cases_eq k (get_or w.items sleep_slot.place 0)) [
+                elim (cases_eq k (get_or w.items sleep_slot.index 0)) [
                   | inl is ↦ ap (λ (n : ℕ). scope_of (sleep_slot_at later n)) is ∙ ap scope_of (c.moved inside) ∙ sym (last_is h k inside is).0
                   | inr other ↦ ap scope_of (c.others k apart (λ _. other))
                 ]
@@ -316,12 +316,12 @@ module _ {Z : Type 0} (sleep_slots : List (Option SleepSlot)) (lists : List (Vec
           ]
 
 -- the last task in the list of a scope sleeps there
-pub is_sleeper : {Z : Type 0} (sleep_slots : List (Option SleepSlot)) (lists : List (Vec ℕ Z)) (scope place task : ℕ) → AllPlaced sleep_slots lists →
-    place < length (tasks_at lists scope) → get_or (tasks_at lists scope) place 0 ≡ task → scope_at (map scope_of sleep_slots) task ≡ Some scope
-is_sleeper sleep_slots lists scope place task h inside is =
+pub is_sleeper : {Z : Type 0} (sleep_slots : List (Option SleepSlot)) (lists : List (Vec ℕ Z)) (scope index task : ℕ) → AllPlaced sleep_slots lists →
+    index < length (tasks_at lists scope) → get_or (tasks_at lists scope) index 0 ≡ task → scope_at (map scope_of sleep_slots) task ≡ Some scope
+is_sleeper sleep_slots lists scope index task h inside is =
     scope_seen sleep_slots task
     ∙ ap (λ (k : ℕ). scope_of (sleep_slot_at sleep_slots k)) (sym is)
-    ∙ under_is scope (sleep_slot_at sleep_slots (get_or (tasks_at lists scope) place 0)) place ((h.placed scope).placed place inside)
+    ∙ under_is scope (sleep_slot_at sleep_slots (get_or (tasks_at lists scope) index 0)) index ((h.placed scope).placed index inside)
 
 -- an empty list: no task sleeps in the scope
 pub none_sleeps : {Z : Type 0} (sleep_slots : List (Option SleepSlot)) (lists : List (Vec ℕ Z)) (scope : ℕ) → AllPlaced sleep_slots lists →
@@ -339,13 +339,13 @@ slept_at sleep_slots task found sleep_slot within read is = sym (get_or_read sle
 -- what `swap_remove` leaves
 pub leaves : {Z : Type 0} (sleep_slots : List (Option SleepSlot)) (lists : List (Vec ℕ Z)) (task : ℕ) (sleep_slot : SleepSlot) (v w : Vec ℕ Z) →
     AllPlaced sleep_slots lists → sleep_slot_at sleep_slots task ≡ Some sleep_slot → v ≡ get_or lists sleep_slot.scope v → w.len + 1 ≡ v.len →
-    (((d : ℕ) → sleep_slot.place + 1 < v.len → get_or w.items sleep_slot.place d ≡ get_or v.items (v.len - 1) d)
-    × ((k d : ℕ) → k ≢ sleep_slot.place → k + 1 < v.len → get_or w.items k d ≡ get_or v.items k d)) → Leaves sleep_slots lists task sleep_slot v w
+    (((d : ℕ) → sleep_slot.index + 1 < v.len → get_or w.items sleep_slot.index d ≡ get_or v.items (v.len - 1) d)
+    × ((k d : ℕ) → k ≢ sleep_slot.index → k + 1 < v.len → get_or w.items k d ≡ get_or v.items k d)) → Leaves sleep_slots lists task sleep_slot v w
 leaves sleep_slots lists task sleep_slot v w kept slept read less by_index = record {
   kept = kept;
   slept = slept;
   read = read;
-  taken = removed v.items w.items sleep_slot.place v.len w.len v.ok.0 w.ok.0 less by_index.0 by_index.1;
+  taken = removed v.items w.items sleep_slot.index v.len w.len v.ok.0 w.ok.0 less by_index.0 by_index.1;
 }
 
 -- the last task of a list, if it has one

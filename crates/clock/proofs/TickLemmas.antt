@@ -90,7 +90,7 @@ is_tick-is : (o : Option ℕ) (tick : ℕ) → is_tick o tick ≡ true → o ≡
 is_tick-is None tick e = absurd (cc)
 is_tick-is (Some own) tick e = ap Some (eqb-true own tick e)
 
--- the entry at a key's place is replaced
+-- the entry at a key's index is replaced
 pub set_at : (ticks : List (Option ℕ)) (key : ℕ) (now tick : Option ℕ) → key < length ticks → now ≡ tick →
     Puts ticks (slice_set ticks key now) key tick
 set_at ticks key now tick room is =

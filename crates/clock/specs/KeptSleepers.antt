@@ -36,10 +36,10 @@ scope_of (Some sleep_slot) = Some sleep_slot.scope
 abbrev pub sleep_slot_at : List (Option SleepSlot) → ℕ → Option SleepSlot
 sleep_slot_at sleep_slots task = slice_index_or sleep_slots task None
 
--- its place among the tasks that sleep in this scope, if it sleeps there
-abbrev pub place_under : ℕ → Option SleepSlot → Option ℕ
-place_under scope None = None
-place_under scope (Some sleep_slot) = if sleep_slot.scope == scope then Some sleep_slot.place else None
+-- its index among the tasks that sleep in this scope, if it sleeps there
+abbrev pub index_under : ℕ → Option SleepSlot → Option ℕ
+index_under scope None = None
+index_under scope (Some sleep_slot) = if sleep_slot.scope == scope then Some sleep_slot.index else None
 
 abbrev pub tasks_of : {Z : Type 0} → Option (Vec ℕ Z) → List ℕ
 tasks_of None = []
@@ -49,9 +49,9 @@ tasks_of (Some tasks) = tasks.items
 abbrev pub tasks_at : {Z : Type 0} → List (Vec ℕ Z) → ℕ → List ℕ
 tasks_at lists scope = tasks_of (slice_get lists scope)
 
--- the list of each scope has exactly the tasks with places in it
+-- the list of each scope has exactly the tasks with indices in it
 pub record AllPlaced {Z : Type 0} (sleep_slots : List (Option SleepSlot)) (lists : List (Vec ℕ Z)) : Type 0 where
-  pub placed : (scope : ℕ) → IsPlaced (λ task. place_under scope (sleep_slot_at sleep_slots task)) (tasks_at lists scope)
+  pub placed : (scope : ℕ) → IsPlaced (λ task. index_under scope (sleep_slot_at sleep_slots task)) (tasks_at lists scope)
 
 -- each task keeps its slot
 abbrev pub SameSleepSlots : List (Option SleepSlot) → List (Option SleepSlot) → Type 0

@@ -51,8 +51,8 @@ impl EventWaiters {
         self.slots.remove(task.key());
     }
 
-    /// Removes one of the tasks that wait for an event, and returns it, or returns `None` if there is none. Which of several tasks it
-    /// returns is not specified. Does not allocate.
+    /// Removes one of the tasks that wait for an event, and returns it, or returns `None` if there is none. Which of several
+    /// tasks it returns is not specified. Does not allocate.
     pub fn take(&mut self, event: ScopeId) -> Option<TaskId>
         ensures { MatchOption result (NoneWaits self.old self.new event) (λ task. TakesWaiter self.old self.new event task) }
     {

@@ -10,7 +10,7 @@ use std::marker::Model;
 pub struct TickQueue {
     // The tick of each key, at the key's index. A key past the end has no tick.
     ticks: Vec<Option<u64>>,
-    // The same ticks with their keys, sorted by tick, and then by key.
+    // Each tick with its key, sorted by tick, and then by key.
     order: BTreeSet<(u64, usize)>,
 }
 
@@ -69,10 +69,10 @@ impl TickQueue {
     pub fn remove(&mut self, key: usize)
         ensures { Puts self.old self.new key None }
     {
-        let Some(place) = self.ticks.get_mut(key) else {
+        let Some(slot) = self.ticks.get_mut(key) else {
             return;
         };
-        let Some(tick) = place.take() else {
+        let Some(tick) = slot.take() else {
             return;
         };
         self.order.remove(&(tick, key));
@@ -94,8 +94,8 @@ fn grow_to(ticks: &mut Vec<Option<u64>>, key: usize) -> Result<(), AllocError>
     if key < ticks.len() {
         return Ok(());
     }
-    let Some(places) = key.checked_add(1) else {
+    let Some(count) = key.checked_add(1) else {
         return Err(AllocError);
     };
-    ticks.resize(places, None)
+    ticks.resize(count, None)
 }

@@ -5,11 +5,11 @@ ghost use Rattle.clock.specs.KeptSleepers.{sleep_slot_at, tasks_at, SameSleepSlo
 use std::alloc::{AllocError, Global};
 use std::marker::Model;
 
-// The slot of a sleeping task: its scope, and its place among the tasks that sleep directly in that scope.
+// The slot of a sleeping task: its scope, and its index among the tasks that sleep directly in that scope.
 #[derive(Clone, Copy)]
 struct SleepSlot {
     scope: usize,
-    place: usize,
+    index: usize,
 }
 
 // The slots of the sleeping tasks, by the keys of tasks and of scopes.
@@ -56,9 +56,9 @@ impl SleepSlots {
         grow_to_task(&mut self.by_task, task)?;
         grow_to_scope(&mut self.by_scope, scope)?;
         let tasks = &mut self.by_scope[scope];
-        let place = tasks.len();
+        let index = tasks.len();
         tasks.push(task)?;
-        self.by_task[task] = Some(SleepSlot { scope, place });
+        self.by_task[task] = Some(SleepSlot { scope, index });
         Ok(())
     }
 
@@ -75,10 +75,10 @@ impl SleepSlots {
         };
         self.by_task[task] = None;
         let tasks = &mut self.by_scope[sleep_slot.scope];
-        tasks.swap_remove(sleep_slot.place);
-        if sleep_slot.place < tasks.len() {
-            // The last task of the scope has that place now.
-            let moved = tasks[sleep_slot.place];
+        tasks.swap_remove(sleep_slot.index);
+        if sleep_slot.index < tasks.len() {
+            // The last task of the scope has that index now.
+            let moved = tasks[sleep_slot.index];
             self.by_task[moved] = Some(sleep_slot);
         }
         Some(sleep_slot.scope)

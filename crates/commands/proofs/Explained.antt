@@ -41,7 +41,7 @@ pub story_about_none : (clock : Clock) (name : List ℕ) (table : Table) (until 
     (nearest : Vec ℕ) (given : StoryVerdict) (bytes : List ℕ) → task_named asked walked ≡ None →
     nearest.items ≡ label_or_nothing (nearest_in asked walked) → given ≡ story.NoTask nearest → bytes ≡ [] →
     IsStoryAbout clock name table until ending (Some asked) walked given bytes
-story_about_none clock name table until ending asked walked nearest given bytes none is told text = inr (nearest, (none, is), told, text)
+story_about_none clock name table until ending asked walked nearest given bytes none is no_task text = inr (nearest, (none, is), no_task, text)
 
 pub story_about_some : (clock : Clock) (name : List ℕ) (table : Table) (until : Tick) (ending : Ending) (asked : Option (List ℕ)) (text : List ℕ)
     (walked : List Event) (given : StoryVerdict) (bytes : List ℕ) → asked ≡ Some text →
@@ -58,14 +58,14 @@ verdict_is job input limit asked Done task bytes h about is = (record { task = t
 verdict_is job input limit asked Raised task bytes h about is = (record { task = task; about = about; story = is }, h)
 verdict_is job input limit asked Late task bytes h about is = (record { task = task; about = about; story = is }, h)
 
-by_told : (job : Tree) (input : List ℕ) (limit : ℕ) (asked : Option (List ℕ)) (ending : Ending) (given : StoryVerdict)
+by_about : (job : Tree) (input : List ℕ) (limit : ℕ) (asked : Option (List ℕ)) (ending : Ending) (given : StoryVerdict)
     (bytes : List ℕ) → IsEnding job input limit ending →
     IsStoryAbout (clock_of job.format) job.name (meaning_table job input) (until_if (nat_le (meaning_end job input) limit) limit) ending asked (story_events limit job input) given bytes →
     IsStoryVerdict job input limit asked given bytes
-by_told job input limit asked ending given bytes h (inl t) =
+by_about job input limit asked ending given bytes h (inl t) =
     subst (λ (v : StoryVerdict). IsStoryVerdict job input limit asked v bytes) (sym t.2)
     (verdict_is job input limit asked ending t.0 bytes h t.1 t.3)
-by_told job input limit asked ending given bytes h (inr t) =
+by_about job input limit asked ending given bytes h (inr t) =
     subst (λ (v : StoryVerdict). IsStoryVerdict job input limit asked v bytes) (sym t.2) (t.1, t.3)
 
 -- the verdict and the document for a job that was read: that of the story of its meaning
@@ -75,7 +75,7 @@ pub job_explained : (job : Tree) (input : List ℕ) (limit : ℕ) (asked : Optio
     walked ≡ story_events limit job input →
     IsStoryAbout clock job.name table until ending asked walked given bytes → IsStoryVerdict job input limit asked given bytes
 job_explained job input limit asked ending clock table until walked given bytes h counts same until_is walked_is t =
-    by_told job input limit asked ending given bytes h
+    by_about job input limit asked ending given bytes h
     (subst (λ (es : List Event). IsStoryAbout (clock_of job.format) job.name (meaning_table job input) (until_if (nat_le (meaning_end job input) limit) limit) ending asked es given bytes) walked_is
     (subst (λ (u : Tick). IsStoryAbout (clock_of job.format) job.name (meaning_table job input) u ending asked walked given bytes) until_is
     (subst (λ (k : Table). IsStoryAbout (clock_of job.format) job.name k until ending asked walked given bytes) same

@@ -74,7 +74,7 @@ IsSweep form text input limit target values bytes =
     sweeps.IsVerdict form text input limit target values Lines bytes
     ⊎ ((fault : JobFault) × sweeps.IsVerdict form text input limit target values (JobRefused fault) bytes)
 
--- the same, or `None` where the text does not have that number
+-- the outcomes for these values or the refusal of the text, or `None` where the text does not have that number
 abbrev pub IsSwept : Form → (text input : List ℕ) → (limit : ℕ) → Target → (values : List ℕ) → (bytes : Option (List ℕ)) → Type 0
 IsSwept form text input limit target values (Some bytes) = IsSweep form text input limit target values bytes
 IsSwept form text input limit target values None = (missing : Missing) × IsWithoutTarget text target missing

@@ -4,7 +4,7 @@ use Rattle.std.specs.Prelude.{◌≡◌, ℕ, Bool, if◌then◌else◌, List, [
 use Rattle.job_reader.specs.Refusals.{IsRefused}
 use Rattle.race_text.specs.Lines.{Line}
 use Rattle.race_text.specs.Table.{table_text, denied_text}
-use Rattle.trials.specs.Races.{AreRaceLines, IsLate, HasNoFiner}
+use Rattle.trials.specs.Races.{AreRaceLines, IsLate, HasNoFinerTicks}
 use Rattle.json_story.specs.Values.{document}
 use Rattle.json_tables.specs.Races.{races_json}
 use Rattle.commands.specs.Forms.{refusal_in, limit_in}
@@ -34,4 +34,4 @@ IsVerdict form text input limit deny (Lines denied) bytes = IsTable form text in
 IsVerdict form text input limit deny (JobRefused fault) bytes =
     IsRefused text fault.kind fault.at × (bytes ≡ refusal_in form text fault)
 IsVerdict form text input limit deny Limit bytes = IsLate text input limit × (bytes ≡ limit_in form limit)
-IsVerdict form text input limit deny NoFinerTicks bytes = HasNoFiner text input limit × (bytes ≡ [])
+IsVerdict form text input limit deny NoFinerTicks bytes = HasNoFinerTicks text input limit × (bytes ≡ [])

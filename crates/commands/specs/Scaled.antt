@@ -5,14 +5,14 @@ use Rattle.job_tokens.specs.declared.token.Token.{Token}
 use Rattle.job_reader.specs.Refusals.{Spells, HasTokens, IsFair, IsRefused}
 use Rattle.job_meaning.specs.Moments.{clock_of}
 use Rattle.job_edits.specs.Changes.{changed_text}
-use Rattle.job_edits.specs.Finer.{finer_changes}
+use Rattle.job_edits.specs.FinerTicks.{finer_changes}
 use Rattle.job_edits.specs.Sites.{sites_in}
-use Rattle.job_edits.specs.declared.finer.Finer.{Finer}
+use Rattle.job_edits.specs.declared.finer_ticks.FinerTicks.{FinerTicks}
 use Rattle.commands.specs.declared.scaling.ScaleFault.{ScaleFault}
 use Rattle.commands.specs.declared.scaling.ScaleFault.TheVariants.{Refused, TooLarge}
 
 -- finer ticks, so many to each of the text's, without a hair
-abbrev pub times : ℕ → Finer
+abbrev pub times : ℕ → FinerTicks
 times factor = record { factor = factor; hair = 0 }
 
 -- the text has these ticks multiplied: it is the text in so much finer ticks

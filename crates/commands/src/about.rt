@@ -1,6 +1,6 @@
 ghost use Rattle.std.specs.Prelude.{◌≡◌, [], Some, map, IfOk};
 ghost use Rattle.std.specs.Option.{option_copied};
-ghost use Rattle.job_story.specs.Froms.{table_in};
+ghost use Rattle.job_story.specs.CancelledFrom.{table_in};
 ghost use Rattle.story_index.specs.Seen.{event_in};
 ghost use Rattle.story_index.specs.Holds.{label_seen};
 ghost use Rattle.story_index.specs.Nearest.{nearest_in};

@@ -11,9 +11,9 @@ use job_runner::{Gate, Pick};
 use std::alloc::{AllocError, Global};
 use std::thread::Threads;
 
-/// Runs a job text over an input, and returns the chart of the job's one-thread meaning: a row for each task, and below it one for
-/// each scope and nursery that it entered, with a column for each tick at which something happens. If the job ends later than the
-/// limit, it is drawn up to the limit, and the verdict is `Limit`. If the job text is refused, the bytes are the refusal. The
+/// Runs a job text over an input, and returns the chart of the job's one-thread meaning: a row for each task, and below it one
+/// for each scope and nursery that it entered, with a column for each tick at which something happens. If the job ends later than
+/// the limit, it is drawn up to the limit, and the verdict is `Limit`. If the job text is refused, the bytes are the refusal. The
 /// verdict and its status are those of `serve` of `job_answers`.
 ///
 /// The number of workers, the picker and the gate change no byte. The caller must ensure that the input has at most 16,777,216

@@ -1,5 +1,5 @@
 ghost use Rattle.std.specs.Prelude.{◌≡◌, IfOk, map};
-ghost use Rattle.job_story.specs.Froms.{table_in};
+ghost use Rattle.job_story.specs.CancelledFrom.{table_in};
 ghost use Rattle.story_index.specs.Seen.{event_in};
 ghost use Rattle.chart.specs.HeldBars.{bar_of};
 ghost use Rattle.svg.specs.Content.{IsDocument};
@@ -9,7 +9,7 @@ ghost use Rattle.commands.specs.Charts.{chart_of, IsInForm};
 use crate::chart_form::ChartForm;
 use chart::{Bar, StoryIndex, chart_text};
 use job_meaning::Clock;
-use job_story::{Event, Froms};
+use job_story::{CancelledFrom, Event};
 use std::alloc::{AllocError, Global};
 use story_index::Causes;
 use story_text::in_order;
@@ -21,14 +21,14 @@ pub(crate) fn chart_of(
     clock: Clock,
     form: ChartForm,
     walked: &[&Event],
-    froms: &Froms,
+    cancelled_from: &CancelledFrom,
     until: Option<u64>,
 ) -> Result<Vec<u8>, AllocError>
-    ensures chart { IfOk result (λ bytes. bytes.items ≡ chart_of clock form (table_in froms.now) until (map event_in walked.now)) }
+    ensures chart { IfOk result (λ bytes. bytes.items ≡ chart_of clock form (table_in cancelled_from.now) until (map event_in walked.now)) }
     ensures well { IfOk result (λ bytes. IsInForm form bytes.items) }
 {
     let index = StoryIndex::of(alloc, walked)?;
-    let bars = index.bars(alloc, clock, froms, until)?;
+    let bars = index.bars(alloc, clock, cancelled_from, until)?;
     match form {
         ChartForm::Text { width } => chart_text(
             alloc,
@@ -38,7 +38,15 @@ pub(crate) fn chart_of(
             walked,
             bars.as_slice(),
         ),
-        ChartForm::Svg { width } => svg(alloc, clock, width, until, walked, froms, bars.as_slice()),
+        ChartForm::Svg { width } => svg(
+            alloc,
+            clock,
+            width,
+            until,
+            walked,
+            cancelled_from,
+            bars.as_slice(),
+        ),
     }
 }
 
@@ -49,15 +57,15 @@ fn svg<'e>(
     width: usize,
     until: Option<u64>,
     walked: &[&'e Event],
-    froms: &'e Froms,
+    cancelled_from: &'e CancelledFrom,
     bars: &[Bar<'_, 'e>],
 ) -> Result<Vec<u8>, AllocError>
     ensures chart { IfOk result (λ bytes. bytes.items
-        ≡ svg.chart_svg clock width (table_in froms.entry.now) until (map event_in walked.now) (map bar_of bars.now)) }
+        ≡ svg.chart_svg clock width (table_in cancelled_from.entry.now) until (map event_in walked.now) (map bar_of bars.now)) }
     ensures well { IfOk result (λ bytes. IsDocument bytes.items) }
 {
     let sorted = in_order(alloc, walked)?;
-    let causes = Causes::of(alloc, sorted.as_slice(), froms)?;
+    let causes = Causes::of(alloc, sorted.as_slice(), cancelled_from)?;
     chart_svg(
         alloc,
         clock,
@@ -65,7 +73,7 @@ fn svg<'e>(
         until,
         walked,
         sorted.as_slice(),
-        froms,
+        cancelled_from,
         &causes,
         bars,
     )

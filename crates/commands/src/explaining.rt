@@ -15,8 +15,8 @@ use std::thread::Threads;
 /// Runs a job text over an input, and returns the story of the job's one-thread meaning as one JSON document: an object for each
 /// event, in the order of the story. For a job that ends later than the limit it is the story up to the limit, with what each
 /// task that has not ended is doing. If a task is requested, by the text of its label, it has only what concerns that task, as
-/// that of `explain`; if no task has that label, there are no bytes. If the job text is refused, they are the refusal. The verdict
-/// and its status are those of `explain`.
+/// that of `explain`; if no task has that label, there are no bytes. If the job text is refused, they are the refusal. The
+/// verdict and its status are those of `explain`.
 ///
 /// The number of workers, the picker and the gate do not change any byte. The caller must ensure that the input has at most
 /// 16,777,216 bytes (`MAX_INPUT`). The only error is that memory runs out.

@@ -42,8 +42,8 @@ pub fn faults<R: Threads + Sync, G: Gate + Sync>(
     let (job_text, input, settings) = (question.text, question.input, question.settings);
     let (names, each) = (options.names.as_slice(), options.each);
     match fault_lines(rt, alloc, job_text, input, settings, names, each, gate) {
-        Ok(told) => {
-            let (denied, bytes) = table_and_denied(alloc, settings.limit(), options, form, &told)?;
+        Ok(found) => {
+            let (denied, bytes) = table_and_denied(alloc, settings.limit(), options, form, &found)?;
             Ok(Answer {
                 verdict: FaultsVerdict::Lines { denied },
                 bytes,
@@ -66,17 +66,17 @@ fn table_and_denied(
     limit: u64,
     options: &Options,
     form: Form,
-    told: &FaultLines,
+    found: &FaultLines,
 ) -> Result<(Vec<u8>, Vec<u8>), AllocError>
-    ensures { IfOk result (λ r. IsTableOf form limit (options_held options.now) (job_outcome_held told.now.first) (map line_held told.now.lines.items)
-        told.now.untried r.0.items r.1.items) }
+    ensures { IfOk result (λ r. IsTableOf form limit (options_held options.now) (job_outcome_held found.now.first) (map line_held found.now.lines.items)
+        found.now.untried r.0.items r.1.items) }
 {
-    let bytes = table_in(alloc, form, limit, options.brief, told)?;
+    let bytes = table_in(alloc, form, limit, options.brief, found)?;
     let denied = denied_text(
         alloc,
         limit,
-        &told.first,
-        told.lines.as_slice(),
+        &found.first,
+        found.lines.as_slice(),
         options.deny,
     )?;
     Ok((denied, bytes))
@@ -88,12 +88,12 @@ fn table_in(
     form: Form,
     limit: u64,
     brief: bool,
-    told: &FaultLines,
+    found: &FaultLines,
 ) -> Result<Vec<u8>, AllocError>
     ensures { IfOk result (λ bytes. bytes.items
-        ≡ table_in form limit brief (job_outcome_held told.now.first) (map line_held told.now.lines.items) told.now.untried) }
+        ≡ table_in form limit brief (job_outcome_held found.now.first) (map line_held found.now.lines.items) found.now.untried) }
 {
-    let (first, lines, untried) = (&told.first, told.lines.as_slice(), told.untried);
+    let (first, lines, untried) = (&found.first, found.lines.as_slice(), found.untried);
     match form {
         Form::Text => table(alloc, limit, brief, first, lines, untried),
         Form::Json => faults_json(alloc, limit, brief, first, lines, untried),

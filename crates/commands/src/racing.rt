@@ -58,8 +58,8 @@ fn verdict_and_bytes<R: Threads + Sync, G: Gate + Sync>(
 {
     let (job_text, input, settings) = (question.text, question.input, question.settings);
     match race_lines(rt, alloc, job_text, input, settings, gate) {
-        Ok(RaceAnswer::Lines(told)) => {
-            let (denied, bytes) = table_and_denied(alloc, deny, form, &told)?;
+        Ok(RaceAnswer::Lines(found)) => {
+            let (denied, bytes) = table_and_denied(alloc, deny, form, &found)?;
             Ok((RacesVerdict::Lines { denied }, bytes))
         }
         Ok(RaceAnswer::Limit) => {
@@ -80,12 +80,12 @@ fn table_and_denied(
     alloc: Global,
     deny: bool,
     form: Form,
-    told: &RaceLines,
+    found: &RaceLines,
 ) -> Result<(Vec<u8>, Vec<u8>), AllocError>
-    ensures { IfOk result (λ r. IsTableOf form deny told.now.hairs (map line_held told.now.lines.items) r.0.items r.1.items) }
+    ensures { IfOk result (λ r. IsTableOf form deny found.now.hairs (map line_held found.now.lines.items) r.0.items r.1.items) }
 {
-    let bytes = table_in(alloc, form, told.hairs, told.lines.as_slice())?;
-    let denied = denied_if(alloc, deny, told.lines.as_slice())?;
+    let bytes = table_in(alloc, form, found.hairs, found.lines.as_slice())?;
+    let denied = denied_if(alloc, deny, found.lines.as_slice())?;
     Ok((denied, bytes))
 }
 

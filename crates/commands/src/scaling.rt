@@ -3,7 +3,7 @@ ghost use Rattle.job_reader.specs.Refusals.{Spells};
 ghost use Rattle.job_reader.specs.Kinds.{no_memory};
 ghost use Rattle.commands.specs.Scaled.{IsMultiplied, IsScaled, IsScaleFault};
 
-use job_edits::{Finer, changed_text, finer_changes, sites};
+use job_edits::{FinerTicks, changed_text, finer_changes, sites};
 use job_meaning::Clock;
 use job_reader::{Job, JobFault, JobKind, read_job, spelled_tokens};
 use std::alloc::{AllocError, Global};
@@ -32,9 +32,10 @@ impl From<JobFault> for ScaleFault {
     }
 }
 
-/// Returns a job text with each number of ticks multiplied by a factor: those of `sleep`, `after` and `at`. A `pace` is repeated so often
-/// in its place. Numbers that count something else, as those of `repeat`, `over` and `head`, stay, and so does the layout. A text of
-/// format 1 becomes one of format 2, which has `repeat`. So a design whose tick is a second becomes one whose tick is a millisecond.
+/// Returns a job text with each number of ticks multiplied by a factor: those of `sleep`, `after` and `at`. A `pace` is repeated
+/// so often in its place. Numbers that count something else, as those of `repeat`, `over` and `head`, stay, and so does the
+/// layout. A text of format 1 becomes one of format 2, which has `repeat`. So a design whose tick is a second becomes one whose
+/// tick is a millisecond.
 pub fn scaled_text(alloc: Global, job_text: &[u8], factor: u64) -> Result<Vec<u8>, ScaleFault>
     ensures scaled { IfOk result (λ scaled. IsScaled job_text.now factor scaled.items) }
     ensures fault { IfErr result (IsScaleFault job_text.now factor) }
@@ -59,7 +60,12 @@ fn multiplied(alloc: Global, job_text: &[u8], job: &Job, factor: u64) -> Result<
 {
     let tokens = spelled_tokens(alloc, job_text, job)?;
     let sites = sites(alloc, tokens.as_slice())?;
-    let finer = Finer { factor, hair: 0 };
-    let changes = finer_changes(alloc, Clock::of(job.text_format()), finer, sites.as_slice())?;
+    let finer_ticks = FinerTicks { factor, hair: 0 };
+    let changes = finer_changes(
+        alloc,
+        Clock::of(job.text_format()),
+        finer_ticks,
+        sites.as_slice(),
+    )?;
     Ok(changed_text(alloc, job_text, changes.as_slice())?)
 }

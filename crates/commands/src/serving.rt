@@ -11,8 +11,8 @@ use json_story::report_json;
 use std::alloc::{AllocError, Global};
 use std::thread::Threads;
 
-/// Runs a job text over an input, and returns the report of the job's one-thread meaning as one JSON document, or the refusal that
-/// the meaning names, or the limit by which it does not end. The verdict and its status are those of `serve`.
+/// Runs a job text over an input, and returns the report of the job's one-thread meaning as one JSON document, or the refusal
+/// that the meaning names, or the limit by which it does not end. The verdict and its status are those of `serve`.
 ///
 /// The number of workers, the picker and the gate do not change any byte. The caller must ensure that the input has at most
 /// 16,777,216 bytes (`MAX_INPUT`). The only error is that memory runs out.

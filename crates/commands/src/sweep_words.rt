@@ -10,10 +10,10 @@ use job_runner::NoGate;
 use std::alloc::{AllocError, Global};
 use std::thread::Threads;
 
-/// Returns the bytes that `sweep` writes for a job text over an input: the outcome of the job for each of these values of one of its
-/// numbers, or the refusal of the text. Returns `None` if the text does not have the number that is meant. The number of workers in
-/// the settings changes no byte. The caller must ensure that the input has at most 16,777,216 bytes (`MAX_INPUT`). The only error is
-/// that memory runs out.
+/// Returns the bytes that `sweep` writes for a job text over an input: the outcome of the job for each of these values of one of
+/// its numbers, or the refusal of the text. Returns `None` if the text does not have the number that is meant. The number of
+/// workers in the settings changes no byte. The caller must ensure that the input has at most 16,777,216 bytes (`MAX_INPUT`). The
+/// only error is that memory runs out.
 pub fn sweep_of<R: Threads + Sync>(
     rt: &R,
     alloc: Global,

@@ -21,8 +21,8 @@ use trials::{SweepAnswer, sweep_values};
 /// group of neighbouring values with the same outcome apart from ticks; a JSON document has each value with its ticks. A value is
 /// put into the job text in place of the digits of the number, and its outcome is that of the changed text by the meaning of the
 /// job. A value that the text cannot have there counts as refused. If the job text is refused, the bytes are its refusal. If the
-/// text does not have the number that is meant, there are none. The caller must ensure that the input has at most 16,777,216 bytes
-/// (`MAX_INPUT`).
+/// text does not have the number that is meant, there are none. The caller must ensure that the input has at most 16,777,216
+/// bytes (`MAX_INPUT`).
 ///
 /// The number of workers in the settings is the number of threads that run the values. The gate is called before and after each
 /// value, with the place of the value among them, by the thread that runs it. Neither changes a byte. The only error is that
@@ -45,9 +45,9 @@ pub fn sweep<R: Threads + Sync, G: Gate + Sync>(
 {
     let (job_text, input, settings) = (question.text, question.input, question.settings);
     match sweep_values(rt, alloc, job_text, input, settings, target, values, gate) {
-        Ok(SweepAnswer::Values(told)) => {
-            let (limit, values) = (settings.limit(), told.values.as_slice());
-            let bytes = table_in(alloc, form, limit, &told.first, values)?;
+        Ok(SweepAnswer::Values(found)) => {
+            let (limit, values) = (settings.limit(), found.values.as_slice());
+            let bytes = table_in(alloc, form, limit, &found.first, values)?;
             Ok(Answer {
                 verdict: SweepVerdict::Lines,
                 bytes,

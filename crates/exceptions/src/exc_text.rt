@@ -17,8 +17,8 @@ pub fn push_whose(out: &mut Vec<u8>, whose: &Whose) -> Result<(), AllocError>
     }
 }
 
-/// Appends the text of an exception, as `DiskFull(writer@4)`. A group has its parts in brackets, as `workers[DiskFull(writer@4)]`.
-/// Returns `AllocError` if memory runs out.
+/// Appends the text of an exception, as `DiskFull(writer@4)`. A group has its parts in brackets, as
+/// `workers[DiskFull(writer@4)]`. Returns `AllocError` if memory runs out.
 #[cycle(exc)]
 pub fn push_exc(out: &mut Vec<u8>, exc: &Exc) -> Result<(), AllocError>
     ensures { OnOk result (out.new.items ≡ out.old.items ++ exc_text (exc_of exc.now)) }
@@ -66,8 +66,8 @@ fn push_more(out: &mut Vec<u8>, parts: &[Exc]) -> Result<(), AllocError>
     Ok(())
 }
 
-/// Appends how a task ended that ended with this exception: `cancelled`, or `raised` and the exception. Returns `AllocError` if memory
-/// runs out.
+/// Appends how a task ended that ended with this exception: `cancelled`, or `raised` and the exception. Returns `AllocError` if
+/// memory runs out.
 pub fn push_raised(out: &mut Vec<u8>, exc: &Exc) -> Result<(), AllocError>
     ensures { OnOk result (out.new.items ≡ out.old.items ++ end_text (Some (exc_of exc.now))) }
 {

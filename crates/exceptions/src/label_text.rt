@@ -6,8 +6,8 @@ use crate::Label;
 use basics::push_number;
 use std::alloc::AllocError;
 
-/// Appends the text of a label, as `p.1`: its name, and then a dot and the number for each index. Returns `AllocError` if memory runs
-/// out.
+/// Appends the text of a label, as `p.1`: its name, and then a dot and the number for each index. Returns `AllocError` if memory
+/// runs out.
 pub fn push_label(out: &mut Vec<u8>, label: &Label) -> Result<(), AllocError>
     ensures { OnOk result (out.new.items ≡ out.old.items ++ label_text label.now) }
 {

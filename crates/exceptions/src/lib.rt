@@ -7,8 +7,8 @@
 //! Labels and exceptions as text.
 //!
 //! The layer promises that its functions append the text of a label, of the origin of a group, of an exception, and of how a
-//! task ended with an exception (`specs/Texts.antt`). Every output of the program prints these with this layer, so a name is
-//! the same text in a report, a story and a chart.
+//! task ended with an exception (`specs/Texts.antt`). Every output of the program prints these with this layer, so a name has one
+//! text in reports, stories and charts.
 #![tactic(auto)]
 
 mod copy;

@@ -19,7 +19,7 @@ abbrev pub and_then : (List ℕ → Option (List ℕ)) → Option (List ℕ) →
 and_then next None = None
 and_then next (Some left) = next left
 
--- the same of the first bytes of a line
+-- what is left of a pattern after the first bytes of a line, if it can match them
 abbrev pub left_after : (beginning pattern : List ℕ) → Option (List ℕ)
 left_after [] pattern = Some pattern
 left_after (b ∷ bs) pattern = and_then (left_after bs) (left_after_byte b pattern)
@@ -28,7 +28,7 @@ left_after (b ∷ bs) pattern = and_then (left_after bs) (left_after_byte b patt
 abbrev pub any_begins : (beginnings : List (List ℕ)) → (pattern : List ℕ) → Bool
 any_begins beginnings pattern = list_any (λ beginning. is_some (left_after beginning pattern)) beginnings
 
--- the same of what another beginning left
+-- whether what another beginning left of a pattern can match a line that begins with at least one of these texts
 abbrev pub any_after : (beginnings : List (List ℕ)) → Option (List ℕ) → Bool
 any_after beginnings None = false
 any_after beginnings (Some pattern) = any_begins beginnings pattern
@@ -90,6 +90,6 @@ begins_named pattern name = begins_record name pattern || begins_event name patt
 abbrev pub begins_line : (names : List (List ℕ)) → (pattern : List ℕ) → Bool
 begins_line names pattern = any_begins plain_words pattern || list_any (begins_named pattern) names
 
--- the same without the blanks that do not count
+-- whether a pattern, without the blanks that do not count, can match a line of a report or a story
 abbrev pub can_match : (names : List (List ℕ)) → (pattern : List ℕ) → Bool
 can_match names pattern = begins_line names (squeezed_text pattern)

@@ -142,7 +142,7 @@ meaning_by names line text true demand = nothing
 meaning_by names line text false (Some said) = said
 meaning_by names line text false None = pattern_line names line text
 
--- the same of a line whose text from its first byte on that is not a blank is this one
+-- the meaning of a line whose text, from its first byte on that is not a blank, is this one
 abbrev pub worded_line : (names : List (List ℕ)) → (line text : List ℕ) → Said
 worded_line names line text = meaning_by names line text (is_comment text) (demand_line text)
 

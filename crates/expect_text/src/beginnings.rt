@@ -38,8 +38,8 @@ const EVENT_WORDS: &[&'static [u8]] = &[
     b" waiting ",
 ];
 
-// Returns whether a pattern can match a line of a report or a story of a job that gives these names, as far as the beginning of the
-// line says.
+// Returns whether a pattern can match a line of a report or a story of a job that gives these names, as far as the beginning of
+// the line says.
 pub(crate) fn can_match(alloc: Global, names: &[Name], pattern: &[u8]) -> Result<bool, AllocError>
     ensures { IfOk result (λ can. can ≡ can_match names.now pattern.now) }
 {

@@ -54,12 +54,13 @@ pub enum LineFault {
 ///
 /// A blank line means nothing, and so does one that begins with `#`. A line that begins with `races:` continues with `none`. A
 /// line that begins with `faults:` continues with one or more of `no stuck`, `no cut` and `no lost`, separated by commas; blanks
-/// around these do not count. A line that begins with another word of letters and a colon is wrong: no line of a report or a story
-/// begins so. After `! ` comes a pattern that no line may match. Any other line as a whole is a pattern that some line must match.
+/// around these do not count. A line that begins with another word of letters and a colon is wrong: no line of a report or a
+/// story begins so. After `! ` comes a pattern that no line may match. Any other line as a whole is a pattern that some line must
+/// match.
 ///
-/// A pattern is wrong if its beginning, up to its first `*`, can begin no line of a report or a story of the job: such a line begins
-/// with `line`, `tick`, `limit` or `refused`; with `job`, `task`, `scope`, `nursery` or `wait` and a name of the job; or with the
-/// name of a task and what happens to it. Returns `AllocError` if memory runs out.
+/// A pattern is wrong if its beginning, up to its first `*`, can begin no line of a report or a story of the job: such a line
+/// begins with `line`, `tick`, `limit` or `refused`; with `job`, `task`, `scope`, `nursery` or `wait` and a name of the job; or
+/// with the name of a task and what happens to it. Returns `AllocError` if memory runs out.
 pub fn read_expectation<'a>(
     alloc: Global,
     names: &[Name],
@@ -117,8 +118,8 @@ fn demand_line<'a>(text: &[u8]) -> Option<ExpectLine<'a>>
     }
 }
 
-// Returns the meaning of a line that is neither a comment nor begins with `races:` or `faults:`. `text` is the line from its first
-// byte on that is not a blank.
+// Returns the meaning of a line that is neither a comment nor begins with `races:` or `faults:`. `text` is the line from its
+// first byte on that is not a blank.
 fn pattern_line<'a>(
     alloc: Global,
     names: &[Name],

@@ -11,8 +11,9 @@ pub fn law_no_difference()
     ensures { (kept written : List ℕ) → (first_difference kept written ≡ None) ↔ (kept ≡ written) }
 {}
 
-/// A law, which does nothing at run time. A pattern that matches a line which begins as a line of a report or a story can, of a job
-/// that gives these names, is one that can match a line. So `read_expectation` never refuses a pattern that matches such a line.
+/// A law, which does nothing at run time. A pattern that matches a line which begins as a line of a report or a story can, of a
+/// job that gives these names, is one that can match a line. So `read_expectation` never refuses a pattern that matches such a
+/// line.
 pub fn law_possible_patterns()
     ensures { (names : List (List ℕ)) → (pattern line : List ℕ) → IsLine names (squeezed_text line) → meets pattern line ≡ true
         → can_match names pattern ≡ true }

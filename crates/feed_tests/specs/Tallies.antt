@@ -51,6 +51,6 @@ status_for false false = 0
 abbrev pub status_of : List Outcome → ℕ
 status_of outcomes = status_for (list_any is_failed outcomes) (list_any is_fault outcomes)
 
--- the same, of their counts
+-- the exit status of tests with these counts
 abbrev pub tally_status : Tally → ℕ
 tally_status tally = status_for (nat_lt 0 tally.failed) (nat_lt 0 tally.faults)

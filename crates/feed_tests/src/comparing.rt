@@ -61,8 +61,8 @@ pub(crate) enum Beside {
     Missing,
 }
 
-// Reads the file with this extension beside a feed. If it cannot be read, or is to be replaced and cannot be, prints that to standard
-// error.
+// Reads the file with this extension beside a feed. If it cannot be read, or is to be replaced and cannot be, prints that to
+// standard error.
 pub(crate) fn open_kept<R: Files + Eprint + AllocGlobal>(
     rt: &R,
     feed: &Feed<'_, '_>,
@@ -92,8 +92,8 @@ pub(crate) fn open_kept<R: Files + Eprint + AllocGlobal>(
     }
 }
 
-// Compares an output of a feed with the bytes that are kept of it, and returns what that came to. The target is the file with these
-// bytes, as it was before it was read.
+// Compares an output of a feed with the bytes that are kept of it, and returns what that came to. The target is the file with
+// these bytes, as it was before it was read.
 fn test_kept<R: Files + Print + Eprint + Threads + Sync + AllocGlobal>(
     rt: &R,
     feed: &Feed<'_, '_>,

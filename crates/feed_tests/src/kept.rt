@@ -57,8 +57,7 @@ pub(crate) fn name_beside(
     format!(in alloc; "{stem}.{extension}")
 }
 
-// Returns a line of a file as it is shown: at most 200 bytes of it, and `?` for each byte that is no
-// printable ASCII.
+// Returns a line of a file as it is shown: at most 200 bytes of it, and `?` for each byte that is no printable ASCII.
 pub(crate) fn shown_line(alloc: Global, line: &[u8]) -> Result<String, AllocError> {
     let mut shown = String::new(alloc);
     let (front, rest) = line.split_at(line.len().min(MAX_SHOWN));

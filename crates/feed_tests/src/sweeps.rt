@@ -19,8 +19,8 @@ use std::alloc::{AllocError, Global};
 use std::rt::Files;
 use std::thread::Threads;
 
-// Compares the sweep of a feed with the file that is kept of it, whose first line has the words of the sweep, and returns what that
-// came to, or `None` if there is no such file.
+// Compares the sweep of a feed with the file that is kept of it, whose first line has the words of the sweep, and returns what
+// that came to, or `None` if there is no such file.
 pub(crate) fn test_sweep<R: Files + Print + Eprint + Threads + Sync + AllocGlobal>(
     rt: &R,
     feed: &Feed<'_, '_>,
@@ -170,8 +170,8 @@ fn tell_refused<R: Print + AllocGlobal>(
     Ok(Outcome::Failed)
 }
 
-// Returns what the words of a sweep ask for. Its number of workers and its limit are those of these settings, unless the words have
-// others. The error refuses the words, or is that memory runs out.
+// Returns what the words of a sweep ask for. Its number of workers and its limit are those of these settings, unless the words
+// have others. The error refuses the words, or is that memory runs out.
 fn asked_sweep(alloc: Global, line: &[u8], settings: Settings) -> Result<SweepArgs, CommandFault> {
     let Ok(line) = str::from_utf8(line) else {
         return Err(refusal(alloc, "error: these bytes are not UTF-8\n"));

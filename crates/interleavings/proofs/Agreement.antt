@@ -1,5 +1,5 @@
--- If a run agrees with a table, the table and the froms that the run keeps agree in the present moment; and the jump: nothing
--- that was not done yet happens before the moment to which the clock jumps.
+-- If a run agrees with a table, the table and the moments of cancellation that the run keeps agree in the present moment; and the
+-- jump: nothing that was not done yet happens before the moment to which the clock jumps.
 use Rattle.std.proofs.Common.{◌≡◌, ◌⊎◌, ℕ, zero, suc, ◌+◌, ◌-◌, ◌<◌, ◌≤◌, min, max, Bool, true, Option, Some, None, List, [], ◌∷◌, refl, sym, ap, ◌∙◌, subst, inl, inr, arith}
 use Rattle.turn_semantics.specs.Lists.{IsAmong}
 use Rattle.exceptions.specs.Exceptions.{Label, Exc}
@@ -9,7 +9,7 @@ use Rattle.job_meaning.specs.Moments.{a_round_after, wakes_at, only_at}
 use Rattle.job_meaning.specs.declared.clock.Clock.{Clock}
 use Rattle.job_meaning.specs.Walk.{Stack, by_table, event_on, event_wait, latest}
 use Rattle.job_meaning.specs.Before.{upto}
-use Rattle.job_meaning.specs.Rest.{ChildOutcomes, told_members, Stopped, to_begin, asking, asleep, waiting_for, giving_up, awaiting, at_end, task_comes_to}
+use Rattle.job_meaning.specs.Rest.{ChildOutcomes, outcome_members, Stopped, to_begin, asking, asleep, waiting_for, giving_up, awaiting, at_end, task_comes_to}
 use Rattle.job_meaning.proofs.MomentLemmas.{round_after}
 use Rattle.job_meaning.proofs.Late.{Timed}
 use Rattle.job_meaning.proofs.Clips.{upto_most, sight_near, event_near, least_late}
@@ -23,21 +23,21 @@ use Rattle.interleavings.proofs.Contract.{near_places, agrees_each}
 use Rattle.interleavings.proofs.Lateness.{slept_after, slept_unseen, awaited_after, awaited_unseen, event_there, ends_near, late_rest, timed_rest, latest_in}
 
 -- a record of outcomes says the same as itself
-pub told_tells : (q : Started) → Tells q q.told
-told_tells q = λ i h. refl
+pub outcomes_tell : (q : Started) → Tells q q.outcomes
+outcomes_tell q = λ i h. refl
 
 -- what a task has left lets nothing happen before v
 left_timed : (k : Table) (q : Started) (v : ℕ) → Fits k q → PlacedStop q.rest.stopped q.rest.frames q.places →
     (live q.rest.stopped ≡ true → v ≤ resumes k q) → Timed v q.left
 left_timed k q v p s h =
-    subst (Timed v) (p.lefts q.told (told_tells q)) (timed_rest k q.told q.here q.stop v q.rest.stopped q.rest.frames q.places s h)
+    subst (Timed v) (p.lefts q.outcomes (outcomes_tell q)) (timed_rest k q.outcomes q.here q.stop v q.rest.stopped q.rest.frames q.places s h)
 
 -- a task ends no earlier than it continues
 pub ends_at : (k : Table) (q : Started) (v : ℕ) → Fits k q → PlacedStop q.rest.stopped q.rest.frames q.places →
     live q.rest.stopped ≡ true → v ≤ resumes k q → v ≤ q.final_result.end
 ends_at k q v p s l h =
-    subst (λ (r : Result). v ≤ r.end) (p.comes q.told (told_tells q))
-    (late_rest k q.told q.here q.stop v q.rest.stopped q.rest.frames q.places s l h).ends
+    subst (λ (r : Result). v ≤ r.end) (p.comes q.outcomes (outcomes_tell q))
+    (late_rest k q.outcomes q.here q.stop v q.rest.stopped q.rest.frames q.places s l h).ends
 
 lefts_late : (v : ℕ) (l : Label) (qs : List Started) → ((q : Started) → IsAmong q qs → Timed v q.left) → all_least v l qs ≡ made_least v l qs
 unfolding all_least made_least
@@ -52,11 +52,11 @@ lefts_late v l (q ∷ qs) h =
 pub ended_final_result : (k : Table) (q : Started) → Fits k q → (u : ℕ) (e : Option Exc) → q.rest.stopped ≡ at_end u e → (q.final_result.end ≡ u)
     × (q.final_result.exc ≡ e)
 ended_final_result k q p u e s = (
-  sym (ap (λ (r : Result). r.end) (p.comes q.told (told_tells q)))
-      ∙ ap (λ (z : Stopped). (task_comes_to (by_table k) q.told q.made (record { stopped = z; frames = q.rest.frames }) q.here
+  sym (ap (λ (r : Result). r.end) (p.comes q.outcomes (outcomes_tell q)))
+      ∙ ap (λ (z : Stopped). (task_comes_to (by_table k) q.outcomes q.made (record { stopped = z; frames = q.rest.frames }) q.here
       (stack_at k q.places) q.stop).end) s,
-  sym (ap (λ (r : Result). r.exc) (p.comes q.told (told_tells q)))
-      ∙ ap (λ (z : Stopped). (task_comes_to (by_table k) q.told q.made (record { stopped = z; frames = q.rest.frames }) q.here
+  sym (ap (λ (r : Result). r.exc) (p.comes q.outcomes (outcomes_tell q)))
+      ∙ ap (λ (z : Stopped). (task_comes_to (by_table k) q.outcomes q.made (record { stopped = z; frames = q.rest.frames }) q.here
       (stack_at k q.places) q.stop).exc) s,
 )
 
@@ -65,18 +65,18 @@ same_member m n e f = λ i. record { end = e i; exc = f i }
 
 module _ (k f : Table) (whole : Result) (qs : List Started) (o : RunInvariant k f whole qs) (q : Started) (i : IsAmong q qs) where
   -- what is recorded of children that have ended is how they ended
-  pub told_ended : (told : ChildOutcomes) → Tells q told → (ends : ℕ → Member) (is : List ℕ) → ((n : ℕ) → IsAmong n is → n < q.count) →
+  pub outcomes_ended : (outcomes : ChildOutcomes) → Tells q outcomes → (ends : ℕ → Member) (is : List ℕ) → ((n : ℕ) → IsAmong n is → n < q.count) →
       ((n : ℕ) → IsAmong n is → (c : Started) → IsAmong c qs → c.serial ≡ q.child n → c.rest.stopped ≡ at_end (ends n).end (ends n).exc) →
-      told_members told is ≡ members_by ends is
-  told_ended told tells ends [] h e = refl
-  told_ended told tells ends (n ∷ is) h e =
+      outcome_members outcomes is ≡ members_by ends is
+  outcomes_ended outcomes tells ends [] h e = refl
+  outcomes_ended outcomes tells ends (n ∷ is) h e =
       let c : Kid qs q n = o.kids q i n (h n (inl refl)) in
       let z : (c.kid.final_result.end ≡ (ends n).end) × (c.kid.final_result.exc ≡ (ends n).exc) =
       ended_final_result k c.kid (o.fits c.kid c.among) (ends n).end (ends n).exc (e n (inl refl) c.kid c.among c.serial) in
-      let y : told n ≡ c.kid.final_result = tells n (h n (inl refl)) ∙ sym c.same in
-      let first : _ = same_member (record { end = (told n).end; exc = (told n).exc }) (ends n) (ap (λ (r : Result). r.end) y ∙ z.0)
+      let y : outcomes n ≡ c.kid.final_result = tells n (h n (inl refl)) ∙ sym c.same in
+      let first : _ = same_member (record { end = (outcomes n).end; exc = (outcomes n).exc }) (ends n) (ap (λ (r : Result). r.end) y ∙ z.0)
       (ap (λ (r : Result). r.exc) y ∙ z.1) in
-      λ j. first j ∷ told_ended told tells ends is (λ m x. h m (inr x)) (λ m x. e m (inr x)) j
+      λ j. first j ∷ outcomes_ended outcomes tells ends is (λ m x. h m (inr x)) (λ m x. e m (inr x)) j
 
 module _ (k f : Table) (whole : Result) (qs : List Started) (o : RunInvariant k f whole qs) (v : ℕ) (from : AllFrom k qs v) where
   -- the first sign before v, where there is one, was made
@@ -141,12 +141,12 @@ module _ (k f : Table) (whole : Result) (qs : List Started) (o : RunInvariant k 
       let b : a_round_after clock since ≤ (event_wait clock st x (only_at since)).end = awaited_after clock st x since there in
       omega arith
 
-  waits_on : (clock : Clock) (q : Started) (children : List ℕ) (ended : ℕ) (c : Unended qs q children) → suc v ≤ (q.told c.number).end →
-      suc v ≤ a_round_after clock (latest ended (told_members q.told children))
+  waits_on : (clock : Clock) (q : Started) (children : List ℕ) (ended : ℕ) (c : Unended qs q children) → suc v ≤ (q.outcomes c.number).end →
+      suc v ≤ a_round_after clock (latest ended (outcome_members q.outcomes children))
   waits_on clock q children ended c h =
-      let j : (q.told c.number).end ≤ latest ended (told_members q.told children) = latest_in q.told ended children c.number c.among in
-      let g : latest ended (told_members q.told children) ≤ a_round_after clock (latest ended (told_members q.told children)) =
-      round_after clock (latest ended (told_members q.told children)) in
+      let j : (q.outcomes c.number).end ≤ latest ended (outcome_members q.outcomes children) = latest_in q.outcomes ended children c.number c.among in
+      let g : latest ended (outcome_members q.outcomes children) ≤ a_round_after clock (latest ended (outcome_members q.outcomes children)) =
+      round_after clock (latest ended (outcome_members q.outcomes children)) in
       omega arith
 
   -- One moment further: no sleeper has its next turn before it; and one that waits, no earlier than a child that has not ended,
@@ -167,17 +167,17 @@ module _ (k f : Table) (whole : Result) (qs : List Started) (o : RunInvariant k 
       subst (λ (r : Result). suc v ≤ r.end) kid.same d)
     where
       settling : (children : List ℕ) (ended : ℕ) → Settling qs q children ended u →
-          suc v ≤ a_round_after q.here.clock (latest ended (told_members q.told children))
+          suc v ≤ a_round_after q.here.clock (latest ended (outcome_members q.outcomes children))
       settling children ended c =
-          let e : told_members q.told children ≡ members_by c.ends children =
-          told_ended k f whole qs o q i q.told (told_tells q) c.ends children c.numbers c.over in
-          let g : u ≤ a_round_after q.here.clock (latest ended (told_members q.told children)) =
+          let e : outcome_members q.outcomes children ≡ members_by c.ends children =
+          outcomes_ended k f whole qs o q i q.outcomes (outcomes_tell q) c.ends children c.numbers c.over in
+          let g : u ≤ a_round_after q.here.clock (latest ended (outcome_members q.outcomes children)) =
           subst (λ (ms : List Member). u ≤ a_round_after q.here.clock (latest ended ms)) (sym e) c.later in
           omega arith
 
       by_stop : (s : Stopped) → PlacedStop s q.rest.frames q.places → live s ≡ true → StaysUntil f qs u q s →
-          ((children : List ℕ) (c : Unended qs q children) → suc v ≤ (q.told c.number).end) →
-          suc v ≤ goes_on q.here.clock q.told s (stack_at k q.places) q.stop.at
+          ((children : List ℕ) (c : Unended qs q children) → suc v ≤ (q.outcomes c.number).end) →
+          suc v ≤ goes_on q.here.clock q.outcomes s (stack_at k q.places) q.stop.at
       by_stop to_begin s l p go = omega arith
       by_stop (asking kernel purpose) s l p go = omega arith
       by_stop (asleep paced n since) s l p go =

@@ -67,10 +67,10 @@ signed_root r = ap (λ (a : Log). record r { own = []; log = a }) (ap (λ (a : L
     none (Some e) = refl
 
 -- what is left of the root is all of following the table, but for what it has cancelled itself at its end
-root_comes : (k : Table) (job : Tree) (input : List ℕ) (told : ChildOutcomes) →
-    rest_comes_to (by_table k) told (rest_at_start job.steps) (root_here job input) no_stack (only_at 0) ≡ root_result k job input
+root_comes : (k : Table) (job : Tree) (input : List ℕ) (outcomes : ChildOutcomes) →
+    rest_comes_to (by_table k) outcomes (rest_at_start job.steps) (root_here job input) no_stack (only_at 0) ≡ root_result k job input
 unfolding follow
-root_comes k job input told = finish_begin (by_table k) told job.steps (root_here job input) no_stack (only_at 0)
+root_comes k job input outcomes = finish_begin (by_table k) outcomes job.steps (root_here job input) no_stack (only_at 0)
     ∙ signed_root (root_walk (by_table k) job input)
 
 module _ (k f : Table) (job : Tree) (input : List ℕ) (names : GivesNamesOnce job) (nurseries : StartsInNurseries job)
@@ -91,9 +91,9 @@ module _ (k f : Table) (job : Tree) (input : List ℕ) (names : GivesNamesOnce j
 
   fits_root : Fits k (root_task k job input)
   fits_root = record {
-    comes = λ told h. root_comes k job input told;
+    comes = λ outcomes h. root_comes k job input outcomes;
     lefts =
-        λ told h. ap (λ (r : Result). r.log) (root_comes k job input told);
+        λ outcomes h. ap (λ (r : Result). r.log) (root_comes k job input outcomes);
   }
 
   of_root : (P : Started → Type 0) → P (root_task k job input) → (q : Started) → IsAmong q tasks → P q

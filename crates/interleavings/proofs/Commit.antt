@@ -11,11 +11,11 @@ use Rattle.job_meaning.specs.Before.{upto}
 use Rattle.job_meaning.specs.Rest.{Event, noted, signs, enters, starts, ChildOutcomes, fill, Stopped, rest_comes_to, rest_at_start}
 use Rattle.job_meaning.proofs.Clips.{upto_most, upto_earlier}
 use Rattle.job_meaning.proofs.Finish.{followed_assoc, fill_append, finish_begin}
-use Rattle.turn_semantics.specs.Midway.{stack_at, Begun, Move, now_after, none_told, begun_comes_to}
+use Rattle.turn_semantics.specs.Midway.{stack_at, Begun, Move, now_after, no_outcomes, begun_comes_to}
 use Rattle.turn_semantics.specs.Wakes.{Wake, WakesBy}
-use Rattle.turn_semantics.specs.Turned.{AgreesOn, AgreesIn, AllTold, Starts, made_sign, TurnsOver}
+use Rattle.turn_semantics.specs.Turned.{AgreesOn, AgreesIn, AreOutcomes, Starts, made_sign, TurnsOver}
 use Rattle.interleavings.specs.Interleaving.{Started, Tells, Fits, times_made, all_least, all_times, EnteredIn}
-use Rattle.interleavings.specs.Going.{told_new, children_from, task_after_turn}
+use Rattle.interleavings.specs.Going.{outcomes_with, children_from, task_after_turn}
 use Rattle.interleavings.proofs.Readings.{first_join, times_join, least_join, left_join}
 use Rattle.interleavings.proofs.Contract.{NumberedFrom, numbers_of, keeps_to}
 
@@ -31,34 +31,34 @@ more_number a b h = grind (arith, nat_tests)
 -- ---- what is recorded of the children
 
 -- of earlier children the same is recorded
-pub old_told : (k : Table) (t : ℕ) (told : ChildOutcomes) (n : ℕ) (bs : List Begun) → NumberedFrom n bs → (i : ℕ) → i < n →
-    told_new k t told bs i ≡ told i
-unfolding told_new
-old_told k t told n [] p i h = refl
-old_told k t told n (b ∷ bs) p i h =
+pub outcome_of_old : (k : Table) (t : ℕ) (outcomes : ChildOutcomes) (n : ℕ) (bs : List Begun) → NumberedFrom n bs → (i : ℕ) → i < n →
+    outcomes_with k t outcomes bs i ≡ outcomes i
+unfolding outcomes_with
+outcome_of_old k t outcomes n [] p i h = refl
+outcome_of_old k t outcomes n (b ∷ bs) p i h =
     let z : b.number ≡ n = p.0 in
-    ap (λ (c : Bool). if c then begun_comes_to k t b else told_new k t told bs i) (less_number i b.number (omega arith))
-    ∙ old_told k t told (suc n) bs p.1 i (omega arith)
+    ap (λ (c : Bool). if c then begun_comes_to k t b else outcomes_with k t outcomes bs i) (less_number i b.number (omega arith))
+    ∙ outcome_of_old k t outcomes (suc n) bs p.1 i (omega arith)
 
 -- of the first of new children its own
-pub first_told : (k : Table) (t : ℕ) (told : ChildOutcomes) (b : Begun) (bs : List Begun) (i : ℕ) → i ≡ b.number →
-    told_new k t told (b ∷ bs) i ≡ begun_comes_to k t b
-unfolding told_new
-first_told k t told b bs i h = ap (λ (c : Bool). if c then begun_comes_to k t b else told_new k t told bs i) (same_number i b.number h)
+pub outcome_of_first : (k : Table) (t : ℕ) (outcomes : ChildOutcomes) (b : Begun) (bs : List Begun) (i : ℕ) → i ≡ b.number →
+    outcomes_with k t outcomes (b ∷ bs) i ≡ begun_comes_to k t b
+unfolding outcomes_with
+outcome_of_first k t outcomes b bs i h = ap (λ (c : Bool). if c then begun_comes_to k t b else outcomes_with k t outcomes bs i) (same_number i b.number h)
 
 -- and of those after the first what is recorded of them
-pub later_told : (k : Table) (t : ℕ) (told : ChildOutcomes) (b : Begun) (bs : List Begun) (i : ℕ) → b.number < i →
-    told_new k t told (b ∷ bs) i ≡ told_new k t told bs i
-unfolding told_new
-later_told k t told b bs i h = ap (λ (c : Bool). if c then begun_comes_to k t b else told_new k t told bs i) (more_number i b.number h)
+pub outcome_of_later : (k : Table) (t : ℕ) (outcomes : ChildOutcomes) (b : Begun) (bs : List Begun) (i : ℕ) → b.number < i →
+    outcomes_with k t outcomes (b ∷ bs) i ≡ outcomes_with k t outcomes bs i
+unfolding outcomes_with
+outcome_of_later k t outcomes b bs i h = ap (λ (c : Bool). if c then begun_comes_to k t b else outcomes_with k t outcomes bs i) (more_number i b.number h)
 
-all_told : (k : Table) (t : ℕ) (e d : ChildOutcomes) (n : ℕ) (bs : List Begun) → NumberedFrom n bs →
-    ((i : ℕ) → n ≤ i → i < n + length bs → d i ≡ told_new k t e bs i) → AllTold t k d bs
-all_told k t e d n [] p h = tt
-all_told k t e d n (b ∷ bs) p h =
+outcomes_of_begun : (k : Table) (t : ℕ) (e d : ChildOutcomes) (n : ℕ) (bs : List Begun) → NumberedFrom n bs →
+    ((i : ℕ) → n ≤ i → i < n + length bs → d i ≡ outcomes_with k t e bs i) → AreOutcomes t k d bs
+outcomes_of_begun k t e d n [] p h = tt
+outcomes_of_begun k t e d n (b ∷ bs) p h =
     let z : b.number ≡ n = p.0 in (
-      h b.number (omega arith) (omega arith) ∙ first_told k t e b bs b.number refl,
-      all_told k t e d (suc n) bs p.1 (λ i x y. h i (omega arith) (omega arith) ∙ later_told k t e b bs i (omega arith)),
+      h b.number (omega arith) (omega arith) ∙ outcome_of_first k t e b bs b.number refl,
+      outcomes_of_begun k t e d (suc n) bs p.1 (λ i x y. h i (omega arith) (omega arith) ∙ outcome_of_later k t e b bs i (omega arith)),
     )
 
 -- records of outcomes that say the same of all children give the same log
@@ -84,28 +84,28 @@ followed_cancel (task m s u e own rest) b c h = followed_cancel rest b c (cc)
 
 -- ---- readings of what was made, with the new children
 
-module _ (k : Table) (t : ℕ) (told : ChildOutcomes) where
-  fill_least : (c : ℕ) (l : Label) (n m : ℕ) (es : List Event) (bs : List Begun) → Starts n es bs → AllTold t k told bs →
-      upto c (least_sign l (fill told es)) ≡ min (upto c (made_sign l es)) (all_least c l (children_from k t m bs))
+module _ (k : Table) (t : ℕ) (outcomes : ChildOutcomes) where
+  fill_least : (c : ℕ) (l : Label) (n m : ℕ) (es : List Event) (bs : List Begun) → Starts n es bs → AreOutcomes t k outcomes bs →
+      upto c (least_sign l (fill outcomes es)) ≡ min (upto c (made_sign l es)) (all_least c l (children_from k t m bs))
   unfolding all_least children_from
   fill_least c l n m [] [] p q = omega arith
   fill_least c l n m [] (b ∷ bs) p q = absurd p
   fill_least c l n m (noted u x ∷ es) bs p q = fill_least c l n m es bs p q
   fill_least c l n m (signs h u ∷ es) bs p q =
       let s : Tick = tick_if (same_label l h) u in
-      omega (arith, upto_earlier c s (least_sign l (fill told es)), upto_earlier c s (made_sign l es), fill_least c l n m es bs p q)
+      omega (arith, upto_earlier c s (least_sign l (fill outcomes es)), upto_earlier c s (made_sign l es), fill_least c l n m es bs p q)
   fill_least c l n m (enters h u d ∷ es) bs p q = fill_least c l n m es bs p q
   fill_least c l n m (starts i h u ∷ es) [] p q = absurd p
   fill_least c l n m (starts i h u ∷ es) (b ∷ bs) p q =
-      let ih : upto c (least_sign l (fill told es)) ≡ min (upto c (made_sign l es)) (all_least c l (children_from k t (suc m) bs)) =
+      let ih : upto c (least_sign l (fill outcomes es)) ≡ min (upto c (made_sign l es)) (all_least c l (children_from k t (suc m) bs)) =
       fill_least c l (suc n) (suc m) es bs p.3 q.1 in
-      let z : upto c (least_sign l (told i).log) ≡ upto c (least_sign l (begun_comes_to k t b).log) =
-      ap (λ (r : Result). upto c (least_sign l r.log)) (ap told (p.0 ∙ sym p.1) ∙ q.0) in
+      let z : upto c (least_sign l (outcomes i).log) ≡ upto c (least_sign l (begun_comes_to k t b).log) =
+      ap (λ (r : Result). upto c (least_sign l r.log)) (ap outcomes (p.0 ∙ sym p.1) ∙ q.0) in
       let y : upto c (least_sign l (begun_comes_to k t b).log) ≤ c = upto_most c (least_sign l (begun_comes_to k t b).log) in
-      omega (arith, upto_earlier c (least_sign l (told i).log) (least_sign l (fill told es)))
+      omega (arith, upto_earlier c (least_sign l (outcomes i).log) (least_sign l (fill outcomes es)))
 
-  fill_times : (l : Label) (n m : ℕ) (es : List Event) (bs : List Begun) → Starts n es bs → AllTold t k told bs →
-      times_entered l (fill told es) ≡ times_made l es + all_times l (children_from k t m bs)
+  fill_times : (l : Label) (n m : ℕ) (es : List Event) (bs : List Begun) → Starts n es bs → AreOutcomes t k outcomes bs →
+      times_entered l (fill outcomes es) ≡ times_made l es + all_times l (children_from k t m bs)
   unfolding times_made all_times children_from
   fill_times l n m [] [] p q = omega arith
   fill_times l n m [] (b ∷ bs) p q = absurd p
@@ -114,15 +114,15 @@ module _ (k : Table) (t : ℕ) (told : ChildOutcomes) where
   fill_times l n m (enters h u d ∷ es) bs p q = omega (arith, fill_times l n m es bs p q)
   fill_times l n m (starts i h u ∷ es) [] p q = absurd p
   fill_times l n m (starts i h u ∷ es) (b ∷ bs) p q =
-      let ih : times_entered l (fill told es) ≡ times_made l es + all_times l (children_from k t (suc m) bs) =
+      let ih : times_entered l (fill outcomes es) ≡ times_made l es + all_times l (children_from k t (suc m) bs) =
       fill_times l (suc n) (suc m) es bs p.3 q.1 in
-      let z : times_entered l (told i).log ≡ times_entered l (begun_comes_to k t b).log =
-      ap (λ (r : Result). times_entered l r.log) (ap told (p.0 ∙ sym p.1) ∙ q.0) in
+      let z : times_entered l (outcomes i).log ≡ times_entered l (begun_comes_to k t b).log =
+      ap (λ (r : Result). times_entered l r.log) (ap outcomes (p.0 ∙ sym p.1) ∙ q.0) in
       omega arith
 
   -- what a child enters, the events of its starter enter
-  pub fill_entered : (n m : ℕ) (es : List Event) (bs : List Begun) → Starts n es bs → AllTold t k told bs →
-      (x : Started) → IsAmong x (children_from k t m bs) → (l : Label) (d : Tick) → EnteredIn l d x.left → EnteredIn l d (fill told es)
+  pub fill_entered : (n m : ℕ) (es : List Event) (bs : List Begun) → Starts n es bs → AreOutcomes t k outcomes bs →
+      (x : Started) → IsAmong x (children_from k t m bs) → (l : Label) (d : Tick) → EnteredIn l d x.left → EnteredIn l d (fill outcomes es)
   unfolding children_from
   fill_entered n m [] [] p q x i l d h = absurd i
   fill_entered n m [] (b ∷ bs) p q x i l d h = absurd p
@@ -131,8 +131,8 @@ module _ (k : Table) (t : ℕ) (told : ChildOutcomes) where
   fill_entered n m (enters y u c ∷ es) bs p q x i l d h = inr (fill_entered n m es bs p q x i l d h)
   fill_entered n m (starts j y u ∷ es) [] p q x i l d h = absurd p
   fill_entered n m (starts j y u ∷ es) (b ∷ bs) p q x (inl e) l d h =
-      let same : x.left ≡ (told j).log = ap (λ (z : Started). z.left) e
-      ∙ ap (λ (r : Result). r.log) (sym (ap told (p.0 ∙ sym p.1) ∙ q.0)) in
+      let same : x.left ≡ (outcomes j).log = ap (λ (z : Started). z.left) e
+      ∙ ap (λ (r : Result). r.log) (sym (ap outcomes (p.0 ∙ sym p.1) ∙ q.0)) in
       inl (subst (λ (a : Log). EnteredIn l d a) same h)
   fill_entered n m (starts j y u ∷ es) (b ∷ bs) p q x (inr i) l d h = inr (fill_entered (suc n) (suc m) es bs p.3 q.1 x i l d h)
 
@@ -141,61 +141,61 @@ module _ (k : Table) (t : ℕ) (told : ChildOutcomes) where
 module _ (k f : Table) (now : Now) (m : ℕ) (wake : Wake) (q : Started) (o : Move) (s : Stopped)
     (w : TurnsOver q.stop now q.here f wake q.rest q.places q.count o) (stopped : o.stopped ≡ Some s) (fit : Fits k q)
     (near : AgreesOn now.at k f q.places) (deadlines : AgreesIn now.at k q.left)
-    (come : (told : ChildOutcomes) → Tells q told → WakesBy k told q.here q.stop now wake q.rest.stopped q.places) where
+    (come : (outcomes : ChildOutcomes) → Tells q outcomes → WakesBy k outcomes q.here q.stop now wake q.rest.stopped q.places) where
   -- the moment in which the new children begin
   abbrev next : ℕ
   next = a_round_after q.here.clock now.at
 
   abbrev left_before : ChildOutcomes → Result
-  left_before told = rest_comes_to (by_table k) told q.rest q.here (stack_at k q.places) q.stop
+  left_before outcomes = rest_comes_to (by_table k) outcomes q.rest q.here (stack_at k q.places) q.stop
 
   abbrev left_after : ChildOutcomes → Result
-  left_after told = rest_comes_to (by_table k) told (record { stopped = s; frames = o.frames }) q.here (stack_at k o.places) (now_after q.here.clock now o.made)
+  left_after outcomes = rest_comes_to (by_table k) outcomes (record { stopped = s; frames = o.frames }) q.here (stack_at k o.places) (now_after q.here.clock now o.made)
 
   numbers : NumberedFrom q.count o.begun
   numbers = numbers_of q.count o.made o.begun w.starts
 
-  tells_before : (told : ChildOutcomes) → Tells (task_after_turn k now m q o s) told → Tells q told
-  tells_before told h = λ i x. h i (omega arith) ∙ old_told k next q.told q.count o.begun numbers i x
+  tells_before : (outcomes : ChildOutcomes) → Tells (task_after_turn k now m q o s) outcomes → Tells q outcomes
+  tells_before outcomes h = λ i x. h i (omega arith) ∙ outcome_of_old k next q.outcomes q.count o.begun numbers i x
 
   -- a record of outcomes that fits the task after the turn contains for its new children the results of
   -- following the table
-  pub tells_begun : (told : ChildOutcomes) → Tells (task_after_turn k now m q o s) told → AllTold next k told o.begun
-  tells_begun told h = all_told k next q.told told q.count o.begun numbers (λ i x y. h i y)
+  pub tells_begun : (outcomes : ChildOutcomes) → Tells (task_after_turn k now m q o s) outcomes → AreOutcomes next k outcomes o.begun
+  tells_begun outcomes h = outcomes_of_begun k next q.outcomes outcomes q.count o.begun numbers (λ i x y. h i y)
 
   -- and its own record fits it
-  pub tells_itself : Tells (task_after_turn k now m q o s) (task_after_turn k now m q o s).told
+  pub tells_itself : Tells (task_after_turn k now m q o s) (task_after_turn k now m q o s).outcomes
   tells_itself = λ i h. refl
 
-  turn_keeps : (told : ChildOutcomes) → Tells (task_after_turn k now m q o s) told →
-      left_before told ≡ record (left_after told) { log = followed_by (fill told o.made) (left_after told).log }
-  turn_keeps told h =
-      keeps_to now f wake q o s w stopped k told near
-      (subst (λ (a : Log). AgreesIn now.at k a) (sym (fit.lefts told (tells_before told h))) deadlines)
-      (tells_begun told h) (come told (tells_before told h))
+  turn_keeps : (outcomes : ChildOutcomes) → Tells (task_after_turn k now m q o s) outcomes →
+      left_before outcomes ≡ record (left_after outcomes) { log = followed_by (fill outcomes o.made) (left_after outcomes).log }
+  turn_keeps outcomes h =
+      keeps_to now f wake q o s w stopped k outcomes near
+      (subst (λ (a : Log). AgreesIn now.at k a) (sym (fit.lefts outcomes (tells_before outcomes h))) deadlines)
+      (tells_begun outcomes h) (come outcomes (tells_before outcomes h))
 
   -- what was left before is what was made and what is left after
-  pub left_is : (told : ChildOutcomes) → Tells (task_after_turn k now m q o s) told → q.left ≡ followed_by (fill told o.made) (left_after told).log
-  left_is told h = sym (fit.lefts told (tells_before told h)) ∙ ap (λ (r : Result). r.log) (turn_keeps told h)
+  pub left_is : (outcomes : ChildOutcomes) → Tells (task_after_turn k now m q o s) outcomes → q.left ≡ followed_by (fill outcomes o.made) (left_after outcomes).log
+  left_is outcomes h = sym (fit.lefts outcomes (tells_before outcomes h)) ∙ ap (λ (r : Result). r.log) (turn_keeps outcomes h)
 
-  made_more : (told : ChildOutcomes) → followed_by (fill told (q.made ++ o.made)) (left_after told).log
-      ≡ followed_by (fill told q.made) (followed_by (fill told o.made) (left_after told).log)
-  made_more told =
-      ap (λ (a : Log). followed_by a (left_after told).log) (fill_append told q.made o.made)
-      ∙ followed_assoc (fill told q.made) (fill told o.made) (left_after told).log
+  made_more : (outcomes : ChildOutcomes) → followed_by (fill outcomes (q.made ++ o.made)) (left_after outcomes).log
+      ≡ followed_by (fill outcomes q.made) (followed_by (fill outcomes o.made) (left_after outcomes).log)
+  made_more outcomes =
+      ap (λ (a : Log). followed_by a (left_after outcomes).log) (fill_append outcomes q.made o.made)
+      ∙ followed_assoc (fill outcomes q.made) (fill outcomes o.made) (left_after outcomes).log
 
   -- the task still has the same whole result
   pub fits_turned : Fits k (task_after_turn k now m q o s)
   fits_turned = record {
-    comes = λ told h.
-        ap (λ (a : Log). record (left_after told) { log = a }) (made_more told)
-        ∙ (ap (λ (r : Result). record r { log = followed_by (fill told q.made) r.log }) (sym (turn_keeps told h))
-        ∙ fit.comes told (tells_before told h));
-    lefts = λ told h.
-        let d : ChildOutcomes = (task_after_turn k now m q o s).told in
-        followed_cancel (fill told o.made) (left_after told).log (left_after d).log
-        (sym (left_is told h) ∙ (left_is d tells_itself
-        ∙ ap (λ (a : Log). followed_by a (left_after d).log) (fill_agree d told q.count o.made o.begun w.starts (λ i x. sym (h i x)))));
+    comes = λ outcomes h.
+        ap (λ (a : Log). record (left_after outcomes) { log = a }) (made_more outcomes)
+        ∙ (ap (λ (r : Result). record r { log = followed_by (fill outcomes q.made) r.log }) (sym (turn_keeps outcomes h))
+        ∙ fit.comes outcomes (tells_before outcomes h));
+    lefts = λ outcomes h.
+        let d : ChildOutcomes = (task_after_turn k now m q o s).outcomes in
+        followed_cancel (fill outcomes o.made) (left_after outcomes).log (left_after d).log
+        (sym (left_is outcomes h) ∙ (left_is d tells_itself
+        ∙ ap (λ (a : Log). followed_by a (left_after d).log) (fill_agree d outcomes q.count o.made o.begun w.starts (λ i x. sym (h i x)))));
   }
 
   -- the first signs are the same, with the new children
@@ -203,7 +203,7 @@ module _ (k f : Table) (now : Now) (m : ℕ) (wake : Wake) (q : Started) (o : Mo
       ≡ min (upto c (made_sign l q.made)) (upto c (least_sign l q.left))
   unfolding all_least
   least_turned c l =
-      let d : ChildOutcomes = (task_after_turn k now m q o s).told in
+      let d : ChildOutcomes = (task_after_turn k now m q o s).outcomes in
       let x : upto c (least_sign l q.left) ≡ min (upto c (least_sign l (fill d o.made))) (upto c (least_sign l (left_after d).log)) =
       ap (λ (a : Log). upto c (least_sign l a)) (left_is d tells_itself) ∙ least_join c l (fill d o.made) (left_after d).log in
       let y : upto c (least_sign l (fill d o.made)) ≡ min (upto c (made_sign l o.made)) (all_least c l (children_from k next m o.begun)) =
@@ -217,7 +217,7 @@ module _ (k f : Table) (now : Now) (m : ℕ) (wake : Wake) (q : Started) (o : Mo
       ≡ times_made l q.made + times_entered l q.left
   unfolding all_times
   times_turned l =
-      let d : ChildOutcomes = (task_after_turn k now m q o s).told in
+      let d : ChildOutcomes = (task_after_turn k now m q o s).outcomes in
       let x : times_entered l q.left ≡ times_entered l (fill d o.made) + times_entered l (left_after d).log =
       ap (λ (a : Log). times_entered l a) (left_is d tells_itself) ∙ left_join l (fill d o.made) (left_after d).log in
       let y : times_entered l (fill d o.made) ≡ times_made l o.made + all_times l (children_from k next m o.begun) =
@@ -231,10 +231,10 @@ unfolding children_from
 fits_begun k t m [] q i = absurd i
 fits_begun k t m (b ∷ bs) q (inl e) = subst (λ (x : Started). Fits k x) (sym e) (fits_first b)
   where
-    open_child : (b : Begun) (told : ChildOutcomes) → rest_comes_to (by_table k) told (rest_at_start b.body) b.here (stack_at k b.places) (only_at t)
+    open_child : (b : Begun) (outcomes : ChildOutcomes) → rest_comes_to (by_table k) outcomes (rest_at_start b.body) b.here (stack_at k b.places) (only_at t)
         ≡ begun_comes_to k t b
-    open_child b told = finish_begin (by_table k) told b.body b.here (stack_at k b.places) (only_at t)
-        ∙ sym (finish_begin (by_table k) none_told b.body b.here (stack_at k b.places) (only_at t))
+    open_child b outcomes = finish_begin (by_table k) outcomes b.body b.here (stack_at k b.places) (only_at t)
+        ∙ sym (finish_begin (by_table k) no_outcomes b.body b.here (stack_at k b.places) (only_at t))
 
     fits_first : (b : Begun) → Fits k (record {
       serial = m;
@@ -245,9 +245,9 @@ fits_begun k t m (b ∷ bs) q (inl e) = subst (λ (x : Started). Fits k x) (sym 
       made = [];
       count = 0;
       child = (λ i. 0);
-      told = none_told;
+      outcomes = no_outcomes;
       final_result = begun_comes_to k t b;
       left = (begun_comes_to k t b).log;
     })
-    fits_first b = record { comes = λ told h. open_child b told; lefts = λ told h. ap (λ (r : Result). r.log) (open_child b told) }
+    fits_first b = record { comes = λ outcomes h. open_child b outcomes; lefts = λ outcomes h. ap (λ (r : Result). r.log) (open_child b outcomes) }
 fits_begun k t m (b ∷ bs) q (inr i) = fits_begun k t (suc m) bs q i

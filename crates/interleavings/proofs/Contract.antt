@@ -1,4 +1,5 @@
--- What a turn promises, as the other proofs read it: numbers and labels of what it made, the froms after it, and its stop.
+-- What a turn promises, as the other proofs read it: numbers and labels of what it made, the moments of cancellation after it,
+-- and its stop.
 use Rattle.std.proofs.Common.{◌≡◌, ◌⊎◌, ℕ, suc, ◌+◌, ◌<◌, ◌≤◌, min, Bool, true, false, Option, Some, List, [], ◌∷◌, refl, ap, ◌∙◌, subst, inl, inr, arith}
 use Rattle.turn_semantics.specs.Lists.{IsAmong}
 use Rattle.exceptions.specs.Exceptions.{Label}
@@ -10,17 +11,17 @@ use Rattle.job_meaning.specs.Walk.{by_table}
 use Rattle.job_meaning.specs.Before.{upto, Near}
 use Rattle.job_meaning.specs.Rest.{Event, noted, signs, enters, starts, ChildOutcomes, Stopped, Rest, rest_comes_to, rest_weight, stop_weight, frames_weight}
 use Rattle.turn_semantics.specs.Midway.{Place, level_on, stack_at, Begun, Move, now_after, after_events, stop_comes_to}
-use Rattle.turn_semantics.specs.Steps.{froms_after}
+use Rattle.turn_semantics.specs.Steps.{cancelled_from_after}
 use Rattle.turn_semantics.specs.Placed.{PlacedStop, PlacedAfter}
 use Rattle.turn_semantics.specs.Wakes.{Wake, WakesBy}
-use Rattle.turn_semantics.specs.Turned.{AgreesOn, AgreesIn, AllTold, AllKnown, known_after, MadeAt, Starts, made_sign, EntersIn, StopsAt, weight_of_stop, weight_of_begun, TurnsOver}
-use Rattle.turn_semantics.proofs.Froms.{from_lowered, from_opened}
+use Rattle.turn_semantics.specs.Turned.{AgreesOn, AgreesIn, AreOutcomes, AllKnown, known_after, MadeAt, Starts, made_sign, EntersIn, StopsAt, weight_of_stop, weight_of_begun, TurnsOver}
+use Rattle.turn_semantics.proofs.CancelledFrom.{from_lowered, from_opened}
 use Rattle.interleavings.specs.Interleaving.{Started, times_made, EnteredIn, EntersWith, EachPlace}
 use Rattle.interleavings.proofs.Readings.{upto_from, enters_counted, enters_once}
 
 -- ---- what is asked of a table
 
--- a table that agrees with froms for enclosing scopes and nurseries is near them on their stacks
+-- a table that agrees with moments of cancellation for enclosing scopes and nurseries is near them on their stacks
 pub near_places : (t : ℕ) (k f : Table) (ps : List Place) → AgreesOn t k f ps → Near (suc t) (stack_at k ps) (stack_at f ps)
 near_places t k f [] h = (tt, tt)
 near_places t k f (p ∷ ps) h = by_kind p.is_event (near_places t k f ps h.1)
@@ -83,11 +84,11 @@ pub each_known : (P : Label → Type 0) (ls : List Label) → ((l : Label) → I
 each_known P ls h [] p = tt
 each_known P ls h (x ∷ ps) p = (h x.label p.0, each_known P ls h ps p.1)
 
--- ---- froms
+-- ---- moments of cancellation
 
 -- the from of a label that was not entered is lowered by just the signs made
 pub lowered_from : (c : ℕ) (f : Table) (l : Label) (es : List Event) → times_made l es ≡ 0 →
-    upto (suc c) (froms_after f es l) ≡ min (upto (suc c) (f l)) (suc (upto c (made_sign l es)))
+    upto (suc c) (cancelled_from_after f es l) ≡ min (upto (suc c) (f l)) (suc (upto c (made_sign l es)))
 lowered_from c f l es h =
     ap (λ (x : Tick). upto (suc c) x) (from_lowered es f l not_entered) ∙ upto_from c (f l) (made_sign l es)
   where
@@ -96,7 +97,7 @@ lowered_from c f l es h =
 
 -- that of a label which was entered once, and not known before, is its deadline lowered likewise
 pub opened_from : (c : ℕ) (clock : Clock) (t : ℕ) (f : Table) (ls : List Label) (l : Label) (d : Tick) (es : List Event) → MadeAt clock t ls es → (IsAmong l ls → ⊥) →
-    EntersWith l d es → times_made l es ≡ 1 → upto (suc c) (froms_after f es l) ≡ min (upto (suc c) d) (suc (upto c (made_sign l es)))
+    EntersWith l d es → times_made l es ≡ 1 → upto (suc c) (cancelled_from_after f es l) ≡ min (upto (suc c) d) (suc (upto c (made_sign l es)))
 opened_from c clock t f ls l d es made fresh h n =
     ap (λ (x : Tick). upto (suc c) x) (from_opened clock t es ls f l d made fresh (enters_once l d es h n)) ∙ upto_from c d (made_sign l es)
 
@@ -109,22 +110,22 @@ module _ (now : Now) (f : Table) (wake : Wake) (q : Started) (o : Move) (s : Sto
   rest_after = record { stopped = s; frames = o.frames }
 
   -- what was left before the turn results in what it did, followed by the result of what is left after it
-  pub keeps_to : (k : Table) (told : ChildOutcomes) → AgreesOn now.at k f q.places →
-      AgreesIn now.at k (rest_comes_to (by_table k) told q.rest q.here (stack_at k q.places) q.stop).log → AllTold (a_round_after q.here.clock now.at) k told o.begun →
-      WakesBy k told q.here q.stop now wake q.rest.stopped q.places →
-      rest_comes_to (by_table k) told q.rest q.here (stack_at k q.places) q.stop
-      ≡ after_events told o.made (rest_comes_to (by_table k) told rest_after q.here (stack_at k o.places) (now_after q.here.clock now o.made))
-  keeps_to k told near inside all come =
-      w.keeps k told come near (inr inside) all
-      ∙ ap (λ (x : Option Stopped). after_events told o.made (stop_comes_to x k told q.here (now_after q.here.clock now o.made) o.frames o.places o.exc)) e
+  pub keeps_to : (k : Table) (outcomes : ChildOutcomes) → AgreesOn now.at k f q.places →
+      AgreesIn now.at k (rest_comes_to (by_table k) outcomes q.rest q.here (stack_at k q.places) q.stop).log → AreOutcomes (a_round_after q.here.clock now.at) k outcomes o.begun →
+      WakesBy k outcomes q.here q.stop now wake q.rest.stopped q.places →
+      rest_comes_to (by_table k) outcomes q.rest q.here (stack_at k q.places) q.stop
+      ≡ after_events outcomes o.made (rest_comes_to (by_table k) outcomes rest_after q.here (stack_at k o.places) (now_after q.here.clock now o.made))
+  keeps_to k outcomes near inside all come =
+      w.keeps k outcomes come near (inr inside) all
+      ∙ ap (λ (x : Option Stopped). after_events outcomes o.made (stop_comes_to x k outcomes q.here (now_after q.here.clock now o.made) o.frames o.places o.exc)) e
 
   -- the frames that are left fit the enclosing scopes and nurseries
   pub placed_stop : PlacedStop s o.frames o.places
   placed_stop = subst (λ (x : Option Stopped). PlacedAfter x o.frames o.places) e w.placed
 
   -- how the task stopped
-  pub stops_at : StopsAt q.here.clock now.at (froms_after f o.made) (Some s) o.places
-  stops_at = subst (λ (x : Option Stopped). StopsAt q.here.clock now.at (froms_after f o.made) x o.places) e w.stops
+  pub stops_at : StopsAt q.here.clock now.at (cancelled_from_after f o.made) (Some s) o.places
+  stops_at = subst (λ (x : Option Stopped). StopsAt q.here.clock now.at (cancelled_from_after f o.made) x o.places) e w.stops
 
   -- what is left weighs less than before, that of the children included
   pub lighter : rest_weight rest_after + weight_of_begun o.begun < rest_weight q.rest

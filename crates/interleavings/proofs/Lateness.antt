@@ -13,7 +13,7 @@ use Rattle.job_meaning.specs.declared.clock.Clock.TheVariants.{ByTicks as by_tic
 use Rattle.job_meaning.specs.Walk.{Levels, Stack, by_table, Here, done_at, raised_at, pace_ticks, wait_by_sight, sleep_result, pace_result, wait_until, set_moment, wait_by, with_line_if, with_line, event_wait, label_if, level_if, event_on, a_nursery, nursery_result, latest}
 use Rattle.job_meaning.specs.Before.{upto}
 use Rattle.job_meaning.specs.Asking.{Answer, lines, missing, counted, answer_of, Purpose, shows, needs, paces, answer_result}
-use Rattle.job_meaning.specs.Rest.{ChildOutcomes, told_members, Frame, Stopped, to_begin, asking, asleep, waiting_for, giving_up, awaiting, at_end, wait_result, rest_comes_to}
+use Rattle.job_meaning.specs.Rest.{ChildOutcomes, outcome_members, Frame, Stopped, to_begin, asking, asleep, waiting_for, giving_up, awaiting, at_end, wait_result, rest_comes_to}
 use Rattle.job_meaning.proofs.MomentLemmas.{wakes_after, gives_up_after}
 use Rattle.job_meaning.proofs.Late.{Late, Timed, timed_earlier, late_done, late_raised, late_raising, late_waited, late_pacing, late_until, late_showing, latest_ends}
 use Rattle.job_meaning.proofs.Clips.{NearEvents}
@@ -305,7 +305,7 @@ event_there k name (p ∷ ps) h = by_kind p.is_event (bytes_eq name p.label.name
         subst (λ (x : Bool). IsSome (level_if x level (event_on name (stack_at k ps).events))) (sym e) (more h)
     by_kind false b e more h = more h
 
--- the moments in which an event is set by near froms are near
+-- the moments in which an event is set by near moments of cancellation are near
 set_near : (c : ℕ) (clock : Clock) (f g : Tick) (m : ℕ) → upto c f ≡ upto c g → min c (set_moment clock f m) ≡ min c (set_moment clock g m)
 set_near c clock None None m e = refl
 set_near c clock None (Some y) m e = no_earlier y (wakes_at clock (far - tick_of clock m) m) e
@@ -348,43 +348,43 @@ late_settled v clock ms u exc l outer now h =
     late_left v clock a_nursery l outer (nursery_result clock l.label (record { end = u; own = []; exc = exc; members = ms; log = nil }))
     (record { ends = h; timed = tt })
 
-module _ (k : Table) (told : ChildOutcomes) (here : Here) (t : Now) (v : ℕ) where
+module _ (k : Table) (outcomes : ChildOutcomes) (here : Here) (t : Now) (v : ℕ) where
   -- what a live task has left is as late as the moment of its next turn
   pub late_rest : (s : Stopped) (fs : List Frame) (ps : List Place) → PlacedStop s fs ps → live s ≡ true →
-      v ≤ goes_on here.clock told s (stack_at k ps) t.at →
-      Late v (rest_comes_to (by_table k) told (record { stopped = s; frames = fs }) here (stack_at k ps) t)
-  late_rest to_begin fs ps h l le = late_finish fs v (by_table k) told here (stack_at k ps) (done_at t) (late_done v t le)
+      v ≤ goes_on here.clock outcomes s (stack_at k ps) t.at →
+      Late v (rest_comes_to (by_table k) outcomes (record { stopped = s; frames = fs }) here (stack_at k ps) t)
+  late_rest to_begin fs ps h l le = late_finish fs v (by_table k) outcomes here (stack_at k ps) (done_at t) (late_done v t le)
   late_rest (asking kernel purpose) fs ps h l le =
-      late_finish fs v (by_table k) told here (stack_at k ps) (answer_result (answer_of kernel here) purpose here (stack_at k ps) t)
+      late_finish fs v (by_table k) outcomes here (stack_at k ps) (answer_result (answer_of kernel here) purpose here (stack_at k ps) t)
       (late_earlier v t.at _ le (late_answered (answer_of kernel here) purpose here (stack_at k ps) t))
   late_rest (asleep false n since) fs ps h l le =
-      late_finish fs v (by_table k) told here (stack_at k ps) (sleep_result here.clock (stack_at k ps) n since)
+      late_finish fs v (by_table k) outcomes here (stack_at k ps) (sleep_result here.clock (stack_at k ps) n since)
       (late_slept v here.clock false (stack_at k ps) n since (omega arith))
   late_rest (asleep true n since) fs ps h l le =
-      late_finish fs v (by_table k) told here (stack_at k ps) (pace_result here.clock (stack_at k ps) n since)
+      late_finish fs v (by_table k) outcomes here (stack_at k ps) (pace_result here.clock (stack_at k ps) n since)
       (late_slept v here.clock true (stack_at k ps) n since (omega arith))
   late_rest (waiting_for event since) fs ps h l le =
-      late_finish fs v (by_table k) told here (stack_at k ps) _
+      late_finish fs v (by_table k) outcomes here (stack_at k ps) _
       (late_awaited v here.clock (stack_at k ps) (event_on event (stack_at k ps).events) since (omega arith))
   late_rest (giving_up since) fs ps h l le =
-      late_finish fs v (by_table k) told here (stack_at k ps) (raised_at cancelled (only_at (suc since)))
+      late_finish fs v (by_table k) outcomes here (stack_at k ps) (raised_at cancelled (only_at (suc since)))
       (late_raised cancelled v (only_at (suc since)) le)
   late_rest (awaiting children ended exc) fs [] h l le = absurd h
   late_rest (awaiting children ended exc) fs (p ∷ ps) h l le = by_kind p.is_event h.0
     where
       by_kind : (b : Bool) → b ≡ false →
           (let st : Stack = level_on b (record { label = p.label; shield = p.shield; from = k p.label }) (stack_at k ps) in
-          Late v (rest_comes_to (by_table k) told (record { stopped = awaiting children ended exc; frames = fs }) here st t))
+          Late v (rest_comes_to (by_table k) outcomes (record { stopped = awaiting children ended exc; frames = fs }) here st t))
       by_kind true e = absurd (true≢false e)
       by_kind false e =
-          late_finish fs v (by_table k) told here (stack_at k ps) _
-          (late_settled v here.clock (told_members told children) ended exc _ (stack_at k ps).scopes t le)
+          late_finish fs v (by_table k) outcomes here (stack_at k ps) _
+          (late_settled v here.clock (outcome_members outcomes children) ended exc _ (stack_at k ps).scopes t le)
   late_rest (at_end u e) fs ps h l le = cc
 
   -- and what any task has left happens then or later
   pub timed_rest : (s : Stopped) (fs : List Frame) (ps : List Place) → PlacedStop s fs ps →
-      (live s ≡ true → v ≤ goes_on here.clock told s (stack_at k ps) t.at) → Timed v
-      (rest_comes_to (by_table k) told (record { stopped = s; frames = fs }) here (stack_at k ps) t).log
+      (live s ≡ true → v ≤ goes_on here.clock outcomes s (stack_at k ps) t.at) → Timed v
+      (rest_comes_to (by_table k) outcomes (record { stopped = s; frames = fs }) here (stack_at k ps) t).log
   timed_rest to_begin fs ps h le = (late_rest to_begin fs ps h refl (le refl)).timed
   timed_rest (asking kernel purpose) fs ps h le = (late_rest (asking kernel purpose) fs ps h refl (le refl)).timed
   timed_rest (asleep paced n since) fs ps h le = (late_rest (asleep paced n since) fs ps h refl (le refl)).timed
@@ -394,11 +394,11 @@ module _ (k : Table) (told : ChildOutcomes) (here : Here) (t : Now) (v : ℕ) wh
   timed_rest (at_end u e) fs ps h le = tt
 
 -- a child's end is no later than that of its nursery
-pub latest_in : (told : ChildOutcomes) (u : ℕ) (is : List ℕ) (i : ℕ) → IsAmong i is → (told i).end ≤ latest u (told_members told is)
-latest_in told u [] i h = absurd h
-latest_in told u (j ∷ is) i (inl e) =
-    let q : (told i).end ≡ (told j).end = ap (λ (z : ℕ). (told z).end) e in
-    let z : max u (told j).end ≤ latest (max u (told j).end) (told_members told is) =
-    latest_ends (max u (told j).end) (told_members told is) in
+pub latest_in : (outcomes : ChildOutcomes) (u : ℕ) (is : List ℕ) (i : ℕ) → IsAmong i is → (outcomes i).end ≤ latest u (outcome_members outcomes is)
+latest_in outcomes u [] i h = absurd h
+latest_in outcomes u (j ∷ is) i (inl e) =
+    let q : (outcomes i).end ≡ (outcomes j).end = ap (λ (z : ℕ). (outcomes z).end) e in
+    let z : max u (outcomes j).end ≤ latest (max u (outcomes j).end) (outcome_members outcomes is) =
+    latest_ends (max u (outcomes j).end) (outcome_members outcomes is) in
     omega arith
-latest_in told u (j ∷ is) i (inr h) = latest_in told (max u (told j).end) is i h
+latest_in outcomes u (j ∷ is) i (inr h) = latest_in outcomes (max u (outcomes j).end) is i h

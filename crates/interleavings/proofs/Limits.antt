@@ -7,25 +7,25 @@ use Rattle.job_meaning.specs.Rest.{Event, noted, signs, enters, starts, ChildOut
 use Rattle.turn_semantics.specs.Midway.{stack_at}
 use Rattle.interleavings.specs.Interleaving.{Started, StartsChild, Kid, Parent, RunInvariant, live, AllFrom, Unended, Settling, StaysUntil, Blocked}
 use Rattle.interleavings.specs.Laws.{HasNextTurn, GoesOn}
-use Rattle.interleavings.proofs.Agreement.{told_tells, ends_at}
+use Rattle.interleavings.proofs.Agreement.{outcomes_tell, ends_at}
 use Rattle.interleavings.proofs.Ends.{Inside, inside_first}
 
 -- a child that was started ends by the end of its starter
-inside_child : (e : ℕ) (told : ChildOutcomes) (i : ℕ) (es : List Event) → Inside e (fill told es) → StartsChild i es → ((told i).end ≤ e)
-    × Inside (told i).end (told i).log
-inside_child e told i [] h s = absurd s
-inside_child e told i (noted t x ∷ es) h s = inside_child e told i es h s
-inside_child e told i (signs l t ∷ es) h s = inside_child e told i es h s
-inside_child e told i (enters l t d ∷ es) h s = inside_child e told i es h s
-inside_child e told i (starts j l t ∷ es) h (inl p) =
-    subst (λ (n : ℕ). ((told n).end ≤ e) × Inside (told n).end (told n).log) (sym p) (h.0, h.1)
-inside_child e told i (starts j l t ∷ es) h (inr s) = inside_child e told i es h.2 s
+inside_child : (e : ℕ) (outcomes : ChildOutcomes) (i : ℕ) (es : List Event) → Inside e (fill outcomes es) → StartsChild i es → ((outcomes i).end ≤ e)
+    × Inside (outcomes i).end (outcomes i).log
+inside_child e outcomes i [] h s = absurd s
+inside_child e outcomes i (noted t x ∷ es) h s = inside_child e outcomes i es h s
+inside_child e outcomes i (signs l t ∷ es) h s = inside_child e outcomes i es h s
+inside_child e outcomes i (enters l t d ∷ es) h s = inside_child e outcomes i es h s
+inside_child e outcomes i (starts j l t ∷ es) h (inl p) =
+    subst (λ (n : ℕ). ((outcomes n).end ≤ e) × Inside (outcomes n).end (outcomes n).log) (sym p) (h.0, h.1)
+inside_child e outcomes i (starts j l t ∷ es) h (inr s) = inside_child e outcomes i es h.2 s
 
 module _ (k f : Table) (whole : Result) (qs : List Started) (o : RunInvariant k f whole qs) where
   -- what a task did is first in the log of its whole result
-  log_of : (q : Started) → IsAmong q qs → followed_by (fill q.told q.made)
-      (rest_comes_to (by_table k) q.told q.rest q.here (stack_at k q.places) q.stop).log ≡ q.final_result.log
-  log_of q i = ap (λ (r : Result). r.log) ((o.fits q i).comes q.told (told_tells q))
+  log_of : (q : Started) → IsAmong q qs → followed_by (fill q.outcomes q.made)
+      (rest_comes_to (by_table k) q.outcomes q.rest q.here (stack_at k q.places) q.stop).log ≡ q.final_result.log
+  log_of q i = ap (λ (r : Result). r.log) ((o.fits q i).comes q.outcomes (outcomes_tell q))
 
   -- each task ends by the end of the whole, where each of the whole's does
   pub ends_by_whole : Inside whole.end whole.log → (n : ℕ) (q : Started) → IsAmong q qs → q.serial < n → (q.final_result.end ≤ whole.end)
@@ -37,13 +37,13 @@ module _ (k f : Table) (whole : Result) (qs : List Started) (o : RunInvariant k 
       of_starter : (p : Parent qs q) → (p.starter.final_result.end ≤ whole.end) × Inside p.starter.final_result.end p.starter.final_result.log →
           (q.final_result.end ≤ whole.end) × Inside q.final_result.end q.final_result.log
       of_starter p s =
-          let a : Inside p.starter.final_result.end (fill p.starter.told p.starter.made) =
-          inside_first p.starter.final_result.end (fill p.starter.told p.starter.made) _
+          let a : Inside p.starter.final_result.end (fill p.starter.outcomes p.starter.made) =
+          inside_first p.starter.final_result.end (fill p.starter.outcomes p.starter.made) _
           (subst (λ (x : Log). Inside p.starter.final_result.end x) (sym (log_of p.starter p.among)) s.1) in
-          let b = inside_child p.starter.final_result.end p.starter.told p.number p.starter.made a p.started in
-          let c : (p.starter.told p.number).end ≤ p.starter.final_result.end = b.0 in
+          let b = inside_child p.starter.final_result.end p.starter.outcomes p.number p.starter.made a p.started in
+          let c : (p.starter.outcomes p.number).end ≤ p.starter.final_result.end = b.0 in
           let d : p.starter.final_result.end ≤ whole.end = s.0 in
-          let e : q.final_result.end ≡ (p.starter.told p.number).end = ap (λ (r : Result). r.end) p.same in
+          let e : q.final_result.end ≡ (p.starter.outcomes p.number).end = ap (λ (r : Result). r.end) p.same in
           (omega arith, subst (λ (r : Result). Inside r.end r.log) (sym p.same) b.1)
 
       by_parent : (q.final_result ≡ whole) ⊎ Parent qs q → ((p : Parent qs q) → (p.starter.final_result.end ≤ whole.end)

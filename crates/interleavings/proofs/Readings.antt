@@ -215,13 +215,13 @@ entered_second l d (entered m t x rest) b h = inr (entered_second l d rest b h)
 entered_second l d (task m s u e own rest) b h = inr (entered_second l d rest b h)
 
 -- what is entered among events is entered in their log
-pub enters_fill : (told : ChildOutcomes) (l : Label) (d : Tick) (es : List Event) → EntersWith l d es → EnteredIn l d (fill told es)
-enters_fill told l d [] h = absurd h
-enters_fill told l d (noted t e ∷ es) h = enters_fill told l d es h
-enters_fill told l d (signs m t ∷ es) h = enters_fill told l d es h
-enters_fill told l d (enters m t x ∷ es) (inl e) = inl e
-enters_fill told l d (enters m t x ∷ es) (inr h) = inr (enters_fill told l d es h)
-enters_fill told l d (starts i m t ∷ es) h = inr (enters_fill told l d es h)
+pub enters_fill : (outcomes : ChildOutcomes) (l : Label) (d : Tick) (es : List Event) → EntersWith l d es → EnteredIn l d (fill outcomes es)
+enters_fill outcomes l d [] h = absurd h
+enters_fill outcomes l d (noted t e ∷ es) h = enters_fill outcomes l d es h
+enters_fill outcomes l d (signs m t ∷ es) h = enters_fill outcomes l d es h
+enters_fill outcomes l d (enters m t x ∷ es) (inl e) = inl e
+enters_fill outcomes l d (enters m t x ∷ es) (inr h) = inr (enters_fill outcomes l d es h)
+enters_fill outcomes l d (starts i m t ∷ es) h = inr (enters_fill outcomes l d es h)
 
 -- ---- all tasks
 

@@ -356,7 +356,7 @@ module _ (k f : Table) (job : Tree) (input : List ℕ) (settled : IsSettled k jo
         some l same lt g = moment_below l.from since h (λ x. from_below l.label (sym same ∙ x)) g
 
     by_stop : (own : List Label) (wake : Wake) (s : Stopped) → StopBelow n q.stop.at s →
-        WakesBy k q.told q.here q.stop (record { at = t; own = own }) wake s q.places →
+        WakesBy k q.outcomes q.here q.stop (record { at = t; own = own }) wake s q.places →
         MayWake f qs (record { at = t; own = own }) q wake s → round_of t ≤ n
     by_stop own begins to_begin b w h = subst (λ (v : Now). round_of v.at ≤ n) h b
     by_stop own begins (asking kernel purpose) b w h = absurd h
@@ -413,7 +413,7 @@ module _ (k f : Table) (job : Tree) (input : List ℕ) (settled : IsSettled k jo
         MayWake f qs (record { at = t; own = own }) q wake q.rest.stopped → round_of t ≤ n
     woken_below own wake fits h =
         by_stop own wake q.rest.stopped (all q i).stop
-        (woken k f (root_result k job input) qs o t from q i own wake fits h q.told (λ j lt. refl)) h
+        (woken k f (root_result k job input) qs o t from q i own wake fits h q.outcomes (λ j lt. refl)) h
 
 -- ---- a run
 

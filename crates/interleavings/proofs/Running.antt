@@ -9,12 +9,12 @@ use Rattle.job_meaning.specs.Moments.{clock_of, tick_of, a_round_after, Now, onl
 use Rattle.job_meaning.specs.declared.clock.Clock.{Clock}
 use Rattle.job_meaning.specs.declared.clock.Clock.TheVariants.{ByTicks as by_ticks, ByRounds as by_rounds}
 use Rattle.job_meaning.specs.Walk.{no_stack, by_table}
-use Rattle.job_meaning.specs.Meaning.{root_here, records_of, root_log, all_entered, froms_by, meaning, meaning_table}
+use Rattle.job_meaning.specs.Meaning.{root_here, records_of, root_log, all_entered, cancelled_from_by, meaning, meaning_table}
 use Rattle.job_meaning.specs.Follow.{follow, IsSettled}
 use Rattle.job_meaning.specs.Rest.{ChildOutcomes, Stopped, to_begin, asking, asleep, waiting_for, giving_up, awaiting, at_end, rest_weight, rest_at_start}
 use Rattle.job_meaning.proofs.Settled.{following_is_meaning, table_is_settled}
 use Rattle.turn_semantics.specs.Midway.{Begun, Move, OwnFits}
-use Rattle.turn_semantics.specs.Steps.{froms_after}
+use Rattle.turn_semantics.specs.Steps.{cancelled_from_after}
 use Rattle.turn_semantics.specs.Wakes.{Wake, begins, sees, gives_up, is_due, has_answer, settles, WakesBy}
 use Rattle.turn_semantics.specs.Turned.{weight_of_begun, TurnsOver}
 use Rattle.turn_semantics.proofs.Events.{own_fits, none_fits}
@@ -30,7 +30,7 @@ use Rattle.interleavings.proofs.Picking.{SameTasks, front_same, interleaving_mov
 use Rattle.interleavings.proofs.Waking.{woken}
 use Rattle.interleavings.proofs.Turning.{interleaving_turned, from_turned}
 use Rattle.interleavings.proofs.Beginning.{opens, opens_from}
-use Rattle.interleavings.proofs.Ending.{records_over, froms_of_over, ends_over}
+use Rattle.interleavings.proofs.Ending.{records_over, cancelled_from_of_over, ends_over}
 use Rattle.interleavings.proofs.Ends.{Inside, ends_by_root}
 use Rattle.interleavings.proofs.Limits.{has_next, not_before}
 
@@ -133,7 +133,7 @@ all_own_fit k job input f t m qs (jump g v u n qs' r le blocked) x i = all_own_f
 kept_turn : (k f : Table) (whole : Result) (now : Now) (m : ℕ) (q : Started) (qs others : List Started) (wake : Wake) (o : Move) (s : Stopped) →
     Kept k f whole now.at m qs → AllOwnFit qs → Front q qs others → MayWake f (q ∷ others) now q wake q.rest.stopped →
     TurnsOver q.stop now q.here f wake q.rest q.places q.count o → o.stopped ≡ Some s →
-    Kept k (froms_after f o.made) whole now.at (m + length o.begun)
+    Kept k (cancelled_from_after f o.made) whole now.at (m + length o.begun)
     ((task_after_turn k now m q o s ∷ children_from k (a_round_after q.here.clock now.at) m o.begun) ++ others)
 kept_turn k f whole now m q qs others wake o s h owns at may w e = record {
   interleaving = interleaving_turned k f whole q others interleaving now from m small wake o s w e come;
@@ -153,7 +153,7 @@ kept_turn k f whole now m q qs others wake o s h owns at may w e = record {
     small : (x : Started) → IsAmong x (q ∷ others) → x.serial < m
     small x i = h.small x (same.back x i)
 
-    come : (told : ChildOutcomes) → Tells q told → WakesBy k told q.here q.stop now wake q.rest.stopped q.places
+    come : (outcomes : ChildOutcomes) → Tells q outcomes → WakesBy k outcomes q.here q.stop now wake q.rest.stopped q.places
     come = woken k f whole (q ∷ others) interleaving now.at from q (inl refl) now.own wake (owns q (same.back q (inl refl))) may
 
     small_after : (x : Started) →
@@ -218,8 +218,8 @@ runs_are_the_meaning job input names nurseries f t m qs r rows rowed a b taken d
     let e : follow k job input ≡ meaning job input = following_is_meaning job input names in (
       records_over k f whole qs h.interleaving clock rows rowed job a (b ∙ sym (first_tick clock)) taken d
           ∙ ap (λ (v : Result). records_of clock (root_log job v)) e,
-      froms_of_over k f whole qs h.interleaving clock rows rowed job taken d
-          ∙ ap (λ (v : Result). froms_by k (all_entered (root_log job v))) e,
+      cancelled_from_of_over k f whole qs h.interleaving clock rows rowed job taken d
+          ∙ ap (λ (v : Result). cancelled_from_by k (all_entered (root_log job v))) e,
       ends_over k f whole qs h.interleaving clock rows rowed ∙ ap (λ (v : Result). tick_of clock v.end) e,
     )
 

@@ -9,23 +9,23 @@ use Rattle.job_meaning.specs.Log.{Log, Result, least_sign, from_by, times_entere
 use Rattle.job_meaning.specs.Moments.{a_round_after, wakes_at, Now, only_at}
 use Rattle.job_meaning.specs.Walk.{event_on, latest}
 use Rattle.job_meaning.specs.Before.{upto}
-use Rattle.job_meaning.specs.Rest.{Event, ChildOutcomes, fill, told_members, Stopped, to_begin, asking, asleep, waiting_for, giving_up, awaiting, at_end, noted, signs, enters, starts}
+use Rattle.job_meaning.specs.Rest.{Event, ChildOutcomes, fill, outcome_members, Stopped, to_begin, asking, asleep, waiting_for, giving_up, awaiting, at_end, noted, signs, enters, starts}
 use Rattle.job_meaning.proofs.MomentLemmas.{round_after, wakes_after}
 use Rattle.job_meaning.proofs.Clips.{upto_most}
 use Rattle.job_meaning.proofs.Late.{late_awaiting, latest_ends}
 use Rattle.turn_semantics.specs.Midway.{Place, stack_at, Begun, Move, begun_comes_to}
-use Rattle.turn_semantics.specs.Steps.{froms_after}
+use Rattle.turn_semantics.specs.Steps.{cancelled_from_after}
 use Rattle.turn_semantics.specs.Placed.{PlacedStop}
 use Rattle.turn_semantics.specs.Wakes.{Wake, WakesBy}
-use Rattle.turn_semantics.specs.Turned.{AgreesOn, AgreesIn, AllTold, labels_of, AllKnown, known_after, Starts, BegunIn, made_sign, EntersIn, StopsAt, TurnsOver}
-use Rattle.turn_semantics.proofs.Froms.{unsigned}
+use Rattle.turn_semantics.specs.Turned.{AgreesOn, AgreesIn, AreOutcomes, labels_of, AllKnown, known_after, Starts, BegunIn, made_sign, EntersIn, StopsAt, TurnsOver}
+use Rattle.turn_semantics.proofs.CancelledFrom.{unsigned}
 use Rattle.interleavings.specs.Interleaving.{Started, Tells, Fits, times_made, made_least, all_least, made_times, all_times, EnteredIn, EntersWith, StartsChild, Kid, HasFrom, Parent, Entered, EachPlace, Root, RunInvariant, slept, goes_on, resumes, AllFrom}
-use Rattle.interleavings.specs.Going.{told_new, children_from, child_from, task_after_turn}
+use Rattle.interleavings.specs.Going.{outcomes_with, children_from, child_from, task_after_turn}
 use Rattle.interleavings.proofs.Readings.{in_first, in_second, in_either, enters_first, enters_second, enters_either, starts_either, enters_counted, enters_times, entered_first, entered_second, enters_fill, made_low, all_least_join, all_times_join, made_few, made_counted, first_join, times_join}
 use Rattle.interleavings.proofs.Contract.{NumberedFrom, numbers_of, OldOrNew, known_of, each_known, lowered_from, opened_from, placed_stop, stops_at}
 use Rattle.interleavings.proofs.Lateness.{slept_after}
 use Rattle.interleavings.proofs.Agreement.{agrees_on, agrees_in}
-use Rattle.interleavings.proofs.Commit.{old_told, first_told, later_told, tells_begun, tells_itself, left_is, fits_turned, least_turned, times_turned, fits_begun, fill_entered}
+use Rattle.interleavings.proofs.Commit.{outcome_of_old, outcome_of_first, outcome_of_later, tells_begun, tells_itself, left_is, fits_turned, least_turned, times_turned, fits_begun, fill_entered}
 
 -- ---- the new children
 
@@ -87,61 +87,61 @@ unfolding child_from
 later_child count child m i h = ap (λ (b : Bool). if b then child i else (m + (i - count))) (le-ltb i count h)
 
 -- the number of a new child, which was started and whose whole result is recorded
-record NewChild (k : Table) (t m : ℕ) (bs : List Begun) (es : List Event) (told : ChildOutcomes) (x : Started) : Type 0 where
+record NewChild (k : Table) (t m : ℕ) (bs : List Begun) (es : List Event) (outcomes : ChildOutcomes) (x : Started) : Type 0 where
   number : ℕ
   started : StartsChild number es
   serial : m ≤ x.serial
-  same : x.final_result ≡ told number
+  same : x.final_result ≡ outcomes number
 
-new_child : (k : Table) (t : ℕ) (told : ChildOutcomes) (n m : ℕ) (es : List Event) (bs : List Begun) → Starts n es bs → AllTold t k told bs →
-    (x : Started) → IsAmong x (children_from k t m bs) → NewChild k t m bs es told x
+new_child : (k : Table) (t : ℕ) (outcomes : ChildOutcomes) (n m : ℕ) (es : List Event) (bs : List Begun) → Starts n es bs → AreOutcomes t k outcomes bs →
+    (x : Started) → IsAmong x (children_from k t m bs) → NewChild k t m bs es outcomes x
 unfolding children_from
-new_child k t told n m [] [] a b x i = absurd i
-new_child k t told n m [] (c ∷ bs) a b x i = absurd a
-new_child k t told n m (noted u e ∷ es) bs a b x i =
-    let r : NewChild k t m bs es told x = new_child k t told n m es bs a b x i in
+new_child k t outcomes n m [] [] a b x i = absurd i
+new_child k t outcomes n m [] (c ∷ bs) a b x i = absurd a
+new_child k t outcomes n m (noted u e ∷ es) bs a b x i =
+    let r : NewChild k t m bs es outcomes x = new_child k t outcomes n m es bs a b x i in
     record { number = r.number; started = r.started; serial = r.serial; same = r.same }
-new_child k t told n m (signs l u ∷ es) bs a b x i =
-    let r : NewChild k t m bs es told x = new_child k t told n m es bs a b x i in
+new_child k t outcomes n m (signs l u ∷ es) bs a b x i =
+    let r : NewChild k t m bs es outcomes x = new_child k t outcomes n m es bs a b x i in
     record { number = r.number; started = r.started; serial = r.serial; same = r.same }
-new_child k t told n m (enters l u d ∷ es) bs a b x i =
-    let r : NewChild k t m bs es told x = new_child k t told n m es bs a b x i in
+new_child k t outcomes n m (enters l u d ∷ es) bs a b x i =
+    let r : NewChild k t m bs es outcomes x = new_child k t outcomes n m es bs a b x i in
     record { number = r.number; started = r.started; serial = r.serial; same = r.same }
-new_child k t told n m (starts j l u ∷ es) [] a b x i = absurd a
-new_child k t told n m (starts j l u ∷ es) (c ∷ bs) a b x (inl e) =
+new_child k t outcomes n m (starts j l u ∷ es) [] a b x i = absurd a
+new_child k t outcomes n m (starts j l u ∷ es) (c ∷ bs) a b x (inl e) =
     let z : x.serial ≡ m = ap (λ (v : Started). v.serial) e in
     let final_result : x.final_result ≡ begun_comes_to k t c = ap (λ (v : Started). v.final_result) e in
-    record { number = j; started = inl refl; serial = omega arith; same = final_result ∙ sym (ap told (a.0 ∙ sym a.1) ∙ b.0) }
-new_child k t told n m (starts j l u ∷ es) (c ∷ bs) a b x (inr i) =
-    let r : NewChild k t (suc m) bs es told x = new_child k t told (suc n) (suc m) es bs a.3 b.1 x i in
+    record { number = j; started = inl refl; serial = omega arith; same = final_result ∙ sym (ap outcomes (a.0 ∙ sym a.1) ∙ b.0) }
+new_child k t outcomes n m (starts j l u ∷ es) (c ∷ bs) a b x (inr i) =
+    let r : NewChild k t (suc m) bs es outcomes x = new_child k t outcomes (suc n) (suc m) es bs a.3 b.1 x i in
     let z : suc m ≤ x.serial = r.serial in
     record { number = r.number; started = inr r.started; serial = omega arith; same = r.same }
 
 -- the task of a new child's number
-record NewKid (k : Table) (t : ℕ) (told : ChildOutcomes) (n m : ℕ) (bs : List Begun) (i : ℕ) : Type 0 where
+record NewKid (k : Table) (t : ℕ) (outcomes : ChildOutcomes) (n m : ℕ) (bs : List Begun) (i : ℕ) : Type 0 where
   kid : Started
   among : IsAmong kid (children_from k t m bs)
   serial : kid.serial ≡ m + (i - n)
-  same : kid.final_result ≡ told_new k t told bs i
+  same : kid.final_result ≡ outcomes_with k t outcomes bs i
 
-new_kid : (k : Table) (t : ℕ) (told : ChildOutcomes) (n m : ℕ) (bs : List Begun) → NumberedFrom n bs → (i : ℕ) → n ≤ i → i < n + length bs →
-    NewKid k t told n m bs i
+new_kid : (k : Table) (t : ℕ) (outcomes : ChildOutcomes) (n m : ℕ) (bs : List Begun) → NumberedFrom n bs → (i : ℕ) → n ≤ i → i < n + length bs →
+    NewKid k t outcomes n m bs i
 unfolding children_from
-new_kid k t told n m [] p i h j = absurd (omega arith)
-new_kid k t told n m (b ∷ bs) p i h j = by_case (split i n h) (λ g. new_kid k t told (suc n) (suc m) bs p.1 i g (omega arith))
+new_kid k t outcomes n m [] p i h j = absurd (omega arith)
+new_kid k t outcomes n m (b ∷ bs) p i h j = by_case (split i n h) (λ g. new_kid k t outcomes (suc n) (suc m) bs p.1 i g (omega arith))
   where
     split : (i n : ℕ) → n ≤ i → (i ≡ n) ⊎ (suc n ≤ i)
     split i n h = grind arith
 
-    by_case : (i ≡ n) ⊎ (suc n ≤ i) → (suc n ≤ i → NewKid k t told (suc n) (suc m) bs i) → NewKid k t told n m (b ∷ bs) i
+    by_case : (i ≡ n) ⊎ (suc n ≤ i) → (suc n ≤ i → NewKid k t outcomes (suc n) (suc m) bs i) → NewKid k t outcomes n m (b ∷ bs) i
     by_case (inl g) more =
         let z : b.number ≡ n = p.0 in
-        record { kid = _; among = inl refl; serial = omega arith; same = sym (first_told k t told b bs i (omega arith)) }
+        record { kid = _; among = inl refl; serial = omega arith; same = sym (outcome_of_first k t outcomes b bs i (omega arith)) }
     by_case (inr g) more =
         let z : b.number ≡ n = p.0 in
-        let x : NewKid k t told (suc n) (suc m) bs i = more g in
+        let x : NewKid k t outcomes (suc n) (suc m) bs i = more g in
         let y : x.kid.serial ≡ suc m + (i - suc n) = x.serial in
-        record { kid = x.kid; among = inr x.among; serial = omega arith; same = x.same ∙ sym (later_told k t told b bs i (omega arith)) }
+        record { kid = x.kid; among = inr x.among; serial = omega arith; same = x.same ∙ sym (outcome_of_later k t outcomes b bs i (omega arith)) }
 
 -- ---- the run
 
@@ -149,14 +149,14 @@ module _ (k f : Table) (whole : Result) (q : Started) (ys : List Started) (inter
     (now : Now) (from : AllFrom k (q ∷ ys) now.at) (m : ℕ) (small : (x : Started) → IsAmong x (q ∷ ys) → x.serial < m)
     (wake : Wake) (o : Move) (s : Stopped)
     (w : TurnsOver q.stop now q.here f wake q.rest q.places q.count o) (stopped : o.stopped ≡ Some s)
-    (come : (told : ChildOutcomes) → Tells q told → WakesBy k told q.here q.stop now wake q.rest.stopped q.places) where
+    (come : (outcomes : ChildOutcomes) → Tells q outcomes → WakesBy k outcomes q.here q.stop now wake q.rest.stopped q.places) where
   -- the moment in which the new children begin
   abbrev next : ℕ
   next = a_round_after q.here.clock now.at
 
-  -- the froms after the turn
+  -- the moments of cancellation after the turn
   abbrev g : Table
-  g = froms_after f o.made
+  g = cancelled_from_after f o.made
 
   abbrev q' : Started
   q' = task_after_turn k now m q o s
@@ -259,13 +259,13 @@ module _ (k f : Table) (whole : Result) (q : Started) (ys : List Started) (inter
       not_entered b i = let z : 1 ≤ times_made l o.made = enters_counted l o.made i in absurd (omega arith)
 
   abbrev d' : ChildOutcomes
-  d' = q'.told
+  d' = q'.outcomes
 
   rest_is : q.left ≡ followed_by (fill d' o.made) q'.left
   rest_is = left_is k f now m wake q o s w stopped fit near deadlines come d'
       (tells_itself k f now m wake q o s w stopped fit near deadlines come)
 
-  all_begun : AllTold next k d' o.begun
+  all_begun : AreOutcomes next k d' o.begun
   all_begun = tells_begun k f now m wake q o s w stopped fit near deadlines come d'
       (tells_itself k f now m wake q o s w stopped fit near deadlines come)
 
@@ -313,8 +313,8 @@ module _ (k f : Table) (whole : Result) (q : Started) (ys : List Started) (inter
   old_kid : (i : ℕ) → i < q.count → Kid after_turn q' i
   old_kid i h = go (interleaving.kids q (inl refl) i h)
     where
-      same : q.told i ≡ q'.told i
-      same = sym (old_told k next q.told q.count o.begun numbers i h)
+      same : q.outcomes i ≡ q'.outcomes i
+      same = sym (outcome_of_old k next q.outcomes q.count o.begun numbers i h)
 
       place : (c : Started) → q.serial < c.serial → IsAmong c (q ∷ ys) → IsAmong c after_turn
       place c l (inl e) = let z : c.serial ≡ q.serial = ap (λ (v : Started). v.serial) e in absurd (omega arith)
@@ -332,7 +332,7 @@ module _ (k f : Table) (whole : Result) (q : Started) (ys : List Started) (inter
 
   later_kid : (i : ℕ) → q.count ≤ i → i < q.count + length o.begun → Kid after_turn q' i
   later_kid i h j =
-      let c : NewKid k next q.told q.count m o.begun i = new_kid k next q.told q.count m o.begun numbers i h j in
+      let c : NewKid k next q.outcomes q.count m o.begun i = new_kid k next q.outcomes q.count m o.begun numbers i h j in
       let y : c.kid.serial ≡ m + (i - q.count) = c.serial in
       let v : q.serial < m = small q (inl refl) in
       record {
@@ -354,7 +354,7 @@ module _ (k f : Table) (whole : Result) (q : Started) (ys : List Started) (inter
   kids_other : (x : Started) → IsAmong x ys → (i : ℕ) → i < x.count → Kid after_turn x i
   kids_other x j i h = go (interleaving.kids x (inr j) i h)
     where
-      go_in : (c : Started) → c.serial ≡ x.child i → x.serial < c.serial → c.final_result ≡ x.told i → IsAmong c (q ∷ ys) → Kid after_turn x i
+      go_in : (c : Started) → c.serial ≡ x.child i → x.serial < c.serial → c.final_result ≡ x.outcomes i → IsAmong c (q ∷ ys) → Kid after_turn x i
       go_in c n l e (inl z) =
           record {
             kid = q';
@@ -398,7 +398,7 @@ module _ (k f : Table) (whole : Result) (q : Started) (ys : List Started) (inter
   parent_old : (x : Started) → Parent (q ∷ ys) x → Parent after_turn x
   parent_old x p = by_task p.starter p.among p.earlier p.started p.same
     where
-      by_task : (z : Started) → IsAmong z (q ∷ ys) → z.serial < x.serial → StartsChild p.number z.made → x.final_result ≡ z.told p.number →
+      by_task : (z : Started) → IsAmong z (q ∷ ys) → z.serial < x.serial → StartsChild p.number z.made → x.final_result ≡ z.outcomes p.number →
           Parent after_turn x
       by_task z (inl e) l h s =
           let h' : StartsChild p.number q.made = subst (λ (v : Started). StartsChild p.number v.made) e h in
@@ -408,8 +408,8 @@ module _ (k f : Table) (whole : Result) (q : Started) (ys : List Started) (inter
             earlier = subst (λ (v : Started). v.serial < x.serial) e l;
             number = p.number;
             started = starts_first p.number q.made o.made h';
-            same = s ∙ (ap (λ (v : Started). v.told p.number) e
-                ∙ sym (old_told k next q.told q.count o.begun numbers p.number (interleaving.numbered q (inl refl) p.number h')));
+            same = s ∙ (ap (λ (v : Started). v.outcomes p.number) e
+                ∙ sym (outcome_of_old k next q.outcomes q.count o.begun numbers p.number (interleaving.numbered q (inl refl) p.number h')));
           }
       by_task z (inr j) l h s = record {
         starter = z;
@@ -460,7 +460,7 @@ module _ (k f : Table) (whole : Result) (q : Started) (ys : List Started) (inter
       by_place (inl z) = inr (of_new (new_child k next d' q.count m o.made o.begun w.starts all_begun x z))
       by_place (inr z) = root_or_old x (interleaving.parents x (inr z))
 
-  -- ---- froms
+  -- ---- moments of cancellation
 
   -- of a label that was entered before
   has_from_old : (l : Label) (d : Tick) → 1 ≤ made_times l (q ∷ ys) → HasFrom k f whole.log (q ∷ ys) l d →
@@ -604,9 +604,9 @@ module _ (k f : Table) (whole : Result) (q : Started) (ys : List Started) (inter
   from_stop (giving_up since) c = let e : since ≡ now.at = c in omega arith
   from_stop (awaiting children ended exc) c =
       let e : ended ≡ now.at = c in
-      let z : ended ≤ latest ended (told_members d' children) = latest_ends ended (told_members d' children) in
-      let r : latest ended (told_members d' children) ≤ a_round_after q.here.clock (latest ended (told_members d' children)) =
-      round_after q.here.clock (latest ended (told_members d' children)) in
+      let z : ended ≤ latest ended (outcome_members d' children) = latest_ends ended (outcome_members d' children) in
+      let r : latest ended (outcome_members d' children) ≤ a_round_after q.here.clock (latest ended (outcome_members d' children)) =
+      round_after q.here.clock (latest ended (outcome_members d' children)) in
       omega arith
   from_stop (at_end u e) c = let z : u ≡ now.at = c in omega arith
 

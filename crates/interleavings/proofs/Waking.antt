@@ -9,7 +9,7 @@ use Rattle.job_meaning.specs.Moments.{wakes_at, Now}
 use Rattle.job_meaning.specs.declared.clock.Clock.{Clock}
 use Rattle.job_meaning.specs.Walk.{event_on}
 use Rattle.job_meaning.specs.Before.{Near}
-use Rattle.job_meaning.specs.Rest.{ChildOutcomes, told_members, Stopped, to_begin, asking, asleep, waiting_for, giving_up, awaiting, at_end}
+use Rattle.job_meaning.specs.Rest.{ChildOutcomes, outcome_members, Stopped, to_begin, asking, asleep, waiting_for, giving_up, awaiting, at_end}
 use Rattle.job_meaning.proofs.Clips.{seen_near, event_near}
 use Rattle.turn_semantics.specs.Midway.{label_among, stack_at, OwnFits}
 use Rattle.turn_semantics.specs.Placed.{IsSome, PlacedStop}
@@ -18,7 +18,7 @@ use Rattle.interleavings.specs.Interleaving.{Started, Tells, RunInvariant, live,
 use Rattle.interleavings.specs.Woken.{WaitIsOver, SeesNow, IsOver, MayWake}
 use Rattle.interleavings.proofs.Contract.{near_places}
 use Rattle.interleavings.proofs.Lateness.{slept_sees, awaited_sees, awaited_goes, event_there, ends_near}
-use Rattle.interleavings.proofs.Agreement.{agrees_on, told_ended}
+use Rattle.interleavings.proofs.Agreement.{agrees_on, outcomes_ended}
 
 -- whether a task that waits for an event may see a cancellation now, or its wait is over, is the same for two moments of the set that
 -- are the same as far as now
@@ -33,7 +33,7 @@ over_alike clock x y since t a b e f (inr h) = inr (omega arith, omega arith)
 
 module _ (k f : Table) (whole : Result) (qs : List Started) (o : RunInvariant k f whole qs) (t : ℕ) (from : AllFrom k qs t) (q : Started)
     (i : IsAmong q qs) where
-  -- what is seen is the same by the table and by the froms that are kept
+  -- what is seen is the same by the table and by the moments of cancellation that are kept
   near : Near (suc t) (stack_at k q.places) (stack_at f q.places)
   near = near_places t k f q.places (agrees_on k f whole qs o t from q.places (o.placed q i))
 
@@ -45,15 +45,15 @@ module _ (k f : Table) (whole : Result) (qs : List Started) (o : RunInvariant k 
       min (suc t) (ends_at q.here.clock k event since q.places) ≡ min (suc t) (ends_at q.here.clock f event since q.places)
   same_set event since = ends_near (suc t) q.here.clock _ _ since (event_near (suc t) event _ _ near.1)
 
-  over_gives : (children : List ℕ) (ended : ℕ) (e x : Option Exc) → WaitIsOver qs q t children ended e x → (told : ChildOutcomes) → Tells q told →
-      SettlesAt q.here.clock t x (told_members told children) ended e q.places
-  over_gives children ended e x h told tells =
+  over_gives : (children : List ℕ) (ended : ℕ) (e x : Option Exc) → WaitIsOver qs q t children ended e x → (outcomes : ChildOutcomes) → Tells q outcomes →
+      SettlesAt q.here.clock t x (outcome_members outcomes children) ended e q.places
+  over_gives children ended e x h outcomes tells =
       subst (λ (ms : List Member). SettlesAt q.here.clock t x ms ended e q.places)
-      (sym (told_ended k f whole qs o q i told tells h.ends children h.numbers h.over)) h.settled
+      (sym (outcomes_ended k f whole qs o q i outcomes tells h.ends children h.numbers h.over)) h.settled
 
   -- a wait for an event sees a cancellation, or is over, as the table says
   wait_seen : (event : List ℕ) (since : ℕ) → IsSome (label_among true event q.places) →
-      t ≤ goes_on q.here.clock q.told (waiting_for event since) (stack_at k q.places) q.stop.at →
+      t ≤ goes_on q.here.clock q.outcomes (waiting_for event since) (stack_at k q.places) q.stop.at →
       SeesNow q.here.clock (ends_at q.here.clock f event since q.places) since t → seen (stack_at f q.places).scopes t ≡ true →
       SeesWaiting q.here.clock (ends_at q.here.clock k event since q.places) since t (stack_at k q.places)
   wait_seen event since there late may e =
@@ -61,72 +61,72 @@ module _ (k f : Table) (whole : Result) (qs : List Started) (o : RunInvariant k 
       (sees_alike q.here.clock _ _ since t (sym (same_set event since)) may) (same_seen ∙ e) (omega arith)
 
   wait_over : (event : List ℕ) (since : ℕ) → IsSome (label_among true event q.places) →
-      t ≤ goes_on q.here.clock q.told (waiting_for event since) (stack_at k q.places) q.stop.at →
+      t ≤ goes_on q.here.clock q.outcomes (waiting_for event since) (stack_at k q.places) q.stop.at →
       IsOver q.here.clock (ends_at q.here.clock f event since q.places) since t (seen (stack_at f q.places).scopes t) →
       GoesOnWaiting q.here.clock (ends_at q.here.clock k event since q.places) since t (stack_at k q.places)
   wait_over event since there late may =
       awaited_goes q.here.clock (stack_at k q.places) (event_on event (stack_at k q.places).events) since t (event_there k event q.places there)
       (over_alike q.here.clock _ _ since t _ _ (sym (same_set event since)) same_seen may) (omega arith)
 
-  by_stop : (own : List Label) (wake : Wake) (s : Stopped) → PlacedStop s q.rest.frames q.places → (told : ChildOutcomes) → Tells q told →
-      (live s ≡ true → t ≤ goes_on q.here.clock q.told s (stack_at k q.places) q.stop.at) → OwnFits q.here.clock q.stop.own →
+  by_stop : (own : List Label) (wake : Wake) (s : Stopped) → PlacedStop s q.rest.frames q.places → (outcomes : ChildOutcomes) → Tells q outcomes →
+      (live s ≡ true → t ≤ goes_on q.here.clock q.outcomes s (stack_at k q.places) q.stop.at) → OwnFits q.here.clock q.stop.own →
       MayWake f qs (record { at = t; own = own }) q wake s →
-      WakesBy k told q.here q.stop (record { at = t; own = own }) wake s q.places
-  by_stop own begins to_begin place told tells late fits h = (h, subst (λ (v : Now). OwnFits q.here.clock v.own) h fits)
-  by_stop own begins (asking kernel purpose) place told tells late fits h = absurd h
-  by_stop own begins (asleep paced n since) place told tells late fits h = absurd h
-  by_stop own begins (waiting_for event since) place told tells late fits h = absurd h
-  by_stop own begins (giving_up since) place told tells late fits h = absurd h
-  by_stop own begins (awaiting children ended e) place told tells late fits h = absurd h
-  by_stop own begins (at_end u e) place told tells late fits h = absurd h
-  by_stop own (has_answer a) to_begin place told tells late fits h = absurd h
-  by_stop own (has_answer a) (asking kernel purpose) place told tells late fits h =
+      WakesBy k outcomes q.here q.stop (record { at = t; own = own }) wake s q.places
+  by_stop own begins to_begin place outcomes tells late fits h = (h, subst (λ (v : Now). OwnFits q.here.clock v.own) h fits)
+  by_stop own begins (asking kernel purpose) place outcomes tells late fits h = absurd h
+  by_stop own begins (asleep paced n since) place outcomes tells late fits h = absurd h
+  by_stop own begins (waiting_for event since) place outcomes tells late fits h = absurd h
+  by_stop own begins (giving_up since) place outcomes tells late fits h = absurd h
+  by_stop own begins (awaiting children ended e) place outcomes tells late fits h = absurd h
+  by_stop own begins (at_end u e) place outcomes tells late fits h = absurd h
+  by_stop own (has_answer a) to_begin place outcomes tells late fits h = absurd h
+  by_stop own (has_answer a) (asking kernel purpose) place outcomes tells late fits h =
       (h.0, h.1, subst (λ (v : Now). OwnFits q.here.clock v.own) h.0 fits)
-  by_stop own (has_answer a) (asleep paced n since) place told tells late fits h = absurd h
-  by_stop own (has_answer a) (waiting_for event since) place told tells late fits h = absurd h
-  by_stop own (has_answer a) (giving_up since) place told tells late fits h = absurd h
-  by_stop own (has_answer a) (awaiting children ended e) place told tells late fits h = absurd h
-  by_stop own (has_answer a) (at_end u e) place told tells late fits h = absurd h
-  by_stop own is_due to_begin place told tells late fits h = absurd h
-  by_stop own is_due (asking kernel purpose) place told tells late fits h = absurd h
-  by_stop own is_due (asleep paced n since) place told tells late fits h = (h.0, same_seen ∙ h.1, h.2)
-  by_stop own is_due (waiting_for event since) place told tells late fits h =
+  by_stop own (has_answer a) (asleep paced n since) place outcomes tells late fits h = absurd h
+  by_stop own (has_answer a) (waiting_for event since) place outcomes tells late fits h = absurd h
+  by_stop own (has_answer a) (giving_up since) place outcomes tells late fits h = absurd h
+  by_stop own (has_answer a) (awaiting children ended e) place outcomes tells late fits h = absurd h
+  by_stop own (has_answer a) (at_end u e) place outcomes tells late fits h = absurd h
+  by_stop own is_due to_begin place outcomes tells late fits h = absurd h
+  by_stop own is_due (asking kernel purpose) place outcomes tells late fits h = absurd h
+  by_stop own is_due (asleep paced n since) place outcomes tells late fits h = (h.0, same_seen ∙ h.1, h.2)
+  by_stop own is_due (waiting_for event since) place outcomes tells late fits h =
       (wait_over event since place.0 (late refl) h.0, h.1)
-  by_stop own is_due (giving_up since) place told tells late fits h = absurd h
-  by_stop own is_due (awaiting children ended e) place told tells late fits h = absurd h
-  by_stop own is_due (at_end u e) place told tells late fits h = absurd h
-  by_stop own sees to_begin place told tells late fits h = absurd h
-  by_stop own sees (asking kernel purpose) place told tells late fits h = absurd h
-  by_stop own sees (asleep paced n since) place told tells late fits h =
+  by_stop own is_due (giving_up since) place outcomes tells late fits h = absurd h
+  by_stop own is_due (awaiting children ended e) place outcomes tells late fits h = absurd h
+  by_stop own is_due (at_end u e) place outcomes tells late fits h = absurd h
+  by_stop own sees to_begin place outcomes tells late fits h = absurd h
+  by_stop own sees (asking kernel purpose) place outcomes tells late fits h = absurd h
+  by_stop own sees (asleep paced n since) place outcomes tells late fits h =
       let z : t ≤ min (slept q.here.clock paced (stack_at k q.places) n since).end (wakes_at q.here.clock n since) = late refl in (
         h.0,
         omega arith,
         slept_sees q.here.clock paced (stack_at k q.places) n since t h.0 (same_seen ∙ h.1) (omega arith) (omega arith),
         h.2,
       )
-  by_stop own sees (waiting_for event since) place told tells late fits h =
+  by_stop own sees (waiting_for event since) place outcomes tells late fits h =
       (wait_seen event since place.0 (late refl) h.0 h.1, h.2)
-  by_stop own sees (giving_up since) place told tells late fits h = absurd h
-  by_stop own sees (awaiting children ended e) place told tells late fits h = absurd h
-  by_stop own sees (at_end u e) place told tells late fits h = absurd h
-  by_stop own gives_up to_begin place told tells late fits h = absurd h
-  by_stop own gives_up (asking kernel purpose) place told tells late fits h = absurd h
-  by_stop own gives_up (asleep paced n since) place told tells late fits h = absurd h
-  by_stop own gives_up (waiting_for event since) place told tells late fits h = absurd h
-  by_stop own gives_up (giving_up since) place told tells late fits h = h
-  by_stop own gives_up (awaiting children ended e) place told tells late fits h = absurd h
-  by_stop own gives_up (at_end u e) place told tells late fits h = absurd h
-  by_stop own (settles x) to_begin place told tells late fits h = absurd h
-  by_stop own (settles x) (asking kernel purpose) place told tells late fits h = absurd h
-  by_stop own (settles x) (asleep paced n since) place told tells late fits h = absurd h
-  by_stop own (settles x) (waiting_for event since) place told tells late fits h = absurd h
-  by_stop own (settles x) (giving_up since) place told tells late fits h = absurd h
-  by_stop own (settles x) (awaiting children ended e) place told tells late fits h = (over_gives children ended e x h.0 told tells, h.1)
-  by_stop own (settles x) (at_end u e) place told tells late fits h = absurd h
+  by_stop own sees (giving_up since) place outcomes tells late fits h = absurd h
+  by_stop own sees (awaiting children ended e) place outcomes tells late fits h = absurd h
+  by_stop own sees (at_end u e) place outcomes tells late fits h = absurd h
+  by_stop own gives_up to_begin place outcomes tells late fits h = absurd h
+  by_stop own gives_up (asking kernel purpose) place outcomes tells late fits h = absurd h
+  by_stop own gives_up (asleep paced n since) place outcomes tells late fits h = absurd h
+  by_stop own gives_up (waiting_for event since) place outcomes tells late fits h = absurd h
+  by_stop own gives_up (giving_up since) place outcomes tells late fits h = h
+  by_stop own gives_up (awaiting children ended e) place outcomes tells late fits h = absurd h
+  by_stop own gives_up (at_end u e) place outcomes tells late fits h = absurd h
+  by_stop own (settles x) to_begin place outcomes tells late fits h = absurd h
+  by_stop own (settles x) (asking kernel purpose) place outcomes tells late fits h = absurd h
+  by_stop own (settles x) (asleep paced n since) place outcomes tells late fits h = absurd h
+  by_stop own (settles x) (waiting_for event since) place outcomes tells late fits h = absurd h
+  by_stop own (settles x) (giving_up since) place outcomes tells late fits h = absurd h
+  by_stop own (settles x) (awaiting children ended e) place outcomes tells late fits h = (over_gives children ended e x h.0 outcomes tells, h.1)
+  by_stop own (settles x) (at_end u e) place outcomes tells late fits h = absurd h
 
   -- A task that may be woken so wakes so according to the table, whatever is recorded except of its children. What it has
   -- cancelled itself in the moment of its last stop has to fit its clock.
   pub woken : (own : List Label) (wake : Wake) → OwnFits q.here.clock q.stop.own →
-      MayWake f qs (record { at = t; own = own }) q wake q.rest.stopped → (told : ChildOutcomes) → Tells q told →
-      WakesBy k told q.here q.stop (record { at = t; own = own }) wake q.rest.stopped q.places
-  woken own wake fits h told tells = by_stop own wake q.rest.stopped (o.shape q i) told tells (from q i) fits h
+      MayWake f qs (record { at = t; own = own }) q wake q.rest.stopped → (outcomes : ChildOutcomes) → Tells q outcomes →
+      WakesBy k outcomes q.here q.stop (record { at = t; own = own }) wake q.rest.stopped q.places
+  woken own wake fits h outcomes tells = by_stop own wake q.rest.stopped (o.shape q i) outcomes tells (from q i) fits h

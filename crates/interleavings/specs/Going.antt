@@ -8,7 +8,7 @@ use Rattle.job_meaning.specs.Walk.{by_table}
 use Rattle.job_meaning.specs.Meaning.{root_here}
 use Rattle.job_meaning.specs.Follow.{follow}
 use Rattle.job_meaning.specs.Rest.{ChildOutcomes, Stopped, Rest, rest_comes_to, rest_at_start}
-use Rattle.turn_semantics.specs.Midway.{stack_at, Begun, Move, now_after, none_told, begun_comes_to}
+use Rattle.turn_semantics.specs.Midway.{stack_at, Begun, Move, now_after, no_outcomes, begun_comes_to}
 use Rattle.interleavings.specs.Interleaving.{Started}
 
 -- The result of the root: that of following a table, where what the root has cancelled itself in the moment of its end does
@@ -28,15 +28,15 @@ root_task k job input =
       made = [];
       count = 0;
       child = (λ i. 0);
-      told = none_told;
+      outcomes = no_outcomes;
       final_result = root_result k job input;
       left = (root_result k job input).log;
     }
 
 -- a record of outcomes, with the results of following the table for the children that begin in moment t
-unfoldable pub told_new : Table → ℕ → ChildOutcomes → List Begun → ChildOutcomes
-told_new k t told [] i = told i
-told_new k t told (b ∷ bs) i = if i == b.number then begun_comes_to k t b else told_new k t told bs i
+unfoldable pub outcomes_with : Table → ℕ → ChildOutcomes → List Begun → ChildOutcomes
+outcomes_with k t outcomes [] i = outcomes i
+outcomes_with k t outcomes (b ∷ bs) i = if i == b.number then begun_comes_to k t b else outcomes_with k t outcomes bs i
 
 -- the children that begin in moment t as started tasks, with serial numbers from m on
 unfoldable pub children_from : Table → ℕ → ℕ → List Begun → List Started
@@ -51,7 +51,7 @@ children_from k t m (b ∷ bs) =
       made = [];
       count = 0;
       child = (λ i. 0);
-      told = none_told;
+      outcomes = no_outcomes;
       final_result = begun_comes_to k t b;
       left = (begun_comes_to k t b).log;
     } ∷ children_from k t (suc m) bs
@@ -63,7 +63,7 @@ child_from count child m i = if nat_lt i count then child i else (m + (i - count
 -- the task after a turn in this moment that stopped so, where new serial numbers start at m
 abbrev pub task_after_turn : Table → Now → ℕ → Started → Move → Stopped → Started
 task_after_turn k now m q o s =
-    let told = told_new k (a_round_after q.here.clock now.at) q.told o.begun in
+    let outcomes = outcomes_with k (a_round_after q.here.clock now.at) q.outcomes o.begun in
     let rest : Rest = record { stopped = s; frames = o.frames } in
     let stop = now_after q.here.clock now o.made in
     record {
@@ -75,7 +75,7 @@ task_after_turn k now m q o s =
       made = q.made ++ o.made;
       count = q.count + length o.begun;
       child = child_from q.count q.child m;
-      told = told;
+      outcomes = outcomes;
       final_result = q.final_result;
-      left = (rest_comes_to (by_table k) told rest q.here (stack_at k o.places) stop).log;
+      left = (rest_comes_to (by_table k) outcomes rest q.here (stack_at k o.places) stop).log;
     }

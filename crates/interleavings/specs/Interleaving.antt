@@ -10,7 +10,7 @@ use Rattle.job_meaning.specs.Moments.{a_round_after, wakes_at, Now, only_at}
 use Rattle.job_meaning.specs.declared.clock.Clock.{Clock}
 use Rattle.job_meaning.specs.Walk.{Stack, Here, by_table, sleep_result, pace_result, event_on, event_wait, latest}
 use Rattle.job_meaning.specs.Before.{upto}
-use Rattle.job_meaning.specs.Rest.{Event, noted, signs, enters, starts, ChildOutcomes, told_members, Stopped, to_begin, asking, asleep, waiting_for, giving_up, awaiting, at_end, Rest, rest_comes_to, task_comes_to}
+use Rattle.job_meaning.specs.Rest.{Event, noted, signs, enters, starts, ChildOutcomes, outcome_members, Stopped, to_begin, asking, asleep, waiting_for, giving_up, awaiting, at_end, Rest, rest_comes_to, task_comes_to}
 use Rattle.turn_semantics.specs.Midway.{Place, stack_at}
 use Rattle.turn_semantics.specs.Placed.{PlacedStop}
 use Rattle.turn_semantics.specs.Wakes.{set_at, ends_at}
@@ -32,18 +32,18 @@ pub record Started : Type 0 where
   pub made : List Event
   pub count : ℕ
   pub child : ℕ → ℕ
-  pub told : ChildOutcomes
+  pub outcomes : ChildOutcomes
   pub final_result : Result
   pub left : Log
 
 -- another record of outcomes says the same of the children that a task has started
 abbrev pub Tells : Started → ChildOutcomes → Type 0
-Tells q told = (i : ℕ) → i < q.count → told i ≡ q.told i
+Tells q outcomes = (i : ℕ) → i < q.count → outcomes i ≡ q.outcomes i
 
 -- what a task has done and the result of its rest when the table is followed are together its whole result
 pub record Fits (k : Table) (q : Started) : Type 0 where
-  pub comes : (told : ChildOutcomes) → Tells q told → task_comes_to (by_table k) told q.made q.rest q.here (stack_at k q.places) q.stop ≡ q.final_result
-  pub lefts : (told : ChildOutcomes) → Tells q told → (rest_comes_to (by_table k) told q.rest q.here (stack_at k q.places) q.stop).log ≡ q.left
+  pub comes : (outcomes : ChildOutcomes) → Tells q outcomes → task_comes_to (by_table k) outcomes q.made q.rest q.here (stack_at k q.places) q.stop ≡ q.final_result
+  pub lefts : (outcomes : ChildOutcomes) → Tells q outcomes → (rest_comes_to (by_table k) outcomes q.rest q.here (stack_at k q.places) q.stop).log ≡ q.left
 
 -- ---- sums over what all tasks have done and what all have left
 
@@ -100,7 +100,7 @@ pub record Kid (qs : List Started) (q : Started) (i : ℕ) : Type 0 where
   pub among : IsAmong kid qs
   pub serial : kid.serial ≡ q.child i
   pub later : q.serial < kid.serial
-  pub same : kid.final_result ≡ q.told i
+  pub same : kid.final_result ≡ q.outcomes i
 
 -- The from of a label that was entered with deadline d. In the table it is determined by the deadline and the first of
 -- all signs; in the run by the deadline and the first of the signs made so far.
@@ -133,10 +133,10 @@ pub record Parent (qs : List Started) (q : Started) : Type 0 where
   pub earlier : starter.serial < q.serial
   pub number : ℕ
   pub started : StartsChild number starter.made
-  pub same : q.final_result ≡ starter.told number
+  pub same : q.final_result ≡ starter.outcomes number
 
--- An interleaving that agrees with a table: k is the table that is followed, f contains the froms that the run keeps,
--- `whole` is the result of following k, and qs are all tasks ever started.
+-- An interleaving that agrees with a table: k is the table that is followed, f contains the moments of cancellation that the run
+-- keeps, `whole` is the result of following k, and qs are all tasks ever started.
 pub record RunInvariant (k f : Table) (whole : Result) (qs : List Started) : Type 0 where
   -- what each task has done and what it has left are its whole result
   pub fits : (q : Started) → IsAmong q qs → Fits k q
@@ -155,7 +155,7 @@ pub record RunInvariant (k f : Table) (whole : Result) (qs : List Started) : Typ
   pub made : (c : ℕ) (l : Label) → made_times l qs ≡ 0 → made_least c l qs ≡ c
   -- the table has the from of each label that is left to enter
   pub follows : (q : Started) → IsAmong q qs → (l : Label) (d : Tick) → EnteredIn l d q.left → k l ≡ from_by d (least_sign l whole.log)
-  -- the table and the run have the froms of each label that was entered
+  -- the table and the run have the moments of cancellation of each label that was entered
   pub known : (q : Started) → IsAmong q qs → (l : Label) (d : Tick) → EntersWith l d q.made → HasFrom k f whole.log qs l d
   -- each scope and nursery that encloses a task was entered
   pub placed : (q : Started) → IsAmong q qs → EachPlace (Entered qs) q.places
@@ -175,18 +175,18 @@ slept clock true st n since = pace_result clock st n since
 
 -- the moment in which a task that stopped in moment t has its next turn
 abbrev pub goes_on : Clock → ChildOutcomes → Stopped → Stack → ℕ → ℕ
-goes_on clock told to_begin st t = t
-goes_on clock told (asking kernel purpose) st t = t
-goes_on clock told (asleep paced n since) st t = min (slept clock paced st n since).end (wakes_at clock n since)
-goes_on clock told (waiting_for event since) st t =
+goes_on clock outcomes to_begin st t = t
+goes_on clock outcomes (asking kernel purpose) st t = t
+goes_on clock outcomes (asleep paced n since) st t = min (slept clock paced st n since).end (wakes_at clock n since)
+goes_on clock outcomes (waiting_for event since) st t =
     min (event_wait clock st (event_on event st.events) (only_at since)).end (max (a_round_after clock since) (set_at clock (event_on event st.events) since))
-goes_on clock told (giving_up since) st t = suc since
-goes_on clock told (awaiting children ended exc) st t = a_round_after clock (latest ended (told_members told children))
-goes_on clock told (at_end u e) st t = u
+goes_on clock outcomes (giving_up since) st t = suc since
+goes_on clock outcomes (awaiting children ended exc) st t = a_round_after clock (latest ended (outcome_members outcomes children))
+goes_on clock outcomes (at_end u e) st t = u
 
 -- the moment in which a started task has its next turn, according to a table
 abbrev pub resumes : Table → Started → ℕ
-resumes k q = goes_on q.here.clock q.told q.rest.stopped (stack_at k q.places) q.stop.at
+resumes k q = goes_on q.here.clock q.outcomes q.rest.stopped (stack_at k q.places) q.stop.at
 
 -- nothing that was not done yet happens before moment v
 abbrev pub AllFrom : Table → List Started → ℕ → Type 0

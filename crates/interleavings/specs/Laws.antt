@@ -8,7 +8,7 @@ use Rattle.job_tree.specs.Starting.{StartsInNurseries}
 use Rattle.job_meaning.specs.Log.{Table}
 use Rattle.job_meaning.specs.Moments.{clock_of, rounds_in_a_tick, tick_of, a_round_after}
 use Rattle.job_meaning.specs.declared.clock.Clock.TheVariants.{ByRounds as by_rounds}
-use Rattle.job_meaning.specs.Meaning.{root_label, meaning_records, meaning_froms, meaning_end, meaning_table}
+use Rattle.job_meaning.specs.Meaning.{root_label, meaning_records, meaning_cancelled_from, meaning_end, meaning_table}
 use Rattle.job_meaning.specs.Follow.{IsSettled}
 use Rattle.job_meaning.specs.Rest.{Stopped, to_begin, asking, asleep, waiting_for, giving_up, awaiting, at_end}
 use Rattle.turn_semantics.specs.Midway.{Place}
@@ -17,7 +17,7 @@ use Rattle.turn_semantics.specs.Turned.{AgreesOn, labels_of, EntersIn}
 use Rattle.interleavings.specs.Interleaving.{Started, EachPlace, RunInvariant, live, AllFrom, Blocked, Settling}
 use Rattle.interleavings.specs.Going.{root_result}
 use Rattle.interleavings.specs.Runs.{Reached, turns_taken, all_weights}
-use Rattle.interleavings.specs.Rows.{Row, HasRow, records_by, froms_in, DepthFirst}
+use Rattle.interleavings.specs.Rows.{Row, HasRow, records_by, cancelled_from_in, DepthFirst}
 
 -- Each turn reduces the weight, so a run has at most as many turns as the initial weight of the root, which is twice the
 -- job's size plus one.
@@ -81,23 +81,23 @@ LastToLeave =
     (f : Table) (t m : ℕ) (qs : List Started) → Reached k job input f t m qs → (l : Label) (q : Started) → IsAmong q qs → EntersIn l q.made →
     (x : Started) → IsAmong x qs → live x.rest.stopped ≡ true → IsAmong l (labels_of x.places) → IsAmong l (labels_of q.places)
 
--- For each settled table a run agrees with it: nothing that was not done yet happens before the moment, and the
--- table agrees there with the froms that the run keeps, for the scopes and nurseries that enclose each task. The result of the
--- root is that of following the table, but for what it has cancelled itself in the moment of its end.
+-- For each settled table a run agrees with it: nothing that was not done yet happens before the moment, and the table agrees
+-- there with the moments of cancellation that the run keeps, for the scopes and nurseries that enclose each task. The result of
+-- the root is that of following the table, but for what it has cancelled itself in the moment of its end.
 abbrev pub RunsKeepInvariant : Type 0
 RunsKeepInvariant =
     (k : Table) (job : Tree) (input : List ℕ) → IsSettled k job input → GivesNamesOnce job → StartsInNurseries job →
     (f : Table) (t m : ℕ) (qs : List Started) → Reached k job input f t m qs →
     RunInvariant k f (root_result k job input) qs × AllFrom k qs t × ((q : Started) → IsAmong q qs → AgreesOn t k f q.places)
 
--- a run in which all tasks have ended has what the job means: its records, its froms and its end
+-- a run in which all tasks have ended has what the job means: its records, its moments of cancellation and its end
 abbrev pub RunsAreTheMeaning : Type 0
 RunsAreTheMeaning =
     (job : Tree) (input : List ℕ) → GivesNamesOnce job → StartsInNurseries job →
     (f : Table) (t m : ℕ) (qs : List Started) → Reached (meaning_table job input) job input f t m qs →
     (rows : ℕ → Row) → ((q : Started) → IsAmong q qs → HasRow (clock_of job.format) f rows q) → (rows 0).label ≡ root_label job.name → (rows 0).start ≡ 0 →
     (taken : List ℕ) → DepthFirst rows (0 ∷ []) taken →
-    (records_by rows taken ≡ meaning_records job input) × (froms_in rows taken ≡ meaning_froms job input)
+    (records_by rows taken ≡ meaning_records job input) × (cancelled_from_in rows taken ≡ meaning_cancelled_from job input)
     × ((rows 0).end ≡ meaning_end job input)
 
 -- a task waits for no child that has not ended, and has not ended itself

@@ -5,29 +5,29 @@ use Rattle.job_meaning.specs.Log.{Table}
 use Rattle.job_meaning.specs.Moments.{a_round_after, Now}
 use Rattle.job_meaning.specs.Rest.{Stopped, rest_weight}
 use Rattle.turn_semantics.specs.Midway.{Move}
-use Rattle.turn_semantics.specs.Steps.{froms_after}
+use Rattle.turn_semantics.specs.Steps.{cancelled_from_after}
 use Rattle.turn_semantics.specs.Wakes.{Wake}
 use Rattle.turn_semantics.specs.Turned.{TurnsOver}
 use Rattle.interleavings.specs.Interleaving.{Started, Blocked}
 use Rattle.interleavings.specs.Going.{root_task, children_from, task_after_turn}
 use Rattle.interleavings.specs.Woken.{MayWake}
 
--- the same tasks, with one of them moved to the front
+-- a list of tasks, split into one of them and the others in their order
 pub data Front : Started → List Started → List Started → Type 0 where
   is_front : (q : Started) (qs : List Started) → Front q (q ∷ qs) qs
   after_one : (q x : Started) (qs others : List Started) → Front q qs others → Front q (x ∷ qs) (x ∷ others)
 
--- A run of a job: the froms that it keeps, the moment, the number of tasks started, and these tasks. It begins with the
--- root. One task that may be woken has its turn, which is any turn that keeps the promise and comes to a stop. Or the
--- clock jumps, if no task is ready. The table only determines what is recorded of the tasks' outcomes. No step requires
--- anything of it, so a program can show a run for every table at once, by what it keeps alone.
+-- A run of a job: the moments of cancellation that it keeps, the moment, the number of tasks started, and these tasks. It begins
+-- with the root. One task that may be woken has its turn, which is any turn that keeps the promise and comes to a stop. Or the
+-- clock jumps, if no task is ready. The table only determines what is recorded of the tasks' outcomes. No step requires anything
+-- of it, so a program can show a run for every table at once, by what it keeps alone.
 pub data Reached (k : Table) (job : Tree) (input : List ℕ) : Table → ℕ → ℕ → List Started → Type 0 where
   begun : (f : Table) → Reached k job input f 0 1 (root_task k job input ∷ [])
   turn :
       (f : Table) (now : Now) (m : ℕ) (q : Started) (qs others : List Started) (wake : Wake) (o : Move) (s : Stopped) →
       Reached k job input f now.at m qs → Front q qs others → MayWake f (q ∷ others) now q wake q.rest.stopped →
       TurnsOver q.stop now q.here f wake q.rest q.places q.count o → o.stopped ≡ Some s →
-      Reached k job input (froms_after f o.made) now.at (m + length o.begun)
+      Reached k job input (cancelled_from_after f o.made) now.at (m + length o.begun)
       ((task_after_turn k now m q o s ∷ children_from k (a_round_after q.here.clock now.at) m o.begun) ++ others)
   jump : (f : Table) (t u m : ℕ) (qs : List Started) → Reached k job input f t m qs → t ≤ u → Blocked f qs u → Reached k job input f u m qs
 

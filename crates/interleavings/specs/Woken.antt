@@ -1,4 +1,4 @@
--- When a runner may wake a task, by the froms that the runner keeps and the ends of the task's children.
+-- When a runner may wake a task, by the moments of cancellation that the runner keeps and the ends of the task's children.
 use Rattle.std.specs.Prelude.{◌≡◌, ◌⊎◌, Bool, true, false, ℕ, suc, ◌<◌, ◌≤◌, Option, List, []}
 use Rattle.turn_semantics.specs.Lists.{IsAmong}
 use Rattle.exceptions.specs.Exceptions.{Exc}

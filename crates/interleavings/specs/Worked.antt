@@ -12,7 +12,7 @@ use Rattle.job_meaning.specs.Meaning.{Record, root_here}
 use Rattle.job_meaning.specs.Rest.{Event, Rest, rest_at_start, Stopped, to_begin, asking, asleep, waiting_for, giving_up, awaiting, at_end}
 use Rattle.job_meaning.specs.Examples.{block_of, job_of, scope_of, shielded_scope, nursery_of, start_of, label_named, raised_by, group_by, scope_caught, scope_passed, nursery_passed, record_of, main_ran, run_of}
 use Rattle.turn_semantics.specs.Midway.{Place, Begun, Move}
-use Rattle.turn_semantics.specs.Steps.{step_of, turn_of, froms_after}
+use Rattle.turn_semantics.specs.Steps.{step_of, turn_of, cancelled_from_after}
 use Rattle.turn_semantics.specs.Wakes.{Wake, begins, is_due, settles, turn_from}
 use Rattle.interleavings.specs.Rows.{entries_made}
 
@@ -25,9 +25,9 @@ pub record Kept : Type 0 where
   pub count : ℕ
   pub since : ℕ
 
--- and of a run: the froms, and the tasks by serial number
+-- and of a run: the moments of cancellation, and the tasks by serial number
 pub record World : Type 0 where
-  pub froms : Table
+  pub cancelled_from : Table
   pub tasks : List Kept
 
 abbrev pub stopped_or : Option Stopped → Stopped
@@ -52,15 +52,15 @@ kept_begun t (b ∷ bs) =
 
 -- the turn of a task in tick t, of at most 20 steps
 abbrev pub goes_of : Table → ℕ → Wake → Kept → Move
-goes_of froms t w q = turn_from 20 froms (only_at t) q.here w q.rest.stopped q.rest.frames q.places q.count
+goes_of cancelled_from t w q = turn_from 20 cancelled_from (only_at t) q.here w q.rest.stopped q.rest.frames q.places q.count
 
 -- the task with that serial number has its turn; those before it are skipped
 abbrev pub turn_in : Table → ℕ → Wake → ℕ → List Kept → List Kept → World
-turn_in froms t w n before [] = record { froms = froms; tasks = before }
-turn_in froms t w zero before (q ∷ qs) =
-    let o = goes_of froms t w q in
-    record { froms = froms_after froms o.made; tasks = before ++ kept_after q o ∷ (qs ++ kept_begun t o.begun) }
-turn_in froms t w (suc n) before (q ∷ qs) = turn_in froms t w n (before ++ q ∷ []) qs
+turn_in cancelled_from t w n before [] = record { cancelled_from = cancelled_from; tasks = before }
+turn_in cancelled_from t w zero before (q ∷ qs) =
+    let o = goes_of cancelled_from t w q in
+    record { cancelled_from = cancelled_from_after cancelled_from o.made; tasks = before ++ kept_after q o ∷ (qs ++ kept_begun t o.begun) }
+turn_in cancelled_from t w (suc n) before (q ∷ qs) = turn_in cancelled_from t w n (before ++ q ∷ []) qs
 
 -- one turn of a run: its tick, the serial number of the task, and why it continues
 pub record Pick : Type 0 where
@@ -74,7 +74,7 @@ at t n w = record { tick = t; serial = n; wake = w }
 -- a run by these turns
 abbrev pub after_picks : World → List Pick → World
 after_picks world [] = world
-after_picks world (p ∷ ps) = after_picks (turn_in world.froms p.tick p.wake p.serial [] world.tasks) ps
+after_picks world (p ∷ ps) = after_picks (turn_in world.cancelled_from p.tick p.wake p.serial [] world.tasks) ps
 
 abbrev pub end_kept : Stopped → ℕ
 end_kept to_begin = 0
@@ -122,7 +122,7 @@ run_by picks =
       count = 0;
       since = 0;
     } in
-    after_picks (record { froms = (λ l. None); tasks = root ∷ [] }) picks
+    after_picks (record { cancelled_from = (λ l. None); tasks = root ∷ [] }) picks
 
 -- the tasks that are ready together have their turns in the order of their starts
 abbrev pub in_order : List Pick
@@ -168,15 +168,15 @@ pub by_meaning : run_of three_tasks [] ≡ three_records
 unfolding run_of
 by_meaning = refl
 
--- and both keep the same froms: the scope was cancelled by a, the nursery by c
-abbrev pub froms_of_both : World → List Tick
-froms_of_both world = world.froms (label_named (codes "o")) ∷ world.froms (label_named (codes "n")) ∷ world.froms (label_named (codes "g"))
+-- and both keep the same moments of cancellation: the scope was cancelled by a, the nursery by c
+abbrev pub cancelled_from_of_both : World → List Tick
+cancelled_from_of_both world = world.cancelled_from (label_named (codes "o")) ∷ world.cancelled_from (label_named (codes "n")) ∷ world.cancelled_from (label_named (codes "g"))
     ∷ []
 
-pub froms_forwards : froms_of_both (run_by in_order) ≡ Some 2 ∷ Some 2 ∷ None ∷ []
+pub cancelled_from_forwards : cancelled_from_of_both (run_by in_order) ≡ Some 2 ∷ Some 2 ∷ None ∷ []
 unfolding run_by
-froms_forwards = refl
+cancelled_from_forwards = refl
 
-pub froms_backwards : froms_of_both (run_by in_reverse) ≡ Some 2 ∷ Some 2 ∷ None ∷ []
+pub cancelled_from_backwards : cancelled_from_of_both (run_by in_reverse) ≡ Some 2 ∷ Some 2 ∷ None ∷ []
 unfolding run_by
-froms_backwards = refl
+cancelled_from_backwards = refl

@@ -13,13 +13,13 @@ ghost use Rattle.interleavings.specs.Laws.{
 };
 
 /// For each settled table, every run in turns agrees with the table (`RunInvariant`), whatever the order in which tasks have
-/// their turns: nothing that was not done yet happens before the present moment, and the table agrees there with the froms
-/// that the run keeps. When all tasks have ended, the records, the froms and the end that are read from their rows are
-/// those of the meaning. While a task has not ended, the job does not end before the present tick; and if no task is ready,
-/// one has a next turn. A run takes at most twice as many turns as the job has steps (including those of children) plus one. A task
-/// that has not ended is the root, or is in an unsettled nursery of the task that started it; and the task that leaves a
-/// scope or nursery is the last one in it. Where a tick has rounds, no task has a turn in a round that is greater than the number of
-/// turns so far: so no round overflows into the next tick.
+/// their turns: nothing that was not done yet happens before the present moment, and the table agrees there with the moments of
+/// cancellation that the run keeps. When all tasks have ended, the records, the moments of cancellation and the end that are read
+/// from their rows are those of the meaning. While a task has not ended, the job does not end before the present tick; and if no
+/// task is ready, one has a next turn. A run takes at most twice as many turns as the job has steps (including those of children)
+/// plus one. A task that has not ended is the root, or is in an unsettled nursery of the task that started it; and the task that
+/// leaves a scope or nursery is the last one in it. Where a tick has rounds, no task has a turn in a round that is greater than
+/// the number of turns so far: so no round overflows into the next tick.
 pub fn law_runs()
     ensures interleaving { RunsKeepInvariant }
     ensures meaning { RunsAreTheMeaning }

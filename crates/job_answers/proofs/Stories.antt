@@ -77,11 +77,11 @@ pub events_are : (job : Tree) (input : List ℕ) (limit given : ℕ) (ending : E
     IsEnding job input limit ending → clock ≡ clock_of job.format → table ≡ meaning_table job input → until ≡ until_of ending given →
     given ≡ limit → events ≡ events_of (root_label job.name) (story_by table job input) →
     events_until clock until events ≡ story_events limit job input
-events_are job input limit given ending clock table until events h counts same cut is told =
+events_are job input limit given ending clock table until events h counts same cut is of_story =
     ap (λ (c : Clock). events_until c until events) counts
     ∙ ap (λ (u : Option ℕ). events_until (clock_of job.format) u events) (cut ∙ ap (until_of ending) is)
     ∙ ap (events_until (clock_of job.format) (until_of ending limit))
-    (told ∙ ap (λ (k : Table). events_of (root_label job.name) (story_by k job input)) same)
+    (of_story ∙ ap (λ (k : Table). events_of (root_label job.name) (story_by k job input)) same)
     ∙ events_if job input limit ending h
 
 -- and they are cut off where the meaning ends later than the limit
@@ -116,7 +116,7 @@ none_run job input limit Late lines h e is = absurd (let f : Some limit ≡ None
 pub these_run : (job : Tree) (input : List ℕ) (limit : ℕ) (ending : Ending) (clock : Clock) (table : Table) (shown : List Event) (lines : List ℕ) →
     IsEnding job input limit ending → ending ≡ Late → clock ≡ clock_of job.format → table ≡ meaning_table job input →
     shown ≡ story_events limit job input → lines ≡ running_lines clock table shown → IsJobRunning job input limit lines
-these_run job input limit ending clock table shown lines h e counts same told is =
+these_run job input limit ending clock table shown lines h e counts same of_story is =
     record {
       late = λ (l : limit < meaning_end job input). all (subst (IsEnding job input limit) e h);
       in_time = λ (l : meaning_end job input ≤ limit). absurd (let k = subst (IsEnding job input limit) e h in grind (arith));
@@ -128,7 +128,7 @@ these_run job input limit ending clock table shown lines h e counts same told is
         is ∙ ap (λ (c : Clock). running_lines c table shown) counts
         ∙ ap (λ (t : Table). running_lines (clock_of job.format) t shown) same
         ∙ ap (running_lines (clock_of job.format) (meaning_table job input))
-        (told ∙ ap (λ (b : Bool). story_events_if b limit job input) (gt_test (meaning_end job input) limit k))
+        (of_story ∙ ap (λ (b : Bool). story_events_if b limit job input) (gt_test (meaning_end job input) limit k))
 
 -- ---- which task was asked for
 
@@ -175,24 +175,24 @@ verdict_is job input limit asked Done task bytes h about is = (record { task = t
 verdict_is job input limit asked Raised task bytes h about is = (record { task = task; about = about; story = is }, h)
 verdict_is job input limit asked Late task bytes h about is = (record { task = task; about = about; story = is }, h)
 
-by_told : (job : Tree) (input : List ℕ) (limit : ℕ) (asked : Option (List ℕ)) (ending : Ending) (given : StoryVerdict) (bytes : List ℕ) →
+by_about : (job : Tree) (input : List ℕ) (limit : ℕ) (asked : Option (List ℕ)) (ending : Ending) (given : StoryVerdict) (bytes : List ℕ) →
     IsEnding job input limit ending →
     IsStoryAbout (clock_of job.format) (meaning_table job input) (until_if (nat_le (meaning_end job input) limit) limit) ending asked (story_events limit job input) given bytes →
     IsJobVerdict job input limit asked given bytes
-by_told job input limit asked ending given bytes h (inl t) =
+by_about job input limit asked ending given bytes h (inl t) =
     subst (λ (v : StoryVerdict). IsJobVerdict job input limit asked v bytes) (sym t.2)
     (verdict_is job input limit asked ending t.0 bytes h t.1 (t.3 ∙ story_if_is (nat_le (meaning_end job input) limit) job input limit t.0))
-by_told job input limit asked ending given bytes h (inr t) =
+by_about job input limit asked ending given bytes h (inr t) =
     subst (λ (v : StoryVerdict). IsJobVerdict job input limit asked v bytes) (sym t.2) (t.1, t.3)
 
 -- the verdict and the bytes for a job that was read: those of the story of its meaning
-pub job_told : (job : Tree) (input : List ℕ) (limit : ℕ) (asked : Option (List ℕ)) (ending : Ending) (clock : Clock) (table : Table)
+pub job_explained : (job : Tree) (input : List ℕ) (limit : ℕ) (asked : Option (List ℕ)) (ending : Ending) (clock : Clock) (table : Table)
     (until : Option ℕ) (walked : List Event) (given : StoryVerdict) (bytes : List ℕ) → IsEnding job input limit ending →
     clock ≡ clock_of job.format → table ≡ meaning_table job input → until ≡ until_if (nat_le (meaning_end job input) limit) limit →
     walked ≡ story_events limit job input →
     IsStoryAbout clock table until ending asked walked given bytes → IsJobVerdict job input limit asked given bytes
-job_told job input limit asked ending clock table until walked given bytes h counts same until_is walked_is t =
-    by_told job input limit asked ending given bytes h
+job_explained job input limit asked ending clock table until walked given bytes h counts same until_is walked_is t =
+    by_about job input limit asked ending given bytes h
     (subst (λ (es : List Event). IsStoryAbout (clock_of job.format) (meaning_table job input) (until_if (nat_le (meaning_end job input) limit) limit) ending asked es given bytes) walked_is
     (subst (λ (u : Option ℕ). IsStoryAbout (clock_of job.format) (meaning_table job input) u ending asked walked given bytes) until_is
     (subst (λ (k : Table). IsStoryAbout (clock_of job.format) k until ending asked walked given bytes) same

@@ -20,7 +20,7 @@ pub record IsJobRunning (job : Tree) (input : List ℕ) (limit : ℕ) (lines : L
   pub late : limit < meaning_end job input → lines ≡ running_lines (clock_of job.format) (meaning_table job input) (walked_to (meaning_table job input) limit job input)
   pub in_time : meaning_end job input ≤ limit → lines ≡ []
 
--- the same for the job that a text spells, and nothing where the text is refused
+-- these lines for the job that a text spells, and no lines where the text is refused
 abbrev pub AreRunning : List ℕ → List ℕ → ℕ → List ℕ → Type 0
 AreRunning text input limit lines =
     ((job : Tree) × Spells text job × IsJobRunning job input limit lines)

@@ -24,7 +24,7 @@ abbrev pub whole_story : Tree → List ℕ → Option Label → List ℕ
 whole_story job input None = story_text (meaning_table job input) job input
 whole_story job input (Some task) = story_of_task (meaning_table job input) job input task
 
--- the same up to a limit
+-- the story up to a limit, or the part of it that concerns a task
 abbrev pub front_story : ℕ → Tree → List ℕ → Option Label → List ℕ
 front_story limit job input None = story_to (meaning_table job input) limit job input
 front_story limit job input (Some task) = story_of_task_to (meaning_table job input) limit job input task

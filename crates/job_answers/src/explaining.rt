@@ -12,8 +12,8 @@ use job_runner::{Gate, Pick};
 use std::alloc::{AllocError, Global};
 use std::thread::Threads;
 
-/// Runs a job text over an input, and returns the story of the job's one-thread meaning: what happened to each task, in which tick
-/// and why. If the job ends later than the limit, it is the story up to the limit, with what each task is doing that has not
+/// Runs a job text over an input, and returns the story of the job's one-thread meaning: what happened to each task, in which
+/// tick and why. If the job ends later than the limit, it is the story up to the limit, with what each task is doing that has not
 /// ended. With `task`, the text of a label, it is only what concerns that task: its events, those of each task that caused one of
 /// its cancellations, and so on. If no task has that label, there are no bytes. If the job text is refused, they are the refusal.
 /// The verdict says which of these it is.

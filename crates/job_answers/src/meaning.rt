@@ -2,7 +2,7 @@ ghost use Rattle.std.specs.Prelude.{◌≡◌, ◌≤◌, nat_le, length, map, I
 ghost use Rattle.job_meaning.specs.declared.limits.TheConstants.{MAX_INPUT};
 ghost use Rattle.job_meaning.specs.Meaning.{meaning_end, meaning_table};
 ghost use Rattle.job_runner.specs.Runs.{rows_of};
-ghost use Rattle.job_story.specs.Froms.{table_in};
+ghost use Rattle.job_story.specs.CancelledFrom.{table_in};
 ghost use Rattle.job_meaning.specs.Clocks.{clock_of};
 ghost use Rattle.job_story.specs.Held.{event_of};
 ghost use Rattle.story_index.specs.Seen.{event_in};
@@ -16,7 +16,7 @@ use job_meaning::Clock;
 use job_reader::Job;
 use job_report::Question;
 use job_runner::{Gate, Pick, Run, run_to_end};
-use job_story::{Event, Froms, law_froms_of_meaning, tell};
+use job_story::{CancelledFrom, Event, law_cancelled_from_of_meaning, tell};
 use std::alloc::{AllocError, Global};
 use std::thread::Threads;
 use story_index::events_until;
@@ -53,7 +53,7 @@ pub struct Story {
     /// How its time is counted.
     pub clock: Clock,
     /// The moments from which the scopes and nurseries are cancelled, and the events of the job set.
-    pub table: Froms,
+    pub table: CancelledFrom,
     /// The limit if the job ends later, so that the story is cut off at it, and `None` if it is whole.
     pub until: Option<u64>,
     /// All events of the story in the order of the walk, those after the limit too.
@@ -70,8 +70,8 @@ impl Story {
 }
 
 /// Runs a job, which was read, over the input of a question to its end, and returns the story of its meaning as far as the limit
-/// of the question shows it. The picker, the number of workers and the gate change nothing. The caller must ensure that the input has at most 16,777,216 bytes
-/// (`MAX_INPUT`). Returns `AllocError` if memory runs out.
+/// of the question shows it. The picker, the number of workers and the gate change nothing. The caller must ensure that the input
+/// has at most 16,777,216 bytes (`MAX_INPUT`). Returns `AllocError` if memory runs out.
 pub fn story_of<R: Threads + Sync, P: Pick, G: Gate + Sync>(
     rt: &R,
     alloc: Global,
@@ -109,12 +109,12 @@ fn meaning_of<R: Threads + Sync, P: Pick, G: Gate + Sync>(
     question: &Question<'_>,
     picker: &mut P,
     gate: &G,
-) -> Result<(Ending, Froms), AllocError>
+) -> Result<(Ending, CancelledFrom), AllocError>
     requires { length question.now.input.now ≤ MAX_INPUT }
     ensures ending { IfOk result (λ r. IsEnding job.now question.now.input.now question.now.settings.limit r.0) }
     ensures table { IfOk result (λ r. table_in r.1 ≡ meaning_table job.now question.now.input.now) }
 {
-    law_froms_of_meaning();
+    law_cancelled_from_of_meaning();
     let run = run_to_end(
         rt,
         alloc,

@@ -19,8 +19,8 @@ pub enum ReadFault {
     NoMemory,
 }
 
-/// Returns all bytes of a reader, which may be at most `most`. It makes at most `most + 2` reads.
-/// The errors are `TooLong` if there are more bytes, `Device` if a read failed, and `NoMemory`.
+/// Returns all bytes of a reader, which may be at most `most`. It makes at most `most + 2` reads. The errors are `TooLong` if
+/// there are more bytes, `Device` if a read failed, and `NoMemory`.
 pub fn read_whole<R: Read>(alloc: Global, reader: &mut R, most: usize) -> Result<Vec<u8>, ReadFault>
     ensures whole { IfOk result (λ bytes. IsAllOf (R.remaining reader.old) bytes.items) }
     ensures within { IfOk result (λ bytes. vec_len bytes ≤ most) }

@@ -1,6 +1,6 @@
 ghost use Rattle.std.specs.Prelude.{◌≡◌, ◌≤◌, length, IfOk};
 ghost use Rattle.job_meaning.specs.declared.limits.TheConstants.{MAX_INPUT};
-ghost use Rattle.job_story.specs.Froms.{table_in};
+ghost use Rattle.job_story.specs.CancelledFrom.{table_in};
 ghost use Rattle.job_answers.specs.Running.{running_lines, AreRunning, IsJobRunning};
 ghost use Rattle.job_answers.specs.Tellings.{events_shown};
 

@@ -48,8 +48,8 @@ pub fn serve<R: Threads + Sync, P: Pick, G: Gate + Sync, W: Out>(
     Ok(verdict)
 }
 
-/// Returns what `serve` writes, and its verdict. The only error is that memory runs out. The caller must ensure that the input has
-/// at most `MAX_INPUT` bytes.
+/// Returns what `serve` writes, and its verdict. The only error is that memory runs out. The caller must ensure that the input
+/// has at most `MAX_INPUT` bytes.
 pub fn report_answer<R: Threads + Sync, P: Pick, G: Gate + Sync>(
     rt: &R,
     alloc: Global,

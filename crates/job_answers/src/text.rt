@@ -1,15 +1,15 @@
 ghost use Rattle.std.specs.Prelude.{◌≡◌, map, IfOk};
 ghost use Rattle.job_story.specs.Focus.{concerned_tasks, of_tasks};
-ghost use Rattle.job_story.specs.Froms.{table_in};
+ghost use Rattle.job_story.specs.CancelledFrom.{table_in};
 ghost use Rattle.story_index.specs.Knows.{Knows};
 ghost use Rattle.story_index.specs.Seen.{event_in};
 ghost use Rattle.story_index.specs.Holds.{label_seen};
-ghost use Rattle.story_text.specs.Told.{clock_in, events_in, froms_in};
+ghost use Rattle.story_text.specs.Known.{clock_in, events_in, cancelled_from_in};
 ghost use Rattle.job_answers.specs.Tellings.{story_shown, text_until};
 
 use exceptions::Label;
 use job_meaning::Clock;
-use job_story::{Event, Froms};
+use job_story::{CancelledFrom, Event};
 use std::alloc::{AllocError, Global};
 use story_index::{Causes, concerned_tasks, of_tasks};
 use story_text::{Known, in_order, kept_text, kept_text_to};
@@ -20,7 +20,7 @@ pub(crate) fn text_of_story<'e>(
     alloc: Global,
     clock: Clock,
     walked: &[&'e Event],
-    table: &'e Froms,
+    table: &'e CancelledFrom,
     task: Option<&'e Label>,
     until: Option<u64>,
 ) -> Result<Vec<u8>, AllocError>
@@ -46,10 +46,10 @@ fn task_text<'e>(
     until: Option<u64>,
     task: &'e Label,
 ) -> Result<Vec<u8>, AllocError>
-    requires { Knows causes.now (froms_in known.now) (map event_in all.now) }
-    ensures { IfOk result (λ text. text.items ≡ text_until (clock_in known.now) until (froms_in known.now) (events_in known.now)
-        (of_tasks (concerned_tasks (froms_in known.now) (map event_in all.now) task.entry.now) (map event_in all.now))
-        (of_tasks (concerned_tasks (froms_in known.now) (map event_in all.now) task.entry.now) (map event_in walked.now))) }
+    requires { Knows causes.now (cancelled_from_in known.now) (map event_in all.now) }
+    ensures { IfOk result (λ text. text.items ≡ text_until (clock_in known.now) until (cancelled_from_in known.now) (events_in known.now)
+        (of_tasks (concerned_tasks (cancelled_from_in known.now) (map event_in all.now) task.entry.now) (map event_in all.now))
+        (of_tasks (concerned_tasks (cancelled_from_in known.now) (map event_in all.now) task.entry.now) (map event_in walked.now))) }
 {
     let tasks = concerned_tasks(alloc, all, causes, task)?;
     let sorted = of_tasks(alloc, all, &tasks)?;
@@ -67,7 +67,7 @@ fn text_until(
     until: Option<u64>,
 ) -> Result<Vec<u8>, AllocError>
     ensures { IfOk result (λ text. text.items
-        ≡ text_until (clock_in known.now) until (froms_in known.now) (events_in known.now) (map event_in sorted.now) (map event_in walked.now)) }
+        ≡ text_until (clock_in known.now) until (cancelled_from_in known.now) (events_in known.now) (map event_in sorted.now) (map event_in walked.now)) }
 {
     match until {
         Some(limit) => kept_text_to(alloc, sorted, walked, limit, known),

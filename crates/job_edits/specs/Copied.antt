@@ -43,7 +43,7 @@ abbrev pub count_by : Option Keyword → List Token → Option ℕ
 count_by (Some keyword.Over) ts = first_number ts
 count_by _ ts = None
 
--- the same, given the tokens after the name
+-- how many copies are started, given the tokens after the name
 abbrev pub count_in : List Token → Option ℕ
 count_in [] = None
 count_in (t ∷ ts) = count_by (keyword_in (word_in t.shape)) ts

@@ -4,7 +4,7 @@ pub mod Fresh
 pub mod Faults
 pub mod Numbers
 pub mod Sites
-pub mod Finer
+pub mod FinerTicks
 pub mod Copied
 pub mod Repeated
 pub mod WrittenOut

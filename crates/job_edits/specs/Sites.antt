@@ -21,13 +21,13 @@ deadline_by name (Some keyword.After) ts = option_map (λ n. After name n) (numb
 deadline_by name (Some keyword.At) ts = option_map (λ n. At name n) (number_first ts)
 deadline_by name _ ts = None
 
--- the same, given the tokens after the name
+-- the deadline of the scope or nursery with this name, given the tokens after the name
 abbrev pub deadline_named : Option (List ℕ) → List Token → Option Moment
 deadline_named None ts = None
 deadline_named (Some name) [] = None
 deadline_named (Some name) (t ∷ ts) = deadline_by name (keyword_in (word_in t.shape)) ts
 
--- the same, given the tokens from the name on
+-- the deadline of a scope or nursery, given the tokens from its name on
 abbrev pub deadline_from : List Token → Option Moment
 deadline_from [] = None
 deadline_from (t ∷ ts) = deadline_named (word_in t.shape) ts

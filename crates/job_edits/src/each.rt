@@ -11,11 +11,11 @@ use job_tokens::Token;
 use job_tree::Name;
 use std::alloc::{AllocError, Global};
 
-/// Returns the first faults in single copies and passes of the job text with these tokens, `most` of them at most: each fault of each
-/// waiting step, as `variants` returns it, in each copy of each `start .. over` and in each pass of each `repeat` that the step is
-/// in. They are in the order of the places of the steps, and for each step the outer blocks come first. `has_input` says whether
-/// the input has any byte: then there are no faults in single copies of a block that `is_divided`. The only error is that memory
-/// runs out.
+/// Returns the first faults in single copies and passes of the job text with these tokens, `most` of them at most: each fault of
+/// each waiting step, as `variants` returns it, in each copy of each `start .. over` and in each pass of each `repeat` that the
+/// step is in. They are in the order of the places of the steps, and for each step the outer blocks come first. `has_input` says
+/// whether the input has any byte: then there are no faults in single copies of a block that `is_divided`. The only error is that
+/// memory runs out.
 pub fn each_variants(
     alloc: Global,
     has_input: bool,
@@ -42,8 +42,8 @@ pub fn each_variants(
     Ok(variants)
 }
 
-/// Returns whether there are single copies in which `each_variants` tries no fault, given the blocks of a job text that run several
-/// times. `has_input` says whether the input has any byte.
+/// Returns whether there are single copies in which `each_variants` tries no fault, given the blocks of a job text that run
+/// several times. `has_input` says whether the input has any byte.
 pub fn has_divided(has_input: bool, blocks: &[RepeatedBlock]) -> bool
     ensures { result ≡ has_divided has_input blocks.now }
 {
@@ -82,8 +82,8 @@ fn push_in_blocks(
     Ok(())
 }
 
-// Appends these faults of a step in each copy or pass of the block with a number, if the step is in it, until there are `most`; but
-// none in copies of a block that divides an input.
+// Appends these faults of a step in each copy or pass of the block with a number, if the step is in it, until there are `most`;
+// but none in copies of a block that divides an input.
 fn push_in_block(
     variants: &mut Vec<Variant>,
     most: usize,

@@ -58,9 +58,9 @@ pub struct Variant {
 }
 
 /// Returns each fault of each waiting step of the job text with these tokens, in the order of the places of the steps. A `sleep`,
-/// a `pace` and a `wait` can fail, fail late, hang and be cancelled; a `checkpoint` can do the same except fail late, since it takes
-/// no time; a `forever` can fail and be cancelled; a `need` can only miss. A step fails, and fails late, once with each of the
-/// exceptions with these names. The only error is that memory runs out.
+/// a `pace` and a `wait` can fail, fail late, hang and be cancelled; a `checkpoint` can do the same except fail late, since it
+/// takes no time; a `forever` can fail and be cancelled; a `need` can only miss. A step fails, and fails late, once with each of
+/// the exceptions with these names. The only error is that memory runs out.
 pub fn variants(alloc: Global, names: &[Name], tokens: &[Token]) -> Result<Vec<Variant>, AllocError>
     ensures { IfOk result (λ variants. variants.items ≡ variants_in names.now tokens.now) }
 {

@@ -24,14 +24,14 @@ pub struct RepeatedBlock {
     pub opening: usize,
     /// The place of the brace that closes it.
     pub closing: usize,
-    /// Whether a `pace` or `need` is in it: how long they take, and whether they raise an exception, depends on the task's part of
-    /// the input.
+    /// Whether a `pace` or `need` is in it: how long they take, and whether they raise an exception, depends on the task's part
+    /// of the input.
     pub by_input: bool,
 }
 
 impl RepeatedBlock {
-    /// Returns whether what its copies do depends on their parts of the input, which are different. (All passes of a `repeat` have
-    /// the part of their task.)
+    /// Returns whether what its copies do depends on their parts of the input, which are different. (All passes of a `repeat`
+    /// have the part of their task.)
     pub fn is_divided(&self) -> bool
         ensures { result ≡ is_divided self.now }
     {
@@ -55,8 +55,8 @@ pub fn repeated_blocks(alloc: Global, tokens: &[Token]) -> Result<Vec<RepeatedBl
     Ok(blocks)
 }
 
-// Appends the block whose head begins at this token, if it runs several times. `begins` says whether a step may begin at the token,
-// and `others` are the tokens after it.
+// Appends the block whose head begins at this token, if it runs several times. `begins` says whether a step may begin at the
+// token, and `others` are the tokens after it.
 fn push_block(
     blocks: &mut Vec<RepeatedBlock>,
     begins: bool,
@@ -74,7 +74,8 @@ fn push_block(
     Ok(())
 }
 
-// Returns the block that runs several times and whose head begins with a keyword at `from`. `tokens` are the tokens after the keyword.
+// Returns the block that runs several times and whose head begins with a keyword at `from`. `tokens` are the tokens after the
+// keyword.
 fn block_by(from: usize, keyword: Option<Keyword>, tokens: &[Token]) -> Option<RepeatedBlock>
     ensures { result ≡ block_by from keyword tokens.now }
 {

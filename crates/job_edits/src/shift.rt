@@ -3,10 +3,10 @@ ghost use Rattle.std.specs.Io.Iter.{u64_saturate};
 ghost use Rattle.job_edits.specs.declared.change.Piece.TheVariants as piece;
 ghost use Rattle.job_edits.specs.Faults.{insertion};
 ghost use Rattle.job_edits.specs.Numbers.{set_to};
-ghost use Rattle.job_edits.specs.Finer.{finer_at, version_changes, finer_changes, hairs_of, shifts_with, shifts_of, hair_scope, moved_ticks, shifted_at, shifted_or_finer, shifted_changes};
+ghost use Rattle.job_edits.specs.FinerTicks.{finer_changes_at, version_changes, finer_changes, hairs_of, shifts_with, shifts_of, hair_scope, moved_ticks, shifted_at, shifted_or_finer_changes, shifted_changes};
 
 use crate::change::{Change, Piece};
-use crate::finer::{Finer, ticks_of};
+use crate::finer_ticks::{FinerTicks, ticks_of};
 use crate::fresh::fresh_word;
 use crate::number::Number;
 use crate::site::{Moment, Site};
@@ -74,21 +74,21 @@ fn push_shift(shifts: &mut Vec<Shift>, site: &Site, hair: Hair) -> Result<(), Al
 pub fn finer_changes(
     alloc: Global,
     clock: Clock,
-    finer: Finer,
+    finer_ticks: FinerTicks,
     sites: &[Site],
 ) -> Result<Vec<Change>, AllocError>
-    ensures { IfOk result (λ changes. changes.items ≡ finer_changes clock finer sites.now) }
+    ensures { IfOk result (λ changes. changes.items ≡ finer_changes clock finer_ticks sites.now) }
 {
     let mut changes = version_changes(alloc, clock)?;
     'sites: for site in sites {
-        push_finer(&mut changes, finer, site)?;
+        push_finer_changes(&mut changes, finer_ticks, site)?;
     }
     Ok(changes)
 }
 
-/// Returns the name of the scope in which `shifted_changes` puts a hair before a `set`: the first of `hair`, `hair_1` and so on that
-/// is not in the job text with these tokens. That there is such a name is tested, not proved. The only error is that memory runs
-/// out.
+/// Returns the name of the scope in which `shifted_changes` puts a hair before a `set`: the first of `hair`, `hair_1` and so on
+/// that is not in the job text with these tokens. That there is such a name is tested, not proved. The only error is that memory
+/// runs out.
 pub fn hair_scope(alloc: Global, tokens: &[Token]) -> Result<Name, AllocError>
     ensures { IfOk result (λ name. name ≡ hair_scope tokens.now) }
 {
@@ -101,16 +101,16 @@ pub fn hair_scope(alloc: Global, tokens: &[Token]) -> Result<Name, AllocError>
 pub fn shifted_changes(
     alloc: Global,
     clock: Clock,
-    finer: Finer,
+    finer_ticks: FinerTicks,
     scope: Name,
     shift: &Shift,
     sites: &[Site],
 ) -> Result<Vec<Change>, AllocError>
-    ensures { IfOk result (λ changes. changes.items ≡ shifted_changes clock finer scope shift.now sites.now) }
+    ensures { IfOk result (λ changes. changes.items ≡ shifted_changes clock finer_ticks scope shift.now sites.now) }
 {
     let mut changes = version_changes(alloc, clock)?;
     'sites: for site in sites {
-        push_shifted_or_finer(&mut changes, finer, scope, shift, site)?;
+        push_shifted_or_finer_changes(&mut changes, finer_ticks, scope, shift, site)?;
     }
     Ok(changes)
 }
@@ -130,32 +130,36 @@ fn version_changes(alloc: Global, clock: Clock) -> Result<Vec<Change>, AllocErro
 }
 
 // Appends the changes of a site, which may be the one that is moved by a hair.
-fn push_shifted_or_finer(
+fn push_shifted_or_finer_changes(
     changes: &mut Vec<Change>,
-    finer: Finer,
+    finer_ticks: FinerTicks,
     scope: Name,
     shift: &Shift,
     site: &Site,
 ) -> Result<(), AllocError>
-    ensures { OnOk result (changes.new.items ≡ changes.old.items ++ shifted_or_finer finer scope shift.now site.now) }
+    ensures { OnOk result (changes.new.items ≡ changes.old.items ++ shifted_or_finer_changes finer_ticks scope shift.now site.now) }
 {
     if site.from == shift.site.from {
-        push_shifted(changes, finer, scope, shift.hair, site)
+        push_shifted(changes, finer_ticks, scope, shift.hair, site)
     } else {
-        push_finer(changes, finer, site)
+        push_finer_changes(changes, finer_ticks, site)
     }
 }
 
 // Appends the changes that make the ticks of a site finer.
-fn push_finer(changes: &mut Vec<Change>, finer: Finer, site: &Site) -> Result<(), AllocError>
-    ensures { OnOk result (changes.new.items ≡ changes.old.items ++ finer_at finer site.now.from site.now.moment) }
+fn push_finer_changes(
+    changes: &mut Vec<Change>,
+    finer_ticks: FinerTicks,
+    site: &Site,
+) -> Result<(), AllocError>
+    ensures { OnOk result (changes.new.items ≡ changes.old.items ++ finer_changes_at finer_ticks site.now.from site.now.moment) }
 {
     let moment = site.moment;
     match moment {
         Moment::Sleep(number) | Moment::After(_, number) | Moment::At(_, number) => {
-            push_number(changes, number, finer.ticks(number))
+            push_number(changes, number, finer_ticks.ticks(number))
         }
-        Moment::Pace { to, .. } => push_repeat(changes, finer, site.from, to),
+        Moment::Pace { to, .. } => push_repeat(changes, finer_ticks, site.from, to),
         Moment::Checkpoint { .. } | Moment::Start { .. } => Ok(()),
         Moment::Set(_) | Moment::Wait { .. } => Ok(()),
     }
@@ -164,43 +168,50 @@ fn push_finer(changes: &mut Vec<Change>, finer: Finer, site: &Site) -> Result<()
 // Appends the changes that make the ticks of a site finer, and move it by a hair.
 fn push_shifted(
     changes: &mut Vec<Change>,
-    finer: Finer,
+    finer_ticks: FinerTicks,
     scope: Name,
     hair: Hair,
     site: &Site,
 ) -> Result<(), AllocError>
-    ensures { OnOk result (changes.new.items ≡ changes.old.items ++ shifted_at finer scope hair site.now.from site.now.moment) }
+    ensures { OnOk result (changes.new.items ≡ changes.old.items ++ shifted_at finer_ticks scope hair site.now.from site.now.moment) }
 {
     let from = site.from;
     let moment = site.moment;
     match moment {
         Moment::Sleep(number) | Moment::After(_, number) | Moment::At(_, number) => {
-            push_number(changes, number, moved_ticks(finer, number, hair))
+            push_number(changes, number, moved_ticks(finer_ticks, number, hair))
         }
-        Moment::Checkpoint { to } => { push(changes, from, to, Piece::Sleep(finer.hair)) }
+        Moment::Checkpoint { to } => { push(changes, from, to, Piece::Sleep(finer_ticks.hair)) }
         Moment::Pace { to, .. } => {
-            push_repeat(changes, finer, from, to)?;
-            push_after(changes, to, Piece::ThenSleep(finer.hair))
+            push_repeat(changes, finer_ticks, from, to)?;
+            push_after(changes, to, Piece::ThenSleep(finer_ticks.hair))
         }
         Moment::Start { opening, .. } => {
-            push_after(changes, opening, Piece::ThenSleep(finer.hair))
+            push_after(changes, opening, Piece::ThenSleep(finer_ticks.hair))
         }
-        Moment::Set(_) => { push(changes, from, from, Piece::ShieldedSleep(scope, finer.hair)) }
-        Moment::Wait { to, .. } => push_after(changes, to, Piece::ThenSleep(finer.hair)),
+        Moment::Set(_) => {
+            push(
+                changes,
+                from,
+                from,
+                Piece::ShieldedSleep(scope, finer_ticks.hair),
+            )
+        }
+        Moment::Wait { to, .. } => push_after(changes, to, Piece::ThenSleep(finer_ticks.hair)),
     }
 }
 
 // Appends the changes that repeat a step once for each finer tick of an original tick.
 fn push_repeat(
     changes: &mut Vec<Change>,
-    finer: Finer,
+    finer_ticks: FinerTicks,
     from: usize,
     to: usize,
 ) -> Result<(), AllocError>
     ensures { OnOk result (changes.new.items
-        ≡ changes.old.items ++ (insertion from (piece.OpenRepeat finer.factor) ∷ insertion (u64_saturate (to + 1)) piece.Close ∷ [])) }
+        ≡ changes.old.items ++ (insertion from (piece.OpenRepeat finer_ticks.factor) ∷ insertion (u64_saturate (to + 1)) piece.Close ∷ [])) }
 {
-    push(changes, from, from, Piece::OpenRepeat(finer.factor))?;
+    push(changes, from, from, Piece::OpenRepeat(finer_ticks.factor))?;
     push_after(changes, to, Piece::Close)
 }
 
@@ -220,13 +231,13 @@ fn push_after(changes: &mut Vec<Change>, at: usize, piece: Piece) -> Result<(), 
 }
 
 // Returns a number of ticks in finer ticks, moved by a hair.
-fn moved_ticks(finer: Finer, number: Number, hair: Hair) -> u64
-    ensures { result ≡ moved_ticks finer number hair }
+fn moved_ticks(finer_ticks: FinerTicks, number: Number, hair: Hair) -> u64
+    ensures { result ≡ moved_ticks finer_ticks number hair }
 {
-    let ticks = finer.ticks(number);
+    let ticks = finer_ticks.ticks(number);
     match hair {
-        Hair::Earlier => ticks.saturating_sub(finer.hair),
-        Hair::Later => ticks.saturating_add(finer.hair),
+        Hair::Earlier => ticks.saturating_sub(finer_ticks.hair),
+        Hair::Later => ticks.saturating_add(finer_ticks.hair),
     }
 }
 

@@ -25,11 +25,11 @@ fn is_between(from: usize, to: usize, at: usize) -> bool
     from <= at && at < to
 }
 
-/// Returns the job text with these tokens, which have these roles, in which one copy of a `start .. over`, or one pass of a `repeat`, is
-/// written out. The copies or passes before it stay as they are, and their number is smaller. In the one that is written out, and in
-/// those after it, the names that the block gives have an ending: `_2` in the copy with the index 2, and `_after_2` in the later ones.
-/// Where a name is too long for that, or the text has a name with that ending already, the new text is no job. The only error is that
-/// memory runs out.
+/// Returns the job text with these tokens, which have these roles, in which one copy of a `start .. over`, or one pass of a
+/// `repeat`, is written out. The copies or passes before it stay as they are, and their number is smaller. In the one that is
+/// written out, and in those after it, the names that the block gives have an ending: `_2` in the copy with the index 2, and
+/// `_after_2` in the later ones. Where a name is too long for that, or the text has a name with that ending already, the new text
+/// is no job. The only error is that memory runs out.
 pub fn written_out(
     alloc: Global,
     text: &[u8],
@@ -287,8 +287,8 @@ fn is_among(name: Name, names: &[Name]) -> bool
     false
 }
 
-/// Returns the number, counted from 0, of a step among the waiting steps of the text in which a copy or pass is written out that the step
-/// is in. The step begins at `from` in the original text, which has these waiting steps.
+/// Returns the number, counted from 0, of a step among the waiting steps of the text in which a copy or pass is written out that
+/// the step is in. The step begins at `from` in the original text, which has these waiting steps.
 pub fn written_at(block: &RepeatedBlock, index: u64, from: usize, steps: &[Waiting]) -> usize
     ensures { result ≡ written_at block.now index from steps.now }
 {

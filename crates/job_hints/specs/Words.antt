@@ -75,6 +75,6 @@ other_advice word =
 abbrev pub foreign_advice : List ℕ → Option Advice
 foreign_advice word = or_advice (trio_advice word) (other_advice word)
 
--- the same for a token
+-- the advice on the word of a token
 abbrev pub word_advice : Option Shape → Option Advice
 word_advice shape = shape >>= λ s. word_in s >>= λ w. foreign_advice w

@@ -67,9 +67,9 @@ fn names_a_format(text: &[u8]) -> bool
         && !is_digit_byte(text.get(10).copied())
 }
 
-/// Returns the hint for a place where no token begins: what a job has in place of a method or a function that is called there, how a
-/// number is written, or what the byte is in other languages. `word` is the token before the place, `before` the byte before it, and
-/// `rest` the text from the place on.
+/// Returns the hint for a place where no token begins: what a job has in place of a method or a function that is called there,
+/// how a number is written, or what the byte is in other languages. `word` is the token before the place, `before` the byte
+/// before it, and `rest` the text from the place on.
 pub fn lexical_advice(word: Option<Shape>, before: Option<u8>, rest: &[u8]) -> Option<Advice>
     ensures { result ≡ lexical_advice word before rest.now }
 {

@@ -22,8 +22,8 @@ pub fn keyword_in(shape: Option<Shape>) -> Option<Keyword>
     Keyword::of(word)
 }
 
-/// Returns the sentence for a token that cannot be read for the nonterminal in a text of this format, after another token: first of
-/// all that a newer format has it. `None` if there is none.
+/// Returns the sentence for a token that cannot be read for the nonterminal in a text of this format, after another token: first
+/// of all that a newer format has it. `None` if there is none.
 pub fn syntax_advice(
     format: Format,
     nonterminal: Nonterminal,

@@ -68,8 +68,8 @@ pub(crate) fn over_advice(before: Option<Shape>, shape: &Shape) -> Option<Advice
     bound_advice(BlockAdvice::TaskHead, shape)
 }
 
-// Returns the sentence for a token where a block is to begin, after another token: after `shield` it is that of a nursery, and after
-// `fail` that of a scope.
+// Returns the sentence for a token where a block is to begin, after another token: after `shield` it is that of a nursery, and
+// after `fail` that of a scope.
 pub(crate) fn open_advice(before: Option<Shape>, shape: &Shape) -> Option<Advice>
     ensures { result ≡ open_advice (keyword_in before) shape.now }
 {

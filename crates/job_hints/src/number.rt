@@ -46,8 +46,8 @@ impl NumberAdvice {
     }
 }
 
-/// Returns the hint for a number that is refused in a text of this format: that it has a leading zero, or the range of a number after
-/// the token before it. `rest` is the text from the number on.
+/// Returns the hint for a number that is refused in a text of this format: that it has a leading zero, or the range of a number
+/// after the token before it. `rest` is the text from the number on.
 pub fn number_advice(format: Format, before: Option<Shape>, rest: &[u8]) -> Advice
     ensures { result ≡ number_advice format before rest.now }
 {

@@ -119,8 +119,8 @@ impl OtherWord {
     }
 }
 
-/// Returns what a job has in place of a token that is a word of a program on Trio or of another language or library, or `None` if the
-/// token is no such word.
+/// Returns what a job has in place of a token that is a word of a program on Trio or of another language or library, or `None` if
+/// the token is no such word.
 pub fn word_advice(shape: Option<Shape>) -> Option<Advice>
     ensures { result ≡ word_advice shape }
 {

@@ -78,7 +78,7 @@ abbrev mutual
   has sought stop = false
   has sought (step s ss) = (is_sought sought s || has_inside sought s) || has sought ss
 
-  -- the same in the blocks of a step
+  -- whether such a step is in the blocks of a step
   pub has_inside : Sought → Step → Bool
   has_inside sought (sleep n) = false
   has_inside sought checkpoint = false

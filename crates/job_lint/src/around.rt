@@ -19,8 +19,8 @@ pub(crate) struct Around {
 }
 
 impl Around {
-    // Returns what encloses the block of a scope or nursery, with or without a shield, and whether something can cancel the scope or
-    // nursery itself.
+    // Returns what encloses the block of a scope or nursery, with or without a shield, and whether something can cancel the scope
+    // or nursery itself.
     pub(crate) fn in_block(self, shield: bool, cancelled: bool) -> Around
         ensures { result ≡ in_block shield cancelled self }
     {

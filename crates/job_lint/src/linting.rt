@@ -29,7 +29,7 @@ pub fn lints(alloc: Global, text: &[u8]) -> Result<Vec<Warning>, JobFault>
     read_and_lint(alloc, text)
 }
 
-// The same, with a contract from which the clauses above follow.
+// Returns the warnings about a text, with a contract from which the clauses of `lints` follow.
 fn read_and_lint(alloc: Global, text: &[u8]) -> Result<Vec<Warning>, JobFault>
     ensures { MatchResult result (λ warnings. AreWarnings text.now warnings.items) (IsFair text.now) }
 {

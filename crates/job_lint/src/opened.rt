@@ -4,8 +4,8 @@ ghost use Rattle.job_lint.specs.Opened.{names_opened};
 
 use job_tree::Name;
 
-// The scopes and nurseries that enclose a step and are in the innermost cleanup or handler around it, the innermost first: all that
-// enclose it, if there is neither.
+// The scopes and nurseries that enclose a step and are in the innermost cleanup or handler around it, the innermost first: all
+// that enclose it, if there is neither.
 #[derive(Clone, Copy)]
 pub(crate) enum Opened<'a> {
     Nothing,

@@ -109,8 +109,8 @@ fn scope_warning(
     }
 }
 
-// Returns whether nothing cancels a scope with neither a deadline nor a shield, and, unless it has `fail`, nothing else can end it
-// early either.
+// Returns whether nothing cancels a scope with neither a deadline nor a shield, and, unless it has `fail`, nothing else can end
+// it early either.
 fn is_idle(around: Around, name: Name, fail: bool, body: &Body) -> bool
     ensures { result ≡ is_idle around name fail body.now }
 {

@@ -13,8 +13,8 @@ pub enum Lint {
     /// A scope or nursery with `shield` and without a deadline, with a wait in it that is not in an inner scope or nursery with
     /// a deadline. Nothing outside can cancel that wait.
     ShieldWithoutDeadline,
-    /// A scope with neither a deadline nor `shield`, with no `cancel` in it that names it, which has `fail`, or which nothing else
-    /// can end early: nothing in it raises, and nothing around it can be cancelled. So nothing cancels it.
+    /// A scope with neither a deadline nor `shield`, with no `cancel` in it that names it, which has `fail`, or which nothing
+    /// else can end early: nothing in it raises, and nothing around it can be cancelled. So nothing cancels it.
     IdleScope,
     /// A handler of exceptions that nothing in the block of its `try` raises, or of `TooSlow` if no scope in that block has
     /// `fail`. It never runs.
@@ -23,8 +23,8 @@ pub enum Lint {
     UnsetEvent,
     /// An event with a `set` in it that names it, and no `wait` that does. So nothing waits for it.
     UnawaitedEvent,
-    /// In a job of format 1 or 2, a `cancel` in a cleanup or handler that names a scope or nursery around that cleanup or handler.
-    /// It is seen a tick later than in Trio, where the task may see another cancellation before.
+    /// In a job of format 1 or 2, a `cancel` in a cleanup or handler that names a scope or nursery around that cleanup or
+    /// handler. It is seen a tick later than in Trio, where the task may see another cancellation before.
     LateCancel,
 }
 

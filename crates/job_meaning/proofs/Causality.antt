@@ -323,7 +323,7 @@ stack_for_near c own m (l ∷ ls) [] n = absurd n
 stack_for_near c own m (l ∷ ls) (k ∷ ks) n =
     (n.0, n.1, from_for_near c own m l.label k.label l.from k.from n.0 n.2, stack_for_near c own m ls ks n.3)
 
--- whether a block catches in a tick before c depends only on stacks and froms before c
+-- whether a block catches in a tick before c depends only on stacks and moments of cancellation before c
 pub catches_near : (c : ℕ) (f g : Tick) (shield : Bool) (st su : Levels) (u v : ℕ) → upto c f ≡ upto c g → NearLevels c st su → u < c → u ≡ v →
     catches f shield st u ≡ catches g shield su v
 catches_near c f g shield st su u v e near lt same =
@@ -355,7 +355,7 @@ left_result clock kind label t d log u own o caught =
       log = entered label t d (followed_by log (entry u (left_as kind label (left_with caught o).caught) nil));
     }
 
--- the froms of a block are near, where its insides agree
+-- the moments of cancellation of a block are near, where its insides agree
 block_near : (c : ℕ) (label : Label) (t : ℕ) (d : Tick) (m : Mode) (inside inside' : Tick → Result) →
     ((f : Tick) → Late t (inside f)) → ((f : Tick) → Late t (inside' f)) → ((f g : Tick) → upto c f ≡ upto c g → Agree c (inside f) (inside' g)) →
     upto c (from_of m label d inside) ≡ upto c (from_of m label d inside')
@@ -401,7 +401,7 @@ module _ (c : ℕ) (clock : Clock) (kind : Kind) (label : Label) (t : ℕ) (d : 
         let e = block_near c label t d m inside inside' h h' k in
         agree_left _ _ _ _ e (k _ _ e)
 
--- near stacks stay near inside a block whose two froms are the same when cut at c
+-- near stacks stay near inside a block whose two moments of cancellation are the same when cut at c
 pub near_within : (c : ℕ) (label : Label) (shield : Bool) (f g : Tick) (st su : Stack) → upto c f ≡ upto c g → Near c st su →
     Near c (stack_inside label shield f st) (stack_inside label shield g su)
 near_within c label shield f g st su e near = ((refl, refl, e, near.0), near.1)
@@ -669,6 +669,6 @@ mutual
   agree_cleanup c m (finally body) here st su r q near h =
       agree_cleaned c r q _ _ h (λ u. agree c m body here st su u near) (λ u. late m body here st u) (λ u. late m body here su u)
 
--- on stacks that agree except where both froms are at least c, a walk does the same before c
+-- on stacks that agree except where both moments of cancellation are at least c, a walk does the same before c
 pub nothing_before_its_cause : NothingBeforeItsCause
 nothing_before_its_cause c mode steps here stack other now near = agree c mode steps here stack other now near

@@ -278,7 +278,7 @@ pub least_near : (c t : ℕ) (l : Label) (a b : Log) → Timed t a → Timed t b
 least_near c t l a b h k e =
     least_clipped c t l a h ∙ (ap (λ (x : Log). upto c (least_sign l x)) e ∙ sym (least_clipped c t l b k))
 
--- and blocks with these signs have near froms
+-- and blocks with these signs have near moments of cancellation
 pub from_near : (c : ℕ) (d s u : Tick) → upto c s ≡ upto c u → upto c (from_by d s) ≡ upto c (from_by d u)
 from_near c d s u e = upto_earlier_same c d (next s) d (next u) refl (upto_next c s u e)
 

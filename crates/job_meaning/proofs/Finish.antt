@@ -12,7 +12,7 @@ use Rattle.job_meaning.specs.Log.{Log, nil, entry, sign, entered, task, followed
 use Rattle.job_meaning.specs.Moments.{due, a_round_after, Now, only_at}
 use Rattle.job_meaning.specs.declared.clock.Clock.{Clock}
 use Rattle.job_meaning.specs.Walk.{now_of, in_pass, passes, Levels, Stack, Mode, by_table, Here, walk, walk_step, walk_handler, walk_cleanup, done_at, in_sequence, and_then, then_if, block, event_block, stack_inside, stack_in_event, Kind, with_sign, nursery_result, child, handler_result, handler_for, handler_if_any, cleanup_result, with_outcome, handler_exc, outcome_after, sign_if, a_scope, a_nursery, label_here, label_over, each, here_in}
-use Rattle.job_meaning.specs.Rest.{Event, noted, signs, enters, starts, fill, consecutive, starts_over, ChildOutcomes, told_members, Frame, steps_left, in_scope, in_event, in_nursery, in_repeat, in_try, in_handler, in_cleanup, inside, block_left, left_if, without_scope, without_event, with_children, wait_result, finish, rest_comes_to, rest_at_start}
+use Rattle.job_meaning.specs.Rest.{Event, noted, signs, enters, starts, fill, consecutive, starts_over, ChildOutcomes, outcome_members, Frame, steps_left, in_scope, in_event, in_nursery, in_repeat, in_try, in_handler, in_cleanup, inside, block_left, left_if, without_scope, without_event, with_children, wait_result, finish, rest_comes_to, rest_at_start}
 
 -- three logs one after another are the same, whichever two are joined first
 pub followed_assoc : (a b c : Log) → followed_by (followed_by a b) c ≡ followed_by a (followed_by b c)
@@ -80,201 +80,201 @@ after_cleanup a m uncleaned here st r = refl
 after_cleanup a m (finally body) here st r = after_cleaned a r (λ u. walk m body here st u)
 
 -- no frame reads what was made before it
-pub finish_after : (fs : List Frame) (a : Log) (m : Mode) (told : ChildOutcomes) (here : Here) (st : Stack) (r : Result) →
-    finish m told fs here st (after a r) ≡ after a (finish m told fs here st r)
+pub finish_after : (fs : List Frame) (a : Log) (m : Mode) (outcomes : ChildOutcomes) (here : Here) (st : Stack) (r : Result) →
+    finish m outcomes fs here st (after a r) ≡ after a (finish m outcomes fs here st r)
 unfolding finish nursery_result
-finish_after [] a m told here st r = after_signed a st r
-finish_after (steps_left ss ∷ fs) a m told here st r =
-    ap (λ (x : Result). finish m told fs here st x) (after_and_then a r (λ u. walk m ss (inside fs here) st u))
-    ∙ finish_after fs a m told here st (and_then r (λ u. walk m ss (inside fs here) st u))
-finish_after (in_scope fail ∷ fs) a m told here st r =
-    ap (λ (x : Result). finish m told fs here (without_scope st) x)
+finish_after [] a m outcomes here st r = after_signed a st r
+finish_after (steps_left ss ∷ fs) a m outcomes here st r =
+    ap (λ (x : Result). finish m outcomes fs here st x) (after_and_then a r (λ u. walk m ss (inside fs here) st u))
+    ∙ finish_after fs a m outcomes here st (and_then r (λ u. walk m ss (inside fs here) st u))
+finish_after (in_scope fail ∷ fs) a m outcomes here st r =
+    ap (λ (x : Result). finish m outcomes fs here (without_scope st) x)
     (after_left_if a here.clock (a_scope fail) st.scopes (λ l. r) (λ l. after a r) r (λ l. refl))
-    ∙ finish_after fs a m told here (without_scope st) _
-finish_after (in_event ∷ fs) a m told here st r = finish_after fs a m told here (without_event st) r
-finish_after (in_nursery children ∷ fs) a m told here st r =
-    ap (λ (x : Result). finish m told fs here (without_scope st) x)
+    ∙ finish_after fs a m outcomes here (without_scope st) _
+finish_after (in_event ∷ fs) a m outcomes here st r = finish_after fs a m outcomes here (without_event st) r
+finish_after (in_nursery children ∷ fs) a m outcomes here st r =
+    ap (λ (x : Result). finish m outcomes fs here (without_scope st) x)
     (after_left_if a here.clock a_nursery st.scopes
-    (λ l. nursery_result here.clock l.label (with_children (told_members told children) (with_sign st r)))
-    (λ l. nursery_result here.clock l.label (with_children (told_members told children) (with_sign st (after a r)))) r
-    (λ l. ap (λ (x : Result). nursery_result here.clock l.label (with_children (told_members told children) x)) (after_signed a st r)))
-    ∙ finish_after fs a m told here (without_scope st) _
-finish_after (in_repeat pass left body ∷ fs) a m told here st r =
-    ap (λ (x : Result). finish m told fs here st x)
+    (λ l. nursery_result here.clock l.label (with_children (outcome_members outcomes children) (with_sign st r)))
+    (λ l. nursery_result here.clock l.label (with_children (outcome_members outcomes children) (with_sign st (after a r)))) r
+    (λ l. ap (λ (x : Result). nursery_result here.clock l.label (with_children (outcome_members outcomes children) x)) (after_signed a st r)))
+    ∙ finish_after fs a m outcomes here (without_scope st) _
+finish_after (in_repeat pass left body ∷ fs) a m outcomes here st r =
+    ap (λ (x : Result). finish m outcomes fs here st x)
     (after_and_then a r (λ u. passes (suc pass) left (λ i v. walk m body (in_pass i (inside fs here)) st v) u))
-    ∙ finish_after fs a m told here st _
-finish_after (in_try handler cleanup ∷ fs) a m told here st r =
-    ap (λ (x : Result). finish m told fs here st (walk_cleanup m cleanup (inside fs here) st x))
+    ∙ finish_after fs a m outcomes here st _
+finish_after (in_try handler cleanup ∷ fs) a m outcomes here st r =
+    ap (λ (x : Result). finish m outcomes fs here st (walk_cleanup m cleanup (inside fs here) st x))
     (after_handler a m handler (inside fs here) st r)
-    ∙ (ap (λ (x : Result). finish m told fs here st x) (after_cleanup a m cleanup (inside fs here) st
+    ∙ (ap (λ (x : Result). finish m outcomes fs here st x) (after_cleanup a m cleanup (inside fs here) st
     (walk_handler m handler (inside fs here) st r))
-    ∙ finish_after fs a m told here st _)
-finish_after (in_handler rest cleanup ∷ fs) a m told here st r =
-    ap (λ (x : Result). finish m told fs here st x) (after_cleanup a m cleanup (inside fs here) st
+    ∙ finish_after fs a m outcomes here st _)
+finish_after (in_handler rest cleanup ∷ fs) a m outcomes here st r =
+    ap (λ (x : Result). finish m outcomes fs here st x) (after_cleanup a m cleanup (inside fs here) st
     (with_outcome (handler_exc r.exc rest) r))
-    ∙ finish_after fs a m told here st _
-finish_after (in_cleanup outcome ∷ fs) a m told here st r = finish_after fs a m told here st _
+    ∙ finish_after fs a m outcomes here st _
+finish_after (in_cleanup outcome ∷ fs) a m outcomes here st r = finish_after fs a m outcomes here st _
 
 -- the result of a task that was just started is that of its block
-pub finish_begin : (m : Mode) (told : ChildOutcomes) (b : Steps) (here : Here) (st : Stack) (t : Now) →
-    rest_comes_to m told (rest_at_start b) here st t ≡ with_sign st (walk m b here st t)
+pub finish_begin : (m : Mode) (outcomes : ChildOutcomes) (b : Steps) (here : Here) (st : Stack) (t : Now) →
+    rest_comes_to m outcomes (rest_at_start b) here st t ≡ with_sign st (walk m b here st t)
 unfolding finish and_then
-finish_begin m told b here st t = refl
+finish_begin m outcomes b here st t = refl
 
 -- a block with no step left
-pub finish_stop : (fs : List Frame) (m : Mode) (told : ChildOutcomes) (here : Here) (st : Stack) (t : Now) →
-    finish m told (steps_left stop ∷ fs) here st (done_at t) ≡ finish m told fs here st (done_at t)
+pub finish_stop : (fs : List Frame) (m : Mode) (outcomes : ChildOutcomes) (here : Here) (st : Stack) (t : Now) →
+    finish m outcomes (steps_left stop ∷ fs) here st (done_at t) ≡ finish m outcomes fs here st (done_at t)
 unfolding finish and_then walk
-finish_stop fs m told here st t = refl
+finish_stop fs m outcomes here st t = refl
 
 -- a step that opens no frame
-pub finish_step : (fs : List Frame) (m : Mode) (told : ChildOutcomes) (s : Step) (ss : Steps) (here : Here) (st : Stack) (t : Now) →
-    finish m told (steps_left (step s ss) ∷ fs) here st (done_at t)
-    ≡ finish m told (steps_left ss ∷ fs) here st (walk_step m s (inside fs here) st t)
+pub finish_step : (fs : List Frame) (m : Mode) (outcomes : ChildOutcomes) (s : Step) (ss : Steps) (here : Here) (st : Stack) (t : Now) →
+    finish m outcomes (steps_left (step s ss) ∷ fs) here st (done_at t)
+    ≡ finish m outcomes (steps_left ss ∷ fs) here st (walk_step m s (inside fs here) st t)
 unfolding finish and_then walk
-finish_step fs m told s ss here st t = refl
+finish_step fs m outcomes s ss here st t = refl
 
 -- steps after an exception are not begun
-pub finish_raised : (fs : List Frame) (m : Mode) (told : ChildOutcomes) (ss : Steps) (here : Here) (st : Stack) (r : Result) (e : Exc) →
-    finish m told (steps_left ss ∷ fs) here st (record r { exc = Some e }) ≡ finish m told fs here st (record r { exc = Some e })
+pub finish_raised : (fs : List Frame) (m : Mode) (outcomes : ChildOutcomes) (ss : Steps) (here : Here) (st : Stack) (r : Result) (e : Exc) →
+    finish m outcomes (steps_left ss ∷ fs) here st (record r { exc = Some e }) ≡ finish m outcomes fs here st (record r { exc = Some e })
 unfolding finish and_then
-finish_raised fs m told ss here st r e = refl
+finish_raised fs m outcomes ss here st r e = refl
 
 -- a scope is entered
-pub finish_scope : (fs : List Frame) (table : Table) (told : ChildOutcomes) (name : List ℕ) (d : Deadline) (shield fail : Bool) (body ss : Steps)
+pub finish_scope : (fs : List Frame) (table : Table) (outcomes : ChildOutcomes) (name : List ℕ) (d : Deadline) (shield fail : Bool) (body ss : Steps)
     (here : Here) (st : Stack) (t : Now) →
-    finish (by_table table) told (steps_left (step (scope name d shield fail body) ss) ∷ fs) here st (done_at t)
+    finish (by_table table) outcomes (steps_left (step (scope name d shield fail body) ss) ∷ fs) here st (done_at t)
     ≡ after (entered (label_here name (inside fs here)) t.at (due here.clock d t.at) nil)
-    (finish (by_table table) told (steps_left body ∷ in_scope fail ∷ steps_left ss ∷ fs) here
+    (finish (by_table table) outcomes (steps_left body ∷ in_scope fail ∷ steps_left ss ∷ fs) here
     (stack_inside (label_here name (inside fs here)) shield (table (label_here name (inside fs here))) st) (done_at t))
 unfolding finish and_then walk block
-finish_scope fs table told name d shield fail body ss here st t =
+finish_scope fs table outcomes name d shield fail body ss here st t =
     finish_after (steps_left body ∷ in_scope fail ∷ steps_left ss ∷ fs) (entered (label_here name (inside fs here)) t.at (due here.clock d t.at) nil)
-    (by_table table) told here
+    (by_table table) outcomes here
     (stack_inside (label_here name (inside fs here)) shield (table (label_here name (inside fs here))) st) (done_at t)
 
 -- an event is entered
-pub finish_event : (fs : List Frame) (table : Table) (told : ChildOutcomes) (name : List ℕ) (body ss : Steps) (here : Here) (st : Stack) (t : Now) →
-    finish (by_table table) told (steps_left (step (event name body) ss) ∷ fs) here st (done_at t)
+pub finish_event : (fs : List Frame) (table : Table) (outcomes : ChildOutcomes) (name : List ℕ) (body ss : Steps) (here : Here) (st : Stack) (t : Now) →
+    finish (by_table table) outcomes (steps_left (step (event name body) ss) ∷ fs) here st (done_at t)
     ≡ after (entered (label_here name (inside fs here)) t.at None nil)
-    (finish (by_table table) told (steps_left body ∷ in_event ∷ steps_left ss ∷ fs) here
+    (finish (by_table table) outcomes (steps_left body ∷ in_event ∷ steps_left ss ∷ fs) here
     (stack_in_event (label_here name (inside fs here)) (table (label_here name (inside fs here))) st) (done_at t))
 unfolding finish and_then walk event_block
-finish_event fs table told name body ss here st t =
+finish_event fs table outcomes name body ss here st t =
     finish_after (steps_left body ∷ in_event ∷ steps_left ss ∷ fs) (entered (label_here name (inside fs here)) t.at None nil)
-    (by_table table) told here
+    (by_table table) outcomes here
     (stack_in_event (label_here name (inside fs here)) (table (label_here name (inside fs here))) st) (done_at t)
 
 -- a nursery is entered
-pub finish_nursery : (fs : List Frame) (table : Table) (told : ChildOutcomes) (name : List ℕ) (d : Deadline) (shield : Bool) (body ss : Steps)
+pub finish_nursery : (fs : List Frame) (table : Table) (outcomes : ChildOutcomes) (name : List ℕ) (d : Deadline) (shield : Bool) (body ss : Steps)
     (here : Here) (st : Stack) (t : Now) →
-    finish (by_table table) told (steps_left (step (nursery name d shield body) ss) ∷ fs) here st (done_at t)
+    finish (by_table table) outcomes (steps_left (step (nursery name d shield body) ss) ∷ fs) here st (done_at t)
     ≡ after (entered (label_here name (inside fs here)) t.at (due here.clock d t.at) nil)
-    (finish (by_table table) told (steps_left body ∷ in_nursery [] ∷ steps_left ss ∷ fs) here
+    (finish (by_table table) outcomes (steps_left body ∷ in_nursery [] ∷ steps_left ss ∷ fs) here
     (stack_inside (label_here name (inside fs here)) shield (table (label_here name (inside fs here))) st) (done_at t))
 unfolding finish and_then walk block nursery_result with_sign
-finish_nursery fs table told name d shield body ss here st t =
+finish_nursery fs table outcomes name d shield body ss here st t =
     finish_after (steps_left body ∷ in_nursery [] ∷ steps_left ss ∷ fs) (entered (label_here name (inside fs here)) t.at (due here.clock d t.at) nil)
-    (by_table table) told here
+    (by_table table) outcomes here
     (stack_inside (label_here name (inside fs here)) shield (table (label_here name (inside fs here))) st) (done_at t)
 
 -- a `try` is entered
-pub finish_try : (fs : List Frame) (m : Mode) (told : ChildOutcomes) (body : Steps) (handler : Handled) (cleanup : Cleaned) (ss : Steps)
+pub finish_try : (fs : List Frame) (m : Mode) (outcomes : ChildOutcomes) (body : Steps) (handler : Handled) (cleanup : Cleaned) (ss : Steps)
     (here : Here) (st : Stack) (t : Now) →
-    finish m told (steps_left (step (attempt body handler cleanup) ss) ∷ fs) here st (done_at t)
-    ≡ finish m told (steps_left body ∷ in_try handler cleanup ∷ steps_left ss ∷ fs) here st (done_at t)
+    finish m outcomes (steps_left (step (attempt body handler cleanup) ss) ∷ fs) here st (done_at t)
+    ≡ finish m outcomes (steps_left body ∷ in_try handler cleanup ∷ steps_left ss ∷ fs) here st (done_at t)
 unfolding finish and_then walk
-finish_try fs m told body handler cleanup ss here st t = refl
+finish_try fs m outcomes body handler cleanup ss here st t = refl
 
 -- a handler is entered where the exception has such leaves
-pub finish_handler : (fs : List Frame) (m : Mode) (told : ChildOutcomes) (name : List ℕ) (body : Steps) (cleanup : Cleaned) (here : Here)
+pub finish_handler : (fs : List Frame) (m : Mode) (outcomes : ChildOutcomes) (name : List ℕ) (body : Steps) (cleanup : Cleaned) (here : Here)
     (st : Stack) (r : Result) (e x : Exc) → keep (named name) e ≡ Some x →
-    finish m told (in_try (except name body) cleanup ∷ fs) here st (record r { exc = Some e })
-    ≡ finish m told (steps_left body ∷ in_handler (drop (named name) e) cleanup ∷ fs) here st (record r { exc = None })
+    finish m outcomes (in_try (except name body) cleanup ∷ fs) here st (record r { exc = Some e })
+    ≡ finish m outcomes (steps_left body ∷ in_handler (drop (named name) e) cleanup ∷ fs) here st (record r { exc = None })
 unfolding finish and_then walk handler_result
-finish_handler fs m told name body cleanup here st r e x k =
-    ap (λ (o : Option Exc). finish m told fs here st (walk_cleanup m cleanup (inside fs here) st
+finish_handler fs m outcomes name body cleanup here st r e x k =
+    ap (λ (o : Option Exc). finish m outcomes fs here st (walk_cleanup m cleanup (inside fs here) st
     (handler_if_any o (drop (named name) e) (record r { exc = Some e }) (λ u. walk m body (inside fs here) st u)))) k
 
 -- and where it has none, or there is no exception, it is passed by
-pub finish_unhandled : (fs : List Frame) (m : Mode) (told : ChildOutcomes) (name : List ℕ) (body : Steps) (cleanup : Cleaned) (here : Here)
+pub finish_unhandled : (fs : List Frame) (m : Mode) (outcomes : ChildOutcomes) (name : List ℕ) (body : Steps) (cleanup : Cleaned) (here : Here)
     (st : Stack) (r : Result) (e : Exc) → keep (named name) e ≡ None →
-    finish m told (in_try (except name body) cleanup ∷ fs) here st (record r { exc = Some e })
-    ≡ finish m told (in_try unhandled cleanup ∷ fs) here st (record r { exc = Some e })
+    finish m outcomes (in_try (except name body) cleanup ∷ fs) here st (record r { exc = Some e })
+    ≡ finish m outcomes (in_try unhandled cleanup ∷ fs) here st (record r { exc = Some e })
 unfolding finish walk handler_result
-finish_unhandled fs m told name body cleanup here st r e k =
-    ap (λ (o : Option Exc). finish m told fs here st (walk_cleanup m cleanup (inside fs here) st
+finish_unhandled fs m outcomes name body cleanup here st r e k =
+    ap (λ (o : Option Exc). finish m outcomes fs here st (walk_cleanup m cleanup (inside fs here) st
     (handler_if_any o (drop (named name) e) (record r { exc = Some e }) (λ u. walk m body (inside fs here) st u)))) k
 
 -- where the body of a `try` raised nothing, its handler is passed by
-pub finish_no_handler : (fs : List Frame) (m : Mode) (told : ChildOutcomes) (handler : Handled) (cleanup : Cleaned) (here : Here) (st : Stack)
+pub finish_no_handler : (fs : List Frame) (m : Mode) (outcomes : ChildOutcomes) (handler : Handled) (cleanup : Cleaned) (here : Here) (st : Stack)
     (r : Result) →
-    finish m told (in_try handler cleanup ∷ fs) here st (record r { exc = None })
-    ≡ finish m told (in_try unhandled cleanup ∷ fs) here st (record r { exc = None })
+    finish m outcomes (in_try handler cleanup ∷ fs) here st (record r { exc = None })
+    ≡ finish m outcomes (in_try unhandled cleanup ∷ fs) here st (record r { exc = None })
 unfolding finish walk handler_result
-finish_no_handler fs m told unhandled cleanup here st r = refl
-finish_no_handler fs m told (except name body) cleanup here st r = refl
+finish_no_handler fs m outcomes unhandled cleanup here st r = refl
+finish_no_handler fs m outcomes (except name body) cleanup here st r = refl
 
 -- a `repeat` without a pass
-pub finish_no_pass : (fs : List Frame) (m : Mode) (told : ChildOutcomes) (body ss : Steps) (here : Here) (st : Stack) (t : Now) →
-    finish m told (steps_left (step (repeat zero body) ss) ∷ fs) here st (done_at t) ≡ finish m told (steps_left ss ∷ fs) here st
+pub finish_no_pass : (fs : List Frame) (m : Mode) (outcomes : ChildOutcomes) (body ss : Steps) (here : Here) (st : Stack) (t : Now) →
+    finish m outcomes (steps_left (step (repeat zero body) ss) ∷ fs) here st (done_at t) ≡ finish m outcomes (steps_left ss ∷ fs) here st
     (done_at t)
 unfolding finish and_then walk
-finish_no_pass fs m told body ss here st t = refl
+finish_no_pass fs m outcomes body ss here st t = refl
 
 -- the first pass of a `repeat` is entered
-pub finish_first_pass : (fs : List Frame) (m : Mode) (told : ChildOutcomes) (k : ℕ) (body ss : Steps) (here : Here) (st : Stack) (t : Now) →
-    finish m told (steps_left (step (repeat (suc k) body) ss) ∷ fs) here st (done_at t)
-    ≡ finish m told (steps_left body ∷ in_repeat 0 k body ∷ steps_left ss ∷ fs) here st (done_at t)
+pub finish_first_pass : (fs : List Frame) (m : Mode) (outcomes : ChildOutcomes) (k : ℕ) (body ss : Steps) (here : Here) (st : Stack) (t : Now) →
+    finish m outcomes (steps_left (step (repeat (suc k) body) ss) ∷ fs) here st (done_at t)
+    ≡ finish m outcomes (steps_left body ∷ in_repeat 0 k body ∷ steps_left ss ∷ fs) here st (done_at t)
 unfolding finish and_then walk
-finish_first_pass fs m told k body ss here st t = refl
+finish_first_pass fs m outcomes k body ss here st t = refl
 
 -- a pass has ended, and the next one is entered
-pub finish_next_pass : (fs : List Frame) (m : Mode) (told : ChildOutcomes) (pass k : ℕ) (body : Steps) (here : Here) (st : Stack) (t : Now) →
-    finish m told (in_repeat pass (suc k) body ∷ fs) here st (done_at t)
-    ≡ finish m told (steps_left body ∷ in_repeat (suc pass) k body ∷ fs) here st (done_at t)
+pub finish_next_pass : (fs : List Frame) (m : Mode) (outcomes : ChildOutcomes) (pass k : ℕ) (body : Steps) (here : Here) (st : Stack) (t : Now) →
+    finish m outcomes (in_repeat pass (suc k) body ∷ fs) here st (done_at t)
+    ≡ finish m outcomes (steps_left body ∷ in_repeat (suc pass) k body ∷ fs) here st (done_at t)
 unfolding finish and_then
-finish_next_pass fs m told pass k body here st t = refl
+finish_next_pass fs m outcomes pass k body here st t = refl
 
 -- the last pass has ended
-pub finish_last_pass : (fs : List Frame) (m : Mode) (told : ChildOutcomes) (pass : ℕ) (body : Steps) (here : Here) (st : Stack) (t : Now) →
-    finish m told (in_repeat pass zero body ∷ fs) here st (done_at t) ≡ finish m told fs here st (done_at t)
+pub finish_last_pass : (fs : List Frame) (m : Mode) (outcomes : ChildOutcomes) (pass : ℕ) (body : Steps) (here : Here) (st : Stack) (t : Now) →
+    finish m outcomes (in_repeat pass zero body ∷ fs) here st (done_at t) ≡ finish m outcomes fs here st (done_at t)
 unfolding finish and_then
-finish_last_pass fs m told pass body here st t = refl
+finish_last_pass fs m outcomes pass body here st t = refl
 
 -- no pass follows an exception
-pub finish_raised_pass : (fs : List Frame) (m : Mode) (told : ChildOutcomes) (pass left : ℕ) (body : Steps) (here : Here) (st : Stack)
+pub finish_raised_pass : (fs : List Frame) (m : Mode) (outcomes : ChildOutcomes) (pass left : ℕ) (body : Steps) (here : Here) (st : Stack)
     (r : Result) (e : Exc) →
-    finish m told (in_repeat pass left body ∷ fs) here st (record r { exc = Some e }) ≡ finish m told fs here st (record r { exc = Some e })
+    finish m outcomes (in_repeat pass left body ∷ fs) here st (record r { exc = Some e }) ≡ finish m outcomes fs here st (record r { exc = Some e })
 unfolding finish and_then
-finish_raised_pass fs m told pass left body here st r e = refl
+finish_raised_pass fs m outcomes pass left body here st r e = refl
 
 -- a handler has ended: the rest of the split goes with what it raised
-pub finish_handled : (fs : List Frame) (m : Mode) (told : ChildOutcomes) (rest : Option Exc) (cleanup : Cleaned) (here : Here) (st : Stack)
+pub finish_handled : (fs : List Frame) (m : Mode) (outcomes : ChildOutcomes) (rest : Option Exc) (cleanup : Cleaned) (here : Here) (st : Stack)
     (r : Result) →
-    finish m told (in_handler rest cleanup ∷ fs) here st r ≡ finish m told (in_try unhandled cleanup ∷ fs) here st
+    finish m outcomes (in_handler rest cleanup ∷ fs) here st r ≡ finish m outcomes (in_try unhandled cleanup ∷ fs) here st
     (with_outcome (handler_exc r.exc rest) r)
 unfolding finish walk
-finish_handled fs m told rest cleanup here st r = refl
+finish_handled fs m outcomes rest cleanup here st r = refl
 
 -- with no cleanup to come a `try` is left
-pub finish_uncleaned : (fs : List Frame) (m : Mode) (told : ChildOutcomes) (here : Here) (st : Stack) (r : Result) →
-    finish m told (in_try unhandled uncleaned ∷ fs) here st r ≡ finish m told fs here st r
+pub finish_uncleaned : (fs : List Frame) (m : Mode) (outcomes : ChildOutcomes) (here : Here) (st : Stack) (r : Result) →
+    finish m outcomes (in_try unhandled uncleaned ∷ fs) here st r ≡ finish m outcomes fs here st r
 unfolding finish walk
-finish_uncleaned fs m told here st r = refl
+finish_uncleaned fs m outcomes here st r = refl
 
 -- a cleanup is entered, with the outcome so far
-pub finish_cleanup : (fs : List Frame) (m : Mode) (told : ChildOutcomes) (body : Steps) (here : Here) (st : Stack) (r : Result) →
-    finish m told (in_try unhandled (finally body) ∷ fs) here st r
-    ≡ finish m told (steps_left body ∷ in_cleanup r.exc ∷ fs) here st (record r { exc = None })
+pub finish_cleanup : (fs : List Frame) (m : Mode) (outcomes : ChildOutcomes) (body : Steps) (here : Here) (st : Stack) (r : Result) →
+    finish m outcomes (in_try unhandled (finally body) ∷ fs) here st r
+    ≡ finish m outcomes (steps_left body ∷ in_cleanup r.exc ∷ fs) here st (record r { exc = None })
 unfolding finish and_then walk cleanup_result
-finish_cleanup fs m told body here st r = refl
+finish_cleanup fs m outcomes body here st r = refl
 
 -- a cleanup has ended
-pub finish_cleaned : (fs : List Frame) (m : Mode) (told : ChildOutcomes) (outcome : Option Exc) (here : Here) (st : Stack) (r : Result) →
-    finish m told (in_cleanup outcome ∷ fs) here st r ≡ finish m told fs here st (with_outcome (outcome_after outcome r.exc) r)
+pub finish_cleaned : (fs : List Frame) (m : Mode) (outcomes : ChildOutcomes) (outcome : Option Exc) (here : Here) (st : Stack) (r : Result) →
+    finish m outcomes (in_cleanup outcome ∷ fs) here st r ≡ finish m outcomes fs here st (with_outcome (outcome_after outcome r.exc) r)
 unfolding finish
-finish_cleaned fs m told outcome here st r = refl
+finish_cleaned fs m outcomes outcome here st r = refl
 
 -- a stack with a scope or nursery more, and with an event more
 abbrev pub scope_over : Level Label → Stack → Stack
@@ -284,47 +284,47 @@ abbrev pub event_over : Level Label → Stack → Stack
 event_over l outer = record outer { events = l ∷ outer.events }
 
 -- a scope is left
-pub finish_leave : (fs : List Frame) (m : Mode) (told : ChildOutcomes) (fail : Bool) (here : Here) (l : Level Label) (outer : Stack)
+pub finish_leave : (fs : List Frame) (m : Mode) (outcomes : ChildOutcomes) (fail : Bool) (here : Here) (l : Level Label) (outer : Stack)
     (r : Result) →
-    finish m told (in_scope fail ∷ fs) here (scope_over l outer) r ≡ finish m told fs here outer (block_left here.clock (a_scope fail) l outer.scopes r)
+    finish m outcomes (in_scope fail ∷ fs) here (scope_over l outer) r ≡ finish m outcomes fs here outer (block_left here.clock (a_scope fail) l outer.scopes r)
 unfolding finish
-finish_leave fs m told fail here l outer r = refl
+finish_leave fs m outcomes fail here l outer r = refl
 
 -- an event is left
-pub finish_leave_event : (fs : List Frame) (m : Mode) (told : ChildOutcomes) (here : Here) (l : Level Label) (outer : Stack) (r : Result) →
-    finish m told (in_event ∷ fs) here (event_over l outer) r ≡ finish m told fs here outer r
+pub finish_leave_event : (fs : List Frame) (m : Mode) (outcomes : ChildOutcomes) (here : Here) (l : Level Label) (outer : Stack) (r : Result) →
+    finish m outcomes (in_event ∷ fs) here (event_over l outer) r ≡ finish m outcomes fs here outer r
 unfolding finish
-finish_leave_event fs m told here l outer r = refl
+finish_leave_event fs m outcomes here l outer r = refl
 
 -- the body of a nursery has ended, and the wait begins: with the sign of a body that failed before it
-pub finish_wait : (fs : List Frame) (m : Mode) (told : ChildOutcomes) (children : List ℕ) (here : Here) (l : Level Label) (outer : Stack) (t : Now)
+pub finish_wait : (fs : List Frame) (m : Mode) (outcomes : ChildOutcomes) (children : List ℕ) (here : Here) (l : Level Label) (outer : Stack) (t : Now)
     (e : Option Exc) →
-    finish m told (in_nursery children ∷ fs) here (scope_over l outer) (record { end = t.at; own = t.own; exc = e; members = []; log = nil })
-    ≡ after (sign_if e (Some l.label) t.at) (finish m told fs here outer (wait_result here.clock (told_members told children) t.at e (l ∷ outer.scopes) t))
+    finish m outcomes (in_nursery children ∷ fs) here (scope_over l outer) (record { end = t.at; own = t.own; exc = e; members = []; log = nil })
+    ≡ after (sign_if e (Some l.label) t.at) (finish m outcomes fs here outer (wait_result here.clock (outcome_members outcomes children) t.at e (l ∷ outer.scopes) t))
 unfolding finish with_sign nursery_result
-finish_wait fs m told children here l outer t e =
-    ap (λ (ms : List Member). finish m told fs here outer (block_left here.clock a_nursery l outer.scopes
+finish_wait fs m outcomes children here l outer t e =
+    ap (λ (ms : List Member). finish m outcomes fs here outer (block_left here.clock a_nursery l outer.scopes
     (nursery_result here.clock l.label (record { end = t.at; own = []; exc = e; members = ms; log = sign_if e (Some l.label) t.at }))))
-    (append-nil (told_members told children))
-    ∙ (ap (λ (x : Log). finish m told fs here outer (block_left here.clock a_nursery l outer.scopes
-    (nursery_result here.clock l.label (record { end = t.at; own = []; exc = e; members = told_members told children; log = x }))))
+    (append-nil (outcome_members outcomes children))
+    ∙ (ap (λ (x : Log). finish m outcomes fs here outer (block_left here.clock a_nursery l outer.scopes
+    (nursery_result here.clock l.label (record { end = t.at; own = []; exc = e; members = outcome_members outcomes children; log = x }))))
     (sym (followed_nil (sign_if e (Some l.label) t.at)))
-    ∙ (ap (λ (x : Result). finish m told fs here outer x) (after_block_left (sign_if e (Some l.label) t.at) here.clock a_nursery l outer.scopes
-    (nursery_result here.clock l.label (record { end = t.at; own = []; exc = e; members = told_members told children; log = nil })))
-    ∙ finish_after fs (sign_if e (Some l.label) t.at) m told here outer (wait_result here.clock (told_members told children) t.at e (l ∷ outer.scopes) t)))
+    ∙ (ap (λ (x : Result). finish m outcomes fs here outer x) (after_block_left (sign_if e (Some l.label) t.at) here.clock a_nursery l outer.scopes
+    (nursery_result here.clock l.label (record { end = t.at; own = []; exc = e; members = outcome_members outcomes children; log = nil })))
+    ∙ finish_after fs (sign_if e (Some l.label) t.at) m outcomes here outer (wait_result here.clock (outcome_members outcomes children) t.at e (l ∷ outer.scopes) t)))
 
-told_append : (told : ChildOutcomes) (is js : List ℕ) → told_members told (is ++ js) ≡ told_members told is ++ told_members told js
-told_append told [] js = refl
-told_append told (i ∷ is) js = ap (λ (ms : List Member). record { end = (told i).end; exc = (told i).exc } ∷ ms) (told_append told is js)
+outcome_members_append : (outcomes : ChildOutcomes) (is js : List ℕ) → outcome_members outcomes (is ++ js) ≡ outcome_members outcomes is ++ outcome_members outcomes js
+outcome_members_append outcomes [] js = refl
+outcome_members_append outcomes (i ∷ is) js = ap (λ (ms : List Member). record { end = (outcomes i).end; exc = (outcomes i).exc } ∷ ms) (outcome_members_append outcomes is js)
 
 -- children of a nursery count by number as they did by their results
-pub finish_children : (fs : List Frame) (m : Mode) (told : ChildOutcomes) (children more : List ℕ) (here : Here) (l : Level Label) (outer : Stack)
+pub finish_children : (fs : List Frame) (m : Mode) (outcomes : ChildOutcomes) (children more : List ℕ) (here : Here) (l : Level Label) (outer : Stack)
     (r : Result) →
-    finish m told (in_nursery (children ++ more) ∷ fs) here (scope_over l outer) r
-    ≡ finish m told (in_nursery children ∷ fs) here (scope_over l outer) (record r { members = told_members told more ++ r.members })
+    finish m outcomes (in_nursery (children ++ more) ∷ fs) here (scope_over l outer) r
+    ≡ finish m outcomes (in_nursery children ∷ fs) here (scope_over l outer) (record r { members = outcome_members outcomes more ++ r.members })
 unfolding finish with_sign
-finish_children fs m told children more here l outer r =
-    ap (λ (ms : List Member). finish m told fs here outer (block_left here.clock a_nursery l outer.scopes
+finish_children fs m outcomes children more here l outer r =
+    ap (λ (ms : List Member). finish m outcomes fs here outer (block_left here.clock a_nursery l outer.scopes
     (nursery_result here.clock l.label (record {
       end = r.end;
       own = [];
@@ -333,61 +333,61 @@ finish_children fs m told children more here l outer r =
       log =
           followed_by r.log (sign_if r.exc (Some l.label) r.end);
     }))))
-    (ap (λ (ms : List Member). ms ++ r.members) (told_append told children more)
-    ∙ append_assoc (told_members told children) (told_members told more) r.members)
+    (ap (λ (ms : List Member). ms ++ r.members) (outcome_members_append outcomes children more)
+    ∙ append_assoc (outcome_members outcomes children) (outcome_members outcomes more) r.members)
 
 -- the result of starting children: the starter continues in the same tick
 abbrev pub just_started : ChildOutcomes → List ℕ → Log → Now → Result
-just_started told more a t = record { end = t.at; own = t.own; exc = None; members = told_members told more; log = a }
+just_started outcomes more a t = record { end = t.at; own = t.own; exc = None; members = outcome_members outcomes more; log = a }
 
 -- after children were started, the body's steps continue with these among the nursery's, after the log so far
-pub finish_started : (fs : List Frame) (m : Mode) (told : ChildOutcomes) (ss : Steps) (children more : List ℕ) (here : Here) (l : Level Label)
+pub finish_started : (fs : List Frame) (m : Mode) (outcomes : ChildOutcomes) (ss : Steps) (children more : List ℕ) (here : Here) (l : Level Label)
     (outer : Stack) (t : Now) (a : Log) →
-    finish m told (steps_left ss ∷ in_nursery children ∷ fs) here (scope_over l outer) (just_started told more a t)
-    ≡ after a (finish m told (steps_left ss ∷ in_nursery (children ++ more) ∷ fs) here (scope_over l outer) (done_at t))
+    finish m outcomes (steps_left ss ∷ in_nursery children ∷ fs) here (scope_over l outer) (just_started outcomes more a t)
+    ≡ after a (finish m outcomes (steps_left ss ∷ in_nursery (children ++ more) ∷ fs) here (scope_over l outer) (done_at t))
 unfolding finish and_then
-finish_started fs m told ss children more here l outer t a =
-    sym (finish_children fs m told children more here l outer (after a (walk m ss (inside fs here) (scope_over l outer) t)))
-    ∙ finish_after (in_nursery (children ++ more) ∷ fs) a m told here (scope_over l outer) (walk m ss (inside fs here) (scope_over l outer) t)
+finish_started fs m outcomes ss children more here l outer t a =
+    sym (finish_children fs m outcomes children more here l outer (after a (walk m ss (inside fs here) (scope_over l outer) t)))
+    ∙ finish_after (in_nursery (children ++ more) ∷ fs) a m outcomes here (scope_over l outer) (walk m ss (inside fs here) (scope_over l outer) t)
 
 -- a child is started
-pub finish_start : (fs : List Frame) (m : Mode) (told : ChildOutcomes) (i : ℕ) (name : List ℕ) (body ss : Steps) (children : List ℕ) (here : Here)
+pub finish_start : (fs : List Frame) (m : Mode) (outcomes : ChildOutcomes) (i : ℕ) (name : List ℕ) (body ss : Steps) (children : List ℕ) (here : Here)
     (l : Level Label) (outer : Stack) (t : Now) →
-    told i ≡ with_sign (scope_over l outer) (walk m body (here_in (label_here name (inside fs here)) here.part here) (scope_over l outer) (only_at (a_round_after here.clock t.at))) →
-    finish m told (steps_left (step (start name None body) ss) ∷ in_nursery children ∷ fs) here (scope_over l outer) (done_at t)
-    ≡ after (fill told (starts i (label_here name (inside fs here)) (a_round_after here.clock t.at) ∷ []))
-    (finish m told (steps_left ss ∷ in_nursery (children ++ i ∷ []) ∷ fs) here (scope_over l outer) (done_at t))
+    outcomes i ≡ with_sign (scope_over l outer) (walk m body (here_in (label_here name (inside fs here)) here.part here) (scope_over l outer) (only_at (a_round_after here.clock t.at))) →
+    finish m outcomes (steps_left (step (start name None body) ss) ∷ in_nursery children ∷ fs) here (scope_over l outer) (done_at t)
+    ≡ after (fill outcomes (starts i (label_here name (inside fs here)) (a_round_after here.clock t.at) ∷ []))
+    (finish m outcomes (steps_left ss ∷ in_nursery (children ++ i ∷ []) ∷ fs) here (scope_over l outer) (done_at t))
 unfolding walk child
-finish_start fs m told i name body ss children here l outer t e =
-    finish_step (in_nursery children ∷ fs) m told (start name None body) ss here (scope_over l outer) t
-    ∙ (ap (λ (r : Result). finish m told (steps_left ss ∷ in_nursery children ∷ fs) here (scope_over l outer)
+finish_start fs m outcomes i name body ss children here l outer t e =
+    finish_step (in_nursery children ∷ fs) m outcomes (start name None body) ss here (scope_over l outer) t
+    ∙ (ap (λ (r : Result). finish m outcomes (steps_left ss ∷ in_nursery children ∷ fs) here (scope_over l outer)
     (child (label_here name (inside fs here)) (a_round_after here.clock t.at) r t)) (sym e)
-    ∙ finish_started fs m told ss children (i ∷ []) here l outer t
-    (fill told (starts i (label_here name (inside fs here)) (a_round_after here.clock t.at) ∷ [])))
+    ∙ finish_started fs m outcomes ss children (i ∷ []) here l outer t
+    (fill outcomes (starts i (label_here name (inside fs here)) (a_round_after here.clock t.at) ∷ [])))
 
 -- what was made, and more
-pub fill_append : (told : ChildOutcomes) (es others : List Event) → fill told (es ++ others) ≡ followed_by (fill told es) (fill told others)
-fill_append told [] others = refl
-fill_append told (noted t e ∷ es) others = ap (λ (x : Log). entry t e x) (fill_append told es others)
-fill_append told (signs l t ∷ es) others = ap (λ (x : Log). sign l t x) (fill_append told es others)
-fill_append told (enters l t d ∷ es) others = ap (λ (x : Log). entered l t d x) (fill_append told es others)
-fill_append told (starts i l t ∷ es) others =
-    ap (λ (x : Log). task l t (told i).end (told i).exc (told i).log x) (fill_append told es others)
+pub fill_append : (outcomes : ChildOutcomes) (es others : List Event) → fill outcomes (es ++ others) ≡ followed_by (fill outcomes es) (fill outcomes others)
+fill_append outcomes [] others = refl
+fill_append outcomes (noted t e ∷ es) others = ap (λ (x : Log). entry t e x) (fill_append outcomes es others)
+fill_append outcomes (signs l t ∷ es) others = ap (λ (x : Log). sign l t x) (fill_append outcomes es others)
+fill_append outcomes (enters l t d ∷ es) others = ap (λ (x : Log). entered l t d x) (fill_append outcomes es others)
+fill_append outcomes (starts i l t ∷ es) others =
+    ap (λ (x : Log). task l t (outcomes i).end (outcomes i).exc (outcomes i).log x) (fill_append outcomes es others)
 
 -- the children of a `start .. over`, by their numbers
-pub each_started : (told : ChildOutcomes) (name : List ℕ) (here : Here) (begins : ℕ) (t : Now) (first k : ℕ) (go : ℕ → Result) →
-    ((i : ℕ) → i < k → told (first + i) ≡ go i) →
-    each k (λ i. child (label_over name here i) begins (go i) t) t ≡ just_started told (consecutive first k)
-    (fill told (starts_over name here begins first k)) t
+pub each_started : (outcomes : ChildOutcomes) (name : List ℕ) (here : Here) (begins : ℕ) (t : Now) (first k : ℕ) (go : ℕ → Result) →
+    ((i : ℕ) → i < k → outcomes (first + i) ≡ go i) →
+    each k (λ i. child (label_over name here i) begins (go i) t) t ≡ just_started outcomes (consecutive first k)
+    (fill outcomes (starts_over name here begins first k)) t
 unfolding child
-each_started told name here begins t first zero go h = refl
-each_started told name here begins t first (suc k) go h =
+each_started outcomes name here begins t first zero go h = refl
+each_started outcomes name here begins t first (suc k) go h =
     ap (λ (r : Result). in_sequence r (child (label_over name here k) begins (go k) t))
-    (each_started told name here begins t first k go (λ i lt. h i (below i lt)))
-    ∙ (ap (λ (r : Result). in_sequence (just_started told (consecutive first k) (fill told (starts_over name here begins first k)) t)
+    (each_started outcomes name here begins t first k go (λ i lt. h i (below i lt)))
+    ∙ (ap (λ (r : Result). in_sequence (just_started outcomes (consecutive first k) (fill outcomes (starts_over name here begins first k)) t)
     (child (label_over name here k) begins r t)) (sym (h k (omega arith)))
-    ∙ both (sym (told_append told (consecutive first k) ((first + k) ∷ [])))
-    (sym (fill_append told (starts_over name here begins first k) (starts (first + k) (label_over name here k) begins ∷ []))))
+    ∙ both (sym (outcome_members_append outcomes (consecutive first k) ((first + k) ∷ [])))
+    (sym (fill_append outcomes (starts_over name here begins first k) (starts (first + k) (label_over name here k) begins ∷ []))))
   where
     below : (i : ℕ) → i < k → i < suc k
     below i lt = omega arith
@@ -397,17 +397,17 @@ each_started told name here begins t first (suc k) go h =
     both e f = cc
 
 -- the children of a `start .. over` are started
-pub finish_start_over : (fs : List Frame) (m : Mode) (told : ChildOutcomes) (first k : ℕ) (name : List ℕ) (body ss : Steps) (children : List ℕ)
+pub finish_start_over : (fs : List Frame) (m : Mode) (outcomes : ChildOutcomes) (first k : ℕ) (name : List ℕ) (body ss : Steps) (children : List ℕ)
     (here : Here) (l : Level Label) (outer : Stack) (t : Now) →
-    ((i : ℕ) → i < k → told (first + i) ≡ with_sign (scope_over l outer) (walk m body
+    ((i : ℕ) → i < k → outcomes (first + i) ≡ with_sign (scope_over l outer) (walk m body
     (here_in (label_over name (inside fs here) i) (cut_of here.input here.part k i) here) (scope_over l outer) (only_at (a_round_after here.clock t.at)))) →
-    finish m told (steps_left (step (start name (Some k) body) ss) ∷ in_nursery children ∷ fs) here (scope_over l outer) (done_at t)
-    ≡ after (fill told (starts_over name (inside fs here) (a_round_after here.clock t.at) first k))
-    (finish m told (steps_left ss ∷ in_nursery (children ++ consecutive first k) ∷ fs) here (scope_over l outer) (done_at t))
+    finish m outcomes (steps_left (step (start name (Some k) body) ss) ∷ in_nursery children ∷ fs) here (scope_over l outer) (done_at t)
+    ≡ after (fill outcomes (starts_over name (inside fs here) (a_round_after here.clock t.at) first k))
+    (finish m outcomes (steps_left ss ∷ in_nursery (children ++ consecutive first k) ∷ fs) here (scope_over l outer) (done_at t))
 unfolding walk
-finish_start_over fs m told first k name body ss children here l outer t h =
-    finish_step (in_nursery children ∷ fs) m told (start name (Some k) body) ss here (scope_over l outer) t
-    ∙ (ap (λ (r : Result). finish m told (steps_left ss ∷ in_nursery children ∷ fs) here (scope_over l outer) r)
-    (each_started told name (inside fs here) (a_round_after here.clock t.at) t first k (λ i. with_sign (scope_over l outer)
+finish_start_over fs m outcomes first k name body ss children here l outer t h =
+    finish_step (in_nursery children ∷ fs) m outcomes (start name (Some k) body) ss here (scope_over l outer) t
+    ∙ (ap (λ (r : Result). finish m outcomes (steps_left ss ∷ in_nursery children ∷ fs) here (scope_over l outer) r)
+    (each_started outcomes name (inside fs here) (a_round_after here.clock t.at) t first k (λ i. with_sign (scope_over l outer)
     (walk m body (here_in (label_over name (inside fs here) i) (cut_of here.input here.part k i) here) (scope_over l outer) (only_at (a_round_after here.clock t.at)))) h)
-    ∙ finish_started fs m told ss children (consecutive first k) here l outer t (fill told (starts_over name (inside fs here) (a_round_after here.clock t.at) first k)))
+    ∙ finish_started fs m outcomes ss children (consecutive first k) here l outer t (fill outcomes (starts_over name (inside fs here) (a_round_after here.clock t.at) first k)))

@@ -80,8 +80,8 @@ apart_tidy st P Q r q h k differ first second =
     before l p (inl o) = second l o p
     before l p (inr e) = differ l (h.gives l e) p
 
--- Where two walks of a block agree as far as its froms do, its first sign is the same in both: that of the walk with its
--- deadline as the from, and that of the walk with the from that follows.
+-- Where two walks of a block agree as far as its moments of cancellation do, its first sign is the same in both: that of the walk
+-- with its deadline as the from, and that of the walk with the from that follows.
 pub same_first_sign : (d s u : Tick) → ((c : ℕ) → upto c d ≡ upto c (from_by d s) → upto c s ≡ upto c u) → u ≡ s
 same_first_sign d None None h = refl
 same_first_sign d None (Some m) h =

@@ -7,7 +7,7 @@ use Rattle.job_meaning.specs.Moments.{a_round_after, Now}
 use Rattle.job_meaning.specs.declared.clock.Clock.{Clock}
 use Rattle.job_meaning.proofs.MomentLemmas.{round_after}
 use Rattle.job_meaning.specs.Walk.{Levels, Stack, Mode, Here, walk, in_pass, from_for, stack_for, Kind, a_scope, a_nursery, left_as, left_with, latest, nursery_result, with_sign, with_outcome, handler_exc, outcome_after}
-use Rattle.job_meaning.specs.Rest.{ChildOutcomes, told_members, Frame, steps_left, in_scope, in_event, in_nursery, in_repeat, in_try, in_handler, in_cleanup, inside, block_left, left_if, without_scope, without_event, with_children, wait_result, finish}
+use Rattle.job_meaning.specs.Rest.{ChildOutcomes, outcome_members, Frame, steps_left, in_scope, in_event, in_nursery, in_repeat, in_try, in_handler, in_cleanup, inside, block_left, left_if, without_scope, without_event, with_children, wait_result, finish}
 use Rattle.job_meaning.proofs.Late.{Late, late, late_and_then, late_passes, late_handler, late_cleanup, late_signed, late_gathered, timed_followed}
 
 -- a block that is left ends with what was in it
@@ -28,32 +28,32 @@ late_with_outcome : (t : ℕ) (o : Option Exc) (r : Result) → Late t r → Lat
 late_with_outcome t o r h = record { ends = h.ends; timed = h.timed }
 
 -- what a task results in is as late as its result so far
-pub late_finish : (fs : List Frame) (t : ℕ) (m : Mode) (told : ChildOutcomes) (here : Here) (st : Stack) (r : Result) → Late t r →
-    Late t (finish m told fs here st r)
+pub late_finish : (fs : List Frame) (t : ℕ) (m : Mode) (outcomes : ChildOutcomes) (here : Here) (st : Stack) (r : Result) → Late t r →
+    Late t (finish m outcomes fs here st r)
 unfolding finish nursery_result
-late_finish [] t m told here st r h = late_signed t st r h
-late_finish (steps_left ss ∷ fs) t m told here st r h =
-    late_finish fs t m told here st _ (late_and_then t r (λ u. walk m ss (inside fs here) st u) h (λ u. late m ss (inside fs here) st u))
-late_finish (in_scope fail ∷ fs) t m told here st r h =
-    late_finish fs t m told here (without_scope st) _ (late_left_if t here.clock (a_scope fail) st.scopes (λ l. r) r (λ l. h) h)
-late_finish (in_event ∷ fs) t m told here st r h = late_finish fs t m told here (without_event st) r h
-late_finish (in_nursery children ∷ fs) t m told here st r h =
-    late_finish fs t m told here (without_scope st) _
+late_finish [] t m outcomes here st r h = late_signed t st r h
+late_finish (steps_left ss ∷ fs) t m outcomes here st r h =
+    late_finish fs t m outcomes here st _ (late_and_then t r (λ u. walk m ss (inside fs here) st u) h (λ u. late m ss (inside fs here) st u))
+late_finish (in_scope fail ∷ fs) t m outcomes here st r h =
+    late_finish fs t m outcomes here (without_scope st) _ (late_left_if t here.clock (a_scope fail) st.scopes (λ l. r) r (λ l. h) h)
+late_finish (in_event ∷ fs) t m outcomes here st r h = late_finish fs t m outcomes here (without_event st) r h
+late_finish (in_nursery children ∷ fs) t m outcomes here st r h =
+    late_finish fs t m outcomes here (without_scope st) _
     (late_left_if t here.clock a_nursery st.scopes _ r
-    (λ l. late_gathered here.clock t l.label (with_children (told_members told children) (with_sign st r)) (late_children (late_signed t st r h)))
+    (λ l. late_gathered here.clock t l.label (with_children (outcome_members outcomes children) (with_sign st r)) (late_children (late_signed t st r h)))
     h)
   where
-    late_children : Late t (with_sign st r) → Late t (with_children (told_members told children) (with_sign st r))
+    late_children : Late t (with_sign st r) → Late t (with_children (outcome_members outcomes children) (with_sign st r))
     late_children k = record { ends = k.ends; timed = k.timed }
-late_finish (in_repeat pass left body ∷ fs) t m told here st r h =
-    late_finish fs t m told here st _ (late_and_then t r _ h
+late_finish (in_repeat pass left body ∷ fs) t m outcomes here st r h =
+    late_finish fs t m outcomes here st _ (late_and_then t r _ h
     (λ u. late_passes left (suc pass) (λ i v. walk m body (in_pass i (inside fs here)) st v) u (λ i v. late m body _ st v)))
-late_finish (in_try handler cleanup ∷ fs) t m told here st r h =
-    late_finish fs t m told here st _ (late_cleanup m cleanup (inside fs here) st _ t (late_handler m handler (inside fs here) st r t h))
-late_finish (in_handler rest cleanup ∷ fs) t m told here st r h =
-    late_finish fs t m told here st _ (late_cleanup m cleanup (inside fs here) st _ t (late_with_outcome t (handler_exc r.exc rest) r h))
-late_finish (in_cleanup outcome ∷ fs) t m told here st r h =
-    late_finish fs t m told here st _ (late_with_outcome t (outcome_after outcome r.exc) r h)
+late_finish (in_try handler cleanup ∷ fs) t m outcomes here st r h =
+    late_finish fs t m outcomes here st _ (late_cleanup m cleanup (inside fs here) st _ t (late_handler m handler (inside fs here) st r t h))
+late_finish (in_handler rest cleanup ∷ fs) t m outcomes here st r h =
+    late_finish fs t m outcomes here st _ (late_cleanup m cleanup (inside fs here) st _ t (late_with_outcome t (handler_exc r.exc rest) r h))
+late_finish (in_cleanup outcome ∷ fs) t m outcomes here st r h =
+    late_finish fs t m outcomes here st _ (late_with_outcome t (outcome_after outcome r.exc) r h)
 
 -- a task that waits for children that end at moment t or later is as late
 pub late_waited : (clock : Clock) (t : ℕ) (ms : List Member) (u : ℕ) (exc : Option Exc) (l : Level Label) (outer : Levels) (now : Now) → t ≤ latest u ms →

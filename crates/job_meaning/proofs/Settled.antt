@@ -89,8 +89,8 @@ module _ (table : Table) (clock : Clock) (kind : Kind) (label : Label) (t : ℕ)
       let again : least_sign label (inside from).log ≡ first =
       same_first_sign d first (least_sign label (inside from).log)
       (λ c e. least_near c t label (inside d).log (inside from).log (i.later d).timed (i.later from).timed (i.causal c d from e)) in
-      let told : table label ≡ from = fits_label from h ∙ ap (λ (s : Tick). from_by d s) again in
-      ap (λ (f : Tick). exit_with_from clock kind label t d shield st f (inside' f)) told
+      let outcomes : table label ≡ from = fits_label from h ∙ ap (λ (s : Tick). from_by d s) again in
+      ap (λ (f : Tick). exit_with_from clock kind label t d shield st f (inside' f)) outcomes
       ∙ ap (λ (r : Result). exit_with_from clock kind label t d shield st from r) (same from (fits_inside from h))
 
   -- A block by a table that fits its own following, and by two walks: the first of these has the sign from which the table's
@@ -103,13 +103,13 @@ module _ (table : Table) (clock : Clock) (kind : Kind) (label : Label) (t : ℕ)
       let from : Tick = table label in
       let inner : inside' from ≡ inside from = same from (fits_inside from h) in
       let first : Tick = least_sign label (inside' from).log in
-      let told : from ≡ from_by d first =
+      let outcomes : from ≡ from_by d first =
       fits_label from h ∙ ap (λ (r : Result). from_by d (least_sign label r.log)) (sym inner) in
       let again : least_sign label (inside' d).log ≡ first =
       same_first_sign d first (least_sign label (inside' d).log)
       (λ c e. least_near c t label (inside' from).log (inside' d).log (i.later from).timed (i.later d).timed
-      (i.causal c from d (ap (λ (x : Tick). upto c x) told ∙ sym e))) in
-      let found : from_by d (least_sign label (inside' d).log) ≡ from = ap (λ (s : Tick). from_by d s) again ∙ sym told in
+      (i.causal c from d (ap (λ (x : Tick). upto c x) outcomes ∙ sym e))) in
+      let found : from_by d (least_sign label (inside' d).log) ≡ from = ap (λ (s : Tick). from_by d s) again ∙ sym outcomes in
       ap (λ (f : Tick). exit_with_from clock kind label t d shield st f (inside' f)) found
       ∙ ap (λ (r : Result). exit_with_from clock kind label t d shield st from r) inner
 
@@ -140,8 +140,8 @@ module _ (table : Table) (label : Label) (t : ℕ) (inside inside' : Tick → Re
       let again : least_sign label (inside from).log ≡ first =
       same_first_sign None first (least_sign label (inside from).log)
       (λ c e. least_near c t label (inside None).log (inside from).log (i.later None).timed (i.later from).timed (i.causal c None from e)) in
-      let told : table label ≡ from = fits_event from h ∙ ap (λ (s : Tick). from_by None s) again in
-      ap (λ (f : Tick). event_result label t (inside' f)) told
+      let outcomes : table label ≡ from = fits_event from h ∙ ap (λ (s : Tick). from_by None s) again in
+      ap (λ (f : Tick). event_result label t (inside' f)) outcomes
       ∙ ap (λ (r : Result). event_result label t r) (same from (fits_in_event from h))
 
   event_by_walks : Inside t inside' → ((f : Tick) → Fits table (inside f).log → inside' f ≡ inside f) →
@@ -152,13 +152,13 @@ module _ (table : Table) (label : Label) (t : ℕ) (inside inside' : Tick → Re
       let from : Tick = table label in
       let inner : inside' from ≡ inside from = same from (fits_in_event from h) in
       let first : Tick = least_sign label (inside' from).log in
-      let told : from ≡ from_by None first =
+      let outcomes : from ≡ from_by None first =
       fits_event from h ∙ ap (λ (r : Result). from_by None (least_sign label r.log)) (sym inner) in
       let again : least_sign label (inside' None).log ≡ first =
       same_first_sign None first (least_sign label (inside' None).log)
       (λ c e. least_near c t label (inside' from).log (inside' None).log (i.later from).timed (i.later None).timed
-      (i.causal c from None (ap (λ (x : Tick). upto c x) told ∙ sym e))) in
-      let found : from_by None (least_sign label (inside' None).log) ≡ from = ap (λ (s : Tick). from_by None s) again ∙ sym told in
+      (i.causal c from None (ap (λ (x : Tick). upto c x) outcomes ∙ sym e))) in
+      let found : from_by None (least_sign label (inside' None).log) ≡ from = ap (λ (s : Tick). from_by None s) again ∙ sym outcomes in
       ap (λ (f : Tick). event_result label t (inside' f)) found
       ∙ ap (λ (r : Result). event_result label t r) inner
 

@@ -10,7 +10,7 @@ abbrev pub upto : ℕ → Tick → ℕ
 upto c None = c
 upto c (Some t) = min c t
 
--- two stacks agree, except where both froms are at least c: scopes and events
+-- two stacks agree, except where both moments of cancellation are at least c: scopes and events
 abbrev pub NearLevels : ℕ → Levels → Levels → Type 0
 NearLevels c [] [] = Unit {0}
 NearLevels c (l ∷ ls) (k ∷ ks) = (l.label ≡ k.label) × (l.shield ≡ k.shield) × (upto c l.from ≡ upto c k.from) × NearLevels c ls ks

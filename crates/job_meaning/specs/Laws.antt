@@ -11,7 +11,7 @@ use Rattle.job_meaning.specs.Moments.{clock_of, Now, only_at}
 use Rattle.job_meaning.specs.declared.clock.Clock.TheVariants.{ByTicks as by_ticks}
 use Rattle.job_meaning.specs.Walk.{Levels, Stack, Mode, Here, walk}
 use Rattle.job_meaning.specs.Log.{Table, times_given}
-use Rattle.job_meaning.specs.Meaning.{root_walk, root_log, meaning, meaning_table, meaning_records, meaning_end, meaning_froms}
+use Rattle.job_meaning.specs.Meaning.{root_walk, root_log, meaning, meaning_table, meaning_records, meaning_end, meaning_cancelled_from}
 use Rattle.job_meaning.specs.Follow.{follow, IsSettled}
 use Rattle.job_meaning.specs.Before.{Near, Agree}
 use Rattle.job_meaning.specs.declared.limits.TheConstants.{MAX_INPUT, LAST_TICK}
@@ -59,8 +59,8 @@ abbrev pub NoneReachesTheRoot : Type 0
 NoneReachesTheRoot =
     (mode : Mode) (job : Tree) (input : List ℕ) → clock_of job.format ≡ by_ticks → some_cancelled (root_walk mode job input).exc ≡ false
 
--- A cancellation from tick c on changes nothing before c: on two stacks that agree except where both froms are at least
--- c, a walk does the same in all ticks before c.
+-- A cancellation from tick c on changes nothing before c: on two stacks that agree except where both moments of cancellation are
+-- at least c, a walk does the same in all ticks before c.
 abbrev pub NothingBeforeItsCause : Type 0
 NothingBeforeItsCause =
     (c : ℕ) (mode : Mode) (steps : Steps) (here : Here) (stack other : Stack) (now : Now) →
@@ -93,14 +93,14 @@ LabelsAreGivenOnce =
     (mode : Mode) (job : Tree) (input : List ℕ) → GivesNamesOnce job → (l : Label) →
     times_given l (root_log job (root_walk mode job input)) ≤ 1
 
--- A job of format 1 or 2 and its upgrade to format 2 mean the same: their records, their end and their froms, over every input.
--- Format 3 counts time by rounds, so there a cancellation may be seen earlier.
+-- A job of format 1 or 2 and its upgrade to format 2 mean the same: their records, their end and their moments of cancellation,
+-- over every input. Format 3 counts time by rounds, so there a cancellation may be seen earlier.
 abbrev pub UpgradingKeepsTheMeaning : Type 0
 UpgradingKeepsTheMeaning =
     (job : Tree) (input : List ℕ) → clock_of job.format ≡ by_ticks →
     let upgrade = in_format Two job in
     (meaning upgrade input ≡ meaning job input) × (meaning_records upgrade input ≡ meaning_records job input)
-    × (meaning_end upgrade input ≡ meaning_end job input) × (meaning_froms upgrade input ≡ meaning_froms job input)
+    × (meaning_end upgrade input ≡ meaning_end job input) × (meaning_cancelled_from upgrade input ≡ meaning_cancelled_from job input)
 
 -- a job whose numbers are in their ranges ends by the last tick
 abbrev pub EndsByTheLastTick : Type 0

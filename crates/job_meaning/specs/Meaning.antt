@@ -94,10 +94,10 @@ pub record From : Type 0 where
   pub label : Label
   pub seen : Tick
 
-abbrev pub froms_by : Table → List Label → List From
-froms_by table [] = []
-froms_by table (l ∷ ls) = record { label = l; seen = table l } ∷ froms_by table ls
+abbrev pub cancelled_from_by : Table → List Label → List From
+cancelled_from_by table [] = []
+cancelled_from_by table (l ∷ ls) = record { label = l; seen = table l } ∷ cancelled_from_by table ls
 
 -- from which tick each scope and nursery of a run was cancelled, in the order of records and of entering
-abbrev pub meaning_froms : Tree → List ℕ → List From
-meaning_froms job input = froms_by (meaning_table job input) (all_entered (root_log job (meaning job input)))
+abbrev pub meaning_cancelled_from : Tree → List ℕ → List From
+meaning_cancelled_from job input = cancelled_from_by (meaning_table job input) (all_entered (root_log job (meaning job input)))

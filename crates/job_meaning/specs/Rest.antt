@@ -24,16 +24,16 @@ ChildOutcomes = ℕ → Result
 
 -- the log of what was done, with what is recorded of the children
 abbrev pub fill : ChildOutcomes → List Event → Log
-fill told [] = nil
-fill told (noted t e ∷ es) = entry t e (fill told es)
-fill told (signs l t ∷ es) = sign l t (fill told es)
-fill told (enters l t d ∷ es) = entered l t d (fill told es)
-fill told (starts i l t ∷ es) = task l t (told i).end (told i).exc (told i).log (fill told es)
+fill outcomes [] = nil
+fill outcomes (noted t e ∷ es) = entry t e (fill outcomes es)
+fill outcomes (signs l t ∷ es) = sign l t (fill outcomes es)
+fill outcomes (enters l t d ∷ es) = entered l t d (fill outcomes es)
+fill outcomes (starts i l t ∷ es) = task l t (outcomes i).end (outcomes i).exc (outcomes i).log (fill outcomes es)
 
 -- children as members of their nursery
-abbrev pub told_members : ChildOutcomes → List ℕ → List Member
-told_members told [] = []
-told_members told (i ∷ is) = record { end = (told i).end; exc = (told i).exc } ∷ told_members told is
+abbrev pub outcome_members : ChildOutcomes → List ℕ → List Member
+outcome_members outcomes [] = []
+outcome_members outcomes (i ∷ is) = record { end = (outcomes i).end; exc = (outcomes i).exc } ∷ outcome_members outcomes is
 
 -- `k` consecutive numbers of children in order, from the given first one
 abbrev pub consecutive : ℕ → ℕ → List ℕ
@@ -143,23 +143,23 @@ with_children ms r = record r { members = ms ++ r.members }
 -- What a task results in, given its result so far, with these frames left on this stack. If no frame is left, it signs for
 -- its home nursery if it ends with an exception.
 unfoldable pub finish : Mode → ChildOutcomes → List Frame → Here → Stack → Result → Result
-finish m told [] here st r = with_sign st r
-finish m told (steps_left ss ∷ fs) here st r = finish m told fs here st (and_then r (λ u. walk m ss (inside fs here) st u))
-finish m told (in_scope fail ∷ fs) here st r =
-    finish m told fs here (without_scope st) (left_if here.clock (a_scope fail) st.scopes (λ l. r) r)
-finish m told (in_event ∷ fs) here st r = finish m told fs here (without_event st) r
-finish m told (in_nursery children ∷ fs) here st r =
-    finish m told fs here (without_scope st)
+finish m outcomes [] here st r = with_sign st r
+finish m outcomes (steps_left ss ∷ fs) here st r = finish m outcomes fs here st (and_then r (λ u. walk m ss (inside fs here) st u))
+finish m outcomes (in_scope fail ∷ fs) here st r =
+    finish m outcomes fs here (without_scope st) (left_if here.clock (a_scope fail) st.scopes (λ l. r) r)
+finish m outcomes (in_event ∷ fs) here st r = finish m outcomes fs here (without_event st) r
+finish m outcomes (in_nursery children ∷ fs) here st r =
+    finish m outcomes fs here (without_scope st)
     (left_if here.clock a_nursery st.scopes
-    (λ l. nursery_result here.clock l.label (with_children (told_members told children) (with_sign st r))) r)
-finish m told (in_repeat pass left body ∷ fs) here st r =
-    finish m told fs here st (and_then r (λ u. passes (suc pass) left (λ i v. walk m body (in_pass i (inside fs here)) st v) u))
-finish m told (in_try handler cleanup ∷ fs) here st r =
-    finish m told fs here st (walk_cleanup m cleanup (inside fs here) st (walk_handler m handler (inside fs here) st r))
-finish m told (in_handler rest cleanup ∷ fs) here st r =
-    finish m told fs here st (walk_cleanup m cleanup (inside fs here) st (with_outcome (handler_exc r.exc rest) r))
-finish m told (in_cleanup outcome ∷ fs) here st r =
-    finish m told fs here st (with_outcome (outcome_after outcome r.exc) r)
+    (λ l. nursery_result here.clock l.label (with_children (outcome_members outcomes children) (with_sign st r))) r)
+finish m outcomes (in_repeat pass left body ∷ fs) here st r =
+    finish m outcomes fs here st (and_then r (λ u. passes (suc pass) left (λ i v. walk m body (in_pass i (inside fs here)) st v) u))
+finish m outcomes (in_try handler cleanup ∷ fs) here st r =
+    finish m outcomes fs here st (walk_cleanup m cleanup (inside fs here) st (walk_handler m handler (inside fs here) st r))
+finish m outcomes (in_handler rest cleanup ∷ fs) here st r =
+    finish m outcomes fs here st (walk_cleanup m cleanup (inside fs here) st (with_outcome (handler_exc r.exc rest) r))
+finish m outcomes (in_cleanup outcome ∷ fs) here st r =
+    finish m outcomes fs here st (with_outcome (outcome_after outcome r.exc) r)
 
 -- a nursery whose body ended in tick u with this exception or none, after its children have ended too
 abbrev pub wait_result : Clock → List Member → ℕ → Option Exc → Levels → Now → Result
@@ -170,27 +170,27 @@ wait_result clock ms u exc scopes now =
 -- What the rest of a task that stopped in tick t results in, on its stack. An answer comes in the same tick, a sleep ends
 -- when it is due or cancelled, a wait ends with the last child; and a task that ended has nothing left.
 abbrev pub finished_from : Mode → ChildOutcomes → Stopped → List Frame → Here → Stack → Now → Result
-finished_from m told to_begin fs here st now = finish m told fs here st (done_at now)
-finished_from m told (asking kernel purpose) fs here st now =
-    finish m told fs here st (answer_result (answer_of kernel here) purpose here st now)
-finished_from m told (asleep false n since) fs here st now = finish m told fs here st (sleep_result here.clock st n since)
-finished_from m told (asleep true n since) fs here st now = finish m told fs here st (pace_result here.clock st n since)
-finished_from m told (giving_up since) fs here st now = finish m told fs here st (raised_at cancelled (only_at (suc since)))
-finished_from m told (waiting_for event since) fs here st now =
-    finish m told fs here st (event_wait here.clock st (event_on event st.events) (only_at since))
-finished_from m told (awaiting children u exc) fs here st now =
-    finish m told fs here (without_scope st) (wait_result here.clock (told_members told children) u exc st.scopes now)
-finished_from m told (at_end u e) fs here st now = record { end = u; own = []; exc = e; members = []; log = nil }
+finished_from m outcomes to_begin fs here st now = finish m outcomes fs here st (done_at now)
+finished_from m outcomes (asking kernel purpose) fs here st now =
+    finish m outcomes fs here st (answer_result (answer_of kernel here) purpose here st now)
+finished_from m outcomes (asleep false n since) fs here st now = finish m outcomes fs here st (sleep_result here.clock st n since)
+finished_from m outcomes (asleep true n since) fs here st now = finish m outcomes fs here st (pace_result here.clock st n since)
+finished_from m outcomes (giving_up since) fs here st now = finish m outcomes fs here st (raised_at cancelled (only_at (suc since)))
+finished_from m outcomes (waiting_for event since) fs here st now =
+    finish m outcomes fs here st (event_wait here.clock st (event_on event st.events) (only_at since))
+finished_from m outcomes (awaiting children u exc) fs here st now =
+    finish m outcomes fs here (without_scope st) (wait_result here.clock (outcome_members outcomes children) u exc st.scopes now)
+finished_from m outcomes (at_end u e) fs here st now = record { end = u; own = []; exc = e; members = []; log = nil }
 
 -- what the rest of a task results in, on its stack
 abbrev pub rest_comes_to : Mode → ChildOutcomes → Rest → Here → Stack → Now → Result
-rest_comes_to m told rest here st now = finished_from m told rest.stopped rest.frames here st now
+rest_comes_to m outcomes rest here st now = finished_from m outcomes rest.stopped rest.frames here st now
 
 -- what the whole task results in, with what it did before
 abbrev pub task_comes_to : Mode → ChildOutcomes → List Event → Rest → Here → Stack → Now → Result
-task_comes_to m told made rest here st now =
-    let r = rest_comes_to m told rest here st now in
-    record r { log = followed_by (fill told made) r.log }
+task_comes_to m outcomes made rest here st now =
+    let r = rest_comes_to m outcomes rest here st now in
+    record r { log = followed_by (fill outcomes made) r.log }
 
 -- the rest of a task that was started and has not begun
 abbrev pub rest_at_start : Steps → Rest

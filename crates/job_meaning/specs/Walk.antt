@@ -81,7 +81,7 @@ wait_by_sight (Some from) least gives_up end =
 unfoldable pub sleep_result : Clock → Stack → ℕ → ℕ → Result
 sleep_result clock stack n m = wait_by_sight (sight stack.scopes) (a_round_after clock m) (gives_up_at clock n m) (wakes_at clock n m)
 
--- the same for `pace`, which takes one round where its count is 0
+-- a sleep of n ticks from moment m by `pace`, which takes one round where its count is 0
 unfoldable pub pace_result : Clock → Stack → ℕ → ℕ → Result
 pace_result clock stack n m = wait_by_sight (sight stack.scopes) (a_round_after clock m) (a_round_after clock m) (wakes_at clock n m)
 

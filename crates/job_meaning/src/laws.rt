@@ -23,15 +23,15 @@ pub fn law_monotone_sight()
 {}
 
 /// If a walk by ticks ends with an exception that holds a `Cancelled`, a cancellation is seen on its stack in that tick. No scope
-/// encloses a job, so no `Cancelled` leaves a job of format 1 or 2. By rounds this is false for an arbitrary table; the definition
-/// has an example.
+/// encloses a job, so no `Cancelled` leaves a job of format 1 or 2. By rounds this is false for an arbitrary table; the
+/// definition has an example.
 pub fn law_root()
     ensures walks { CancelledIsSeen }
     ensures jobs { NoneReachesTheRoot }
 {}
 
-/// A cancellation changes nothing before its tick: if two stacks differ only in froms that are at least c, the walks of a block
-/// on them have the same starts, entries, entered labels, signs and ends in all ticks before c.
+/// A cancellation changes nothing before its tick: if two stacks differ only in moments of cancellation that are at least c, the
+/// walks of a block on them have the same starts, entries, entered labels, signs and ends in all ticks before c.
 pub fn law_causality()
     ensures { NothingBeforeItsCause }
 {}
@@ -50,8 +50,8 @@ pub fn law_settled_table()
     ensures one { OneTableIsSettled }
 {}
 
-/// Each label of a run is given once: to one scope, one nursery, one event or one task, including the root. This holds for the meaning and
-/// for following any table, if each name is given once.
+/// Each label of a run is given once: to one scope, one nursery, one event or one task, including the root. This holds for the
+/// meaning and for following any table, if each name is given once.
 pub fn law_labels()
     ensures { LabelsAreGivenOnce }
 {}

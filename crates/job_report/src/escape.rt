@@ -5,8 +5,7 @@ ghost use Rattle.job_report.specs.Text.{byte_text, stands_for_itself};
 use basics::hex_digit;
 use std::alloc::AllocError;
 
-// Appends the bytes of a line as the report shows them; a run of bytes that are not escaped is
-// appended at once.
+// Appends the bytes of a line as the report shows them; a run of bytes that are not escaped is appended at once.
 pub(crate) fn push_escaped(out: &mut Vec<u8>, text: &[u8]) -> Result<(), AllocError>
     ensures { OnOk result (out.new.items ≡ out.old.items ++ flat_map byte_text text.now) }
 {

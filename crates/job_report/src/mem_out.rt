@@ -55,7 +55,7 @@ impl MemOut {
 
     // Counts a put, and returns whether it is the one that must fail.
     fn count_put(&mut self) -> bool
-        ensures told { result ≡ is_due (puts_before_fault self.old) }
+        ensures due { result ≡ is_due (puts_before_fault self.old) }
         ensures left { self.new ≡ record self.old { puts_left = puts_after (puts_before_fault self.old) } }
     {
         match self.puts_left {

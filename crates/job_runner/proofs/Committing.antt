@@ -212,20 +212,20 @@ module _ {P : Type 0} {picks : P → ℕ → ℕ → P → Type 0} {was r : Runn
           }
 
 -- none is left of the batch, and the sleepers know each effective deadline that was lowered
-module _ {was r told : Runner} (left b : Batches) (h : IsCommitting was r) (same : left ≡ r.batch) (over : r.batch.current ≡ [])
-    (only : SeesOnly (record r { batch = left }) told) where
-  told_over : told.batch.current ≡ []
-  told_over = ap (λ (x : Batches). x.current) (ap (λ (x : Runner). x.batch) only ∙ same) ∙ over
+module _ {was r informed : Runner} (left b : Batches) (h : IsCommitting was r) (same : left ≡ r.batch) (over : r.batch.current ≡ [])
+    (only : SeesOnly (record r { batch = left }) informed) where
+  informed_over : informed.batch.current ≡ []
+  informed_over = ap (λ (x : Batches). x.current) (ap (λ (x : Runner). x.batch) only ∙ same) ∙ over
 
   -- so the run is underway again, with what was added to the next batch as its current one
-  pub commits_last : IsGoing None told → NoneChanged told.world → b.current ≡ map without_answer told.batch.next → b.next ≡ [] →
-      NonePlaced b.current → IsUnderway (record told { batch = b })
+  pub commits_last : IsGoing None informed → NoneChanged informed.world → b.current ≡ map without_answer informed.batch.next → b.next ≡ [] →
+      NonePlaced b.current → IsUnderway (record informed { batch = b })
   commits_last going unchanged current next fresh =
       record {
         going = record {
           sound = going.sound;
           counts = going.counts;
-          shelved = turned_over b going.shelved told_over current next;
+          shelved = turned_over b going.shelved informed_over current next;
           interleaving = going.interleaving;
         };
         unchanged = unchanged;
@@ -234,7 +234,7 @@ module _ {was r told : Runner} (left b : Batches) (h : IsCommitting was r) (same
       }
 
   -- the job, the input and the limit are those that the batch began with
-  pub commits_same : IsSameJob was (record told { batch = b })
+  pub commits_same : IsSameJob was (record informed { batch = b })
   commits_same =
       record {
         job = ap (λ (x : Runner). x.job) only ∙ h.same.job;
@@ -243,9 +243,9 @@ module _ {was r told : Runner} (left b : Batches) (h : IsCommitting was r) (same
       }
 
   -- and one turn was taken for each entry of the batch
-  pub commits_turns : told.turns ≡ was.turns + length was.batch.current
+  pub commits_turns : informed.turns ≡ was.turns + length was.batch.current
   commits_turns =
       let a : length r.batch.current ≡ 0 = ap length over in
       let c : r.turns + length r.batch.current ≡ was.turns + length was.batch.current = h.turns in
-      let d : told.turns ≡ r.turns = ap (λ (x : Runner). x.turns) only in
+      let d : informed.turns ≡ r.turns = ap (λ (x : Runner). x.turns) only in
       omega (arith, a, c, d)

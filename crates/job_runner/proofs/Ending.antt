@@ -22,15 +22,15 @@ use Rattle.task_machine.specs.Fitting.{blocks_of, waits_of}
 use Rattle.task_machine.specs.Standing.{HasNurseryOf}
 use Rattle.task_machine.specs.Worlds.{event_at}
 use Rattle.run_refinement.specs.RunState.{LivesIn, HasHome, Refines}
-use Rattle.run_refinement.specs.Leaving.{EndIsTold, Leaving}
+use Rattle.run_refinement.specs.Leaving.{EndIsRecorded, Leaving}
 use Rattle.run_refinement.specs.Ready.{Keeps, AreHomesOf}
 use Rattle.run_refinement.proofs.Found.{finds, puts}
 use Rattle.run_refinement.proofs.Keeping.{homes_left, goes_left, settled_same}
 use Rattle.run_refinement.proofs.Left.{state_left}
-use Rattle.run_refinement.proofs.Told.{same_owner}
+use Rattle.run_refinement.proofs.Recorded.{same_owner}
 use Rattle.task_table.specs.declared.task_table.TaskTable.{TaskTable}
 use Rattle.task_table.specs.declared.task_table.Running.{Running}
-use Rattle.task_table.specs.TaskTable.{running_at, task_of, gone_of, parent_of, task_count, IsTaskTable, Ends}
+use Rattle.task_table.specs.TaskTable.{running_at, task_of, ended_task_of, parent_of, task_count, IsTaskTable, Ends}
 use Rattle.task_table.proofs.Times.{all_others}
 use Rattle.job_runner.specs.declared.runner.Runner.{Runner}
 use Rattle.job_runner.specs.Shelves.{GoesBy, IsCalled, IsCalledAdded, IsCalledEntry, Stays, AllStay, AreKnown, times_shelved, running_times, state_in, IsConsistent, IsRefined}
@@ -44,12 +44,12 @@ use Rattle.job_runner.proofs.States.{meaning_of, meaning_settled}
 use Rattle.job_runner.proofs.Stopped.{stopped_task}
 
 -- a home is a place of a nursery
-pub home_is : (o : Option Home) (nursery place : ℕ) → option_map {U = ℕ × ℕ} (λ (h : Home). (h.nursery, h.place)) o
-    ≡ Some (nursery, place) → (y : Home) × (o ≡ Some y) × (y.nursery ≡ nursery) × (y.place ≡ place)
-home_is None nursery place e = absurd (none-some (nursery, place) e)
-home_is (Some y) nursery place e =
-    let f : Some (y.nursery, y.place) ≡ Some (nursery, place) = e in
-    let g = same_Some (y.nursery, y.place) (nursery, place) f in
+pub home_is : (o : Option Home) (nursery index : ℕ) → option_map {U = ℕ × ℕ} (λ (h : Home). (h.nursery, h.index)) o
+    ≡ Some (nursery, index) → (y : Home) × (o ≡ Some y) × (y.nursery ≡ nursery) × (y.index ≡ index)
+home_is None nursery index e = absurd (none-some (nursery, index) e)
+home_is (Some y) nursery index e =
+    let f : Some (y.nursery, y.index) ≡ Some (nursery, index) = e in
+    let g = same_Some (y.nursery, y.index) (nursery, index) f in
     (y, refl, ap (λ (z : ℕ × ℕ). z.0) g, ap (λ (z : ℕ × ℕ). z.1) g)
 
 -- the nursery and the place of a child that runs may be said otherwise
@@ -66,7 +66,7 @@ pub record HasWaiter (r : Runner) (row : ℕ) (home : Home) : Type 0 where
   pub owned : HasNurseryOf home.nursery (blocks_of task.frames.items) (waits_of task.task_state)
   pub lives : LivesBy r.task_table (parent_of r.task_table row) task
   pub earlier : parent_of r.task_table row < row
-  pub runs : HasNursery r.world.book home.nursery (λ n. slice_get n.children home.place ≡ Some None)
+  pub runs : HasNursery r.world.book home.nursery (λ n. slice_get n.children home.index ≡ Some None)
 
 module _ {r : Runner} {task_table : TaskTable} {id row : ℕ} {exc : Option held.Exc} (h : IsStopping id row (stops.Ended exc) r)
     (e : Ends r.task_table task_table id (tick_of r.world.clock r.world.tick) exc) where
@@ -96,9 +96,9 @@ module _ {r : Runner} {task_table : TaskTable} {id row : ℕ} {exc : Option held
         lives = lives_by r.task_table h.shelved.consistent.agree (parent_of r.task_table row) keeps.task keeps.lives;
         earlier = rw same at its.earlier;
         runs =
-            let n = finds r.world.book home.nursery (λ n. (n.scope ≡ home.scope) × (slice_get n.children home.place ≡ Some None))
+            let n = finds r.world.book home.nursery (λ n. (n.scope ≡ home.scope) × (slice_get n.children home.index ≡ Some None))
             its.runs in
-            puts r.world.book home.nursery n.0 (λ n. slice_get n.children home.place ≡ Some None) n.1 n.2.1;
+            puts r.world.book home.nursery n.0 (λ n. slice_get n.children home.index ≡ Some None) n.1 n.2.1;
       }
     where
       keeps : Keeps (state_in r) (parent_of r.task_table row) home.nursery
@@ -119,17 +119,17 @@ module _ {r : Runner} {task_table : TaskTable} {id row : ℕ} {exc : Option held
       let many = e.same.many in
       rw many (lives_by r.task_table h.shelved.consistent.agree row e.task was_there).below
 
-  module _ (nursery place : ℕ) (f : option_map {U = ℕ × ℕ} (λ (x : Home). (x.nursery, x.place)) e.task.home ≡ Some (nursery, place)) where
+  module _ (nursery index : ℕ) (f : option_map {U = ℕ × ℕ} (λ (x : Home). (x.nursery, x.index)) e.task.home ≡ Some (nursery, index)) where
     -- what `tell` requires
-    pub tell_runs : HasNursery r.world.book nursery (λ n. slice_get n.children place ≡ Some None)
+    pub tell_runs : HasNursery r.world.book nursery (λ n. slice_get n.children index ≡ Some None)
     tell_runs =
-        let y = home_is e.task.home nursery place f in
+        let y = home_is e.task.home nursery index f in
         runs_in r.world.book y.2 y.3 (waiter_of y.0 y.1).runs
 
     -- and the row of the task that started it is one of the table's too, where it has a home
     pub tell_parent : parent_of task_table row < task_count task_table
     tell_parent =
-        let y = home_is e.task.home nursery place f in
+        let y = home_is e.task.home nursery index f in
         let parent = e.same.parent row in
         let many = e.same.many in
         rw (parent, many) (waiter_of y.0 y.1).lives.below
@@ -142,7 +142,7 @@ ended_runner r task_table book = record r { task_table = task_table; world = rec
 
 module _ {r : Runner} {task_table : TaskTable} {id row : ℕ} {exc : Option held.Exc} (h : IsStopping id row (stops.Ended exc) r)
     (e : Ends r.task_table task_table id (tick_of r.world.clock r.world.tick) exc) (agree : IsTaskTable task_table) (book : NurseryBook)
-    (told : EndIsTold r.world.tick r.world.book book e.task.home (option_map exc_of exc)) where
+    (recorded : EndIsRecorded r.world.tick r.world.book book e.task.home (option_map exc_of exc)) where
   abbrev world_after : World
   world_after = record r.world { book = book }
 
@@ -155,10 +155,10 @@ module _ {r : Runner} {task_table : TaskTable} {id row : ℕ} {exc : Option held
         ended = (h.interleaving k settled).ended;
         world = refl;
         turns = refl;
-        told = told;
+        recorded = recorded;
         left = ap (task_of task_table) (sym at) ∙ e.left;
-        kept = ap (gone_of task_table) (sym at) ∙ e.kept;
-        others = λ p differs. let d : p ≢ e.row = λ f. differs (f ∙ at) in (e.same.task p d, e.same.gone p d);
+        kept = ap (ended_task_of task_table) (sym at) ∙ e.kept;
+        others = λ p differs. let d : p ≢ e.row = λ f. differs (f ∙ at) in (e.same.task p d, e.same.ended_task p d);
         start = e.same.start;
         children = e.same.children;
       }
@@ -252,7 +252,7 @@ module _ {r : Runner} {task_table : TaskTable} {id row : ℕ} {exc : Option held
       elim (cases_eq other id) [
         | inl same ↦
             let a : times_shelved r.batch r.clock id ≡ 0 = none in
-            let gone : running_times book (running_at task_table id) ≡ 0 = ap (running_times book) e.gone in
-            rw same (omega (arith, a, none_more, gone))
+            let removed : running_times book (running_at task_table id) ≡ 0 = ap (running_times book) e.removed in
+            rw same (omega (arith, a, none_more, removed))
         | inr differs ↦ kept other differs ∙ sym (ap (running_times book) (e.others other differs))
       ]

@@ -13,7 +13,7 @@ use Rattle.job_meaning.specs.Log.{Result, Table}
 use Rattle.job_meaning.specs.Moments.{clock_of, tick_of}
 use Rattle.job_meaning.specs.declared.clock.Clock.{Clock}
 use Rattle.job_meaning.specs.declared.clock.Clock.TheVariants.{ByTicks as by_ticks, ByRounds as by_rounds}
-use Rattle.job_meaning.specs.Meaning.{From, meaning, meaning_end, meaning_table, root_log, records_of, all_entered, froms_by}
+use Rattle.job_meaning.specs.Meaning.{From, meaning, meaning_end, meaning_table, root_log, records_of, all_entered, cancelled_from_by}
 use Rattle.job_meaning.specs.Shown.{row_of}
 use Rattle.job_meaning.proofs.Settled.{table_is_settled, settled_is_meaning, one_table_is_settled}
 use Rattle.task_machine.specs.declared.world.World.{World}
@@ -22,7 +22,7 @@ use Rattle.task_machine.specs.declared.entry.ScopeFrom.{ScopeFrom}
 use Rattle.task_machine.specs.Noted.{entry_of, from_of, IsSlice}
 use Rattle.task_table.specs.Records.{row_in}
 use Rattle.interleavings.specs.Rows as interleaving
-use Rattle.run_refinement.specs.RunState.{Gone, Refines}
+use Rattle.run_refinement.specs.RunState.{EndedTask, Refines}
 use Rattle.run_refinement.specs.Over.{IsOver, ShowsRow}
 use Rattle.run_refinement.proofs.Blocks.{root_last}
 use Rattle.run_refinement.proofs.Over.{state_over}
@@ -35,26 +35,26 @@ use Rattle.job_runner.specs.declared.runner.Phase.TheVariants as phases
 use Rattle.job_runner.specs.declared.runner.Runner.{Runner}
 use Rattle.job_runner.specs.Limits.{last_of}
 use Rattle.job_runner.specs.Phases.{phase_by, phase_of}
-use Rattle.task_table.specs.TaskTable.{children_by, run_state, gone_by, gone_from, gone_of, task_count, row_at, running_at, start_by, task_by, task_in, task_of, task_unless}
+use Rattle.task_table.specs.TaskTable.{children_by, run_state, ended_task_by, ended_task_from, ended_task_of, task_count, row_at, running_at, start_by, task_by, task_in, task_of, task_unless}
 use Rattle.task_table.specs.Rows.{AreShown, EndIsShown, IsShown, ShowRecords}
-use Rattle.job_runner.specs.Runs.{IsRun, FollowsEach, froms_in, name_of, records_in}
+use Rattle.job_runner.specs.Runs.{IsRun, FollowsEach, cancelled_from_in, name_of, records_in}
 use Rattle.job_runner.specs.Shelves.{state_in, IsUnderway}
 use Rattle.task_table.proofs.Lists.{all_by_place}
 use Rattle.job_runner.proofs.States.{meaning_of, meaning_run}
 
 -- ---- the root has ended
 
-gone_root : (es : List Entry) (kept : Option Gone) → phase_by es kept ≡ phases.Over → (g : Gone) × (kept ≡ Some g)
-gone_root [] (Some g) e = (g, refl)
-gone_root [] None e = absurd (let f : phases.Blocked ≡ phases.Over = e in cc)
-gone_root (x ∷ es) kept e = absurd (let f : phases.Ready ≡ phases.Over = e in cc)
+ended_root : (es : List Entry) (kept : Option EndedTask) → phase_by es kept ≡ phases.Over → (g : EndedTask) × (kept ≡ Some g)
+ended_root [] (Some g) e = (g, refl)
+ended_root [] None e = absurd (let f : phases.Blocked ≡ phases.Over = e in cc)
+ended_root (x ∷ es) kept e = absurd (let f : phases.Ready ≡ phases.Over = e in cc)
 
 -- where an end is kept, the task lives no more
-end_some : (end : Option Ended) (g : Gone) → option_map gone_from end ≡ Some g → (x : Option Running) → task_unless end x ≡ None
+end_some : (end : Option Ended) (g : EndedTask) → option_map ended_task_from end ≡ Some g → (x : Option Running) → task_unless end x ≡ None
 end_some None g e x = absurd (none-some g e)
 end_some (Some end) g e x = refl
 
-no_task : (live : Live Running) (row : Option TaskRow) (g : Gone) → gone_by row ≡ Some g → task_by live row ≡ None
+no_task : (live : Live Running) (row : Option TaskRow) (g : EndedTask) → ended_task_by row ≡ Some g → task_by live row ≡ None
 no_task live None g e = absurd (none-some g e)
 no_task live (Some row) g e = end_some row.end g e (live_at live row.task)
 
@@ -67,17 +67,17 @@ none_lives (Some end) x y e none = refl
 
 -- what is kept of an end, as it is read
 end_shown : (input : List ℕ) (row : interleaving.Row) (end : Option Ended) (task_table : TaskTable) (world : World) (turns s : ℕ)
-    (h : ShowsRow input (run_state task_table world turns) s row) → option_map gone_from end ≡ Some h.gone → EndIsShown input row end
+    (h : ShowsRow input (run_state task_table world turns) s row) → option_map ended_task_from end ≡ Some h.ended_task → EndIsShown input row end
 end_shown input row None task_table world turns s h e = tt
 end_shown input row (Some end) task_table world turns s h e =
-    let is : gone_from end ≡ h.gone = same_Some (gone_from end) h.gone e in
+    let is : ended_task_from end ≡ h.ended_task = same_Some (ended_task_from end) h.ended_task e in
     record {
-      label = ap (λ (g : Gone). g.label) is ∙ h.label;
-      tick = ap (λ (g : Gone). g.end) is ∙ h.end;
-      exc = ap (λ (g : Gone). g.exc) is ∙ h.exc;
-      entries = ap (λ (g : Gone). map entry_of g.entries) is ∙ h.entries;
-      slices = subst (λ (g : Gone). All (IsSlice input) g.entries) (sym is) h.slices;
-      froms = ap (λ (g : Gone). map from_of g.froms) is ∙ h.froms;
+      label = ap (λ (g : EndedTask). g.label) is ∙ h.label;
+      tick = ap (λ (g : EndedTask). g.end) is ∙ h.end;
+      exc = ap (λ (g : EndedTask). g.exc) is ∙ h.exc;
+      entries = ap (λ (g : EndedTask). map entry_of g.entries) is ∙ h.entries;
+      slices = subst (λ (g : EndedTask). All (IsSlice input) g.entries) (sym is) h.slices;
+      cancelled_from = ap (λ (g : EndedTask). map from_of g.cancelled_from) is ∙ h.cancelled_from;
     }
 
 row_shown : (input : List ℕ) (task_table : TaskTable) (world : World) (turns s : ℕ) (row : interleaving.Row) (held : TaskRow) →
@@ -86,15 +86,15 @@ row_shown input task_table world turns s row held e h =
     record {
       start = sym (ap start_by e) ∙ h.start;
       children = sym (ap children_by e) ∙ h.children;
-      end = end_shown input row held.end task_table world turns s h (sym (ap gone_by e) ∙ h.is);
+      end = end_shown input row held.end task_table world turns s h (sym (ap ended_task_by e) ∙ h.is);
     }
 
--- two tables that agree on every label have the same froms
-froms_alike : (table other : Table) → ((l : Label) → table l ≡ other l) → (ls : List Label) → froms_by table ls ≡ froms_by other ls
-froms_alike table other same [] = refl
-froms_alike table other same (l ∷ ls) =
-    ap (λ (t : Tick). record { label = l; seen = t } ∷ froms_by table ls) (same l)
-    ∙ ap (λ (fs : List From). record { label = l; seen = other l } ∷ fs) (froms_alike table other same ls)
+-- two tables that agree on every label have the same moments of cancellation
+cancelled_from_alike : (table other : Table) → ((l : Label) → table l ≡ other l) → (ls : List Label) → cancelled_from_by table ls ≡ cancelled_from_by other ls
+cancelled_from_alike table other same [] = refl
+cancelled_from_alike table other same (l ∷ ls) =
+    ap (λ (t : Tick). record { label = l; seen = t } ∷ cancelled_from_by table ls) (same l)
+    ∙ ap (λ (fs : List From). record { label = l; seen = other l } ∷ fs) (cancelled_from_alike table other same ls)
 
 -- a moment by the last one of a tick is in that tick or an earlier one
 by_last : (clock : Clock) (m n : ℕ) → m ≤ last_of clock n → tick_of clock m ≤ n
@@ -110,8 +110,8 @@ module _ {r : Runner} (w : IsUnderway r) (over : phase_of r ≡ phases.Over) whe
   state : Refines k r.job.now r.input.now r.world.tick (task_count r.task_table) None (state_in r)
   state = meaning_run r w.going
 
-  root : (g : Gone) × (gone_of r.task_table 0 ≡ Some g)
-  root = gone_root r.batch.current (gone_of r.task_table 0) over
+  root : (g : EndedTask) × (ended_task_of r.task_table 0 ≡ Some g)
+  root = ended_root r.batch.current (ended_task_of r.task_table 0) over
 
   -- no task lives
   none_left : (p : ℕ) → task_of r.task_table p ≡ None
@@ -137,21 +137,21 @@ module _ {r : Runner} (w : IsUnderway r) (over : phase_of r ≡ phases.Over) whe
       row_shown r.input.now r.task_table r.world r.turns s (is_over.rows s) held e
       (is_over.shows s (slice_get_within r.task_table.rows.items s held e))
 
-  -- the records and froms of rows
-  module _ {rows : List TaskRow} (same : rows ≡ r.task_table.rows.items) {records : List Record} {froms : List ScopeFrom}
-      (tells : (input : List ℕ) (rs : ℕ → interleaving.Row) → AreShown input rs rows → ShowRecords input rs records froms) where
-    told : ShowRecords r.input.now is_over.rows records froms
-    told = tells r.input.now is_over.rows (rw same are_shown)
+  -- the records and moments of cancellation of rows
+  module _ {rows : List TaskRow} (same : rows ≡ r.task_table.rows.items) {records : List Record} {cancelled_from : List ScopeFrom}
+      (tells : (input : List ℕ) (rs : ℕ → interleaving.Row) → AreShown input rs rows → ShowRecords input rs records cancelled_from) where
+    shown : ShowRecords r.input.now is_over.rows records cancelled_from
+    shown = tells r.input.now is_over.rows (rw same are_shown)
 
-    -- a run of the job's name with these records and froms is what the job means over its input
-    pub is_run : (run : Run) → name_of run ≡ r.job.now.name → records_in run ≡ records → froms_in run ≡ froms →
+    -- a run of the job's name with these records and moments of cancellation is what the job means over its input
+    pub is_run : (run : Run) → name_of run ≡ r.job.now.name → records_in run ≡ records → cancelled_from_in run ≡ cancelled_from →
         IsRun r.job.now r.input.now run
     is_run run name rs fs =
         record {
           name = name;
-          rows = ap (map row_in) rs ∙ told.records ∙ ap (map (row_of r.input.now)) (is_over.records told.taken told.order);
-          slices = rw rs told.slices;
-          froms = ap (map from_of) fs ∙ told.froms ∙ is_over.froms told.taken told.order;
+          rows = ap (map row_in) rs ∙ shown.records ∙ ap (map (row_of r.input.now)) (is_over.records shown.taken shown.order);
+          slices = rw rs shown.slices;
+          cancelled_from = ap (map from_of) fs ∙ shown.cancelled_from ∙ is_over.cancelled_from shown.taken shown.order;
         }
 
     -- so it is the result of following each settled table
@@ -163,11 +163,11 @@ module _ {r : Runner} (w : IsUnderway r) (over : phase_of r ≡ phases.Over) whe
         let same : meaning job input ≡ follow table job input = sym (settled_is_meaning table job input names settled) in
         record {
           rows = is.rows ∙ ap (λ (x : Result). map (row_of input) (records_of (clock_of job.format) (root_log job x))) same;
-          froms =
-              is.froms
-              ∙ froms_alike (meaning_table job input) table (one_table_is_settled (meaning_table job input) table job input names
+          cancelled_from =
+              is.cancelled_from
+              ∙ cancelled_from_alike (meaning_table job input) table (one_table_is_settled (meaning_table job input) table job input names
               (table_is_settled job input names) settled) (all_entered (root_log job (meaning job input)))
-              ∙ ap (λ (x : Result). froms_by table (all_entered (root_log job x))) same;
+              ∙ ap (λ (x : Result). cancelled_from_by table (all_entered (root_log job x))) same;
         }
 
     -- and by its meaning the job ends within the limit
@@ -175,10 +175,10 @@ module _ {r : Runner} (w : IsUnderway r) (over : phase_of r ≡ phases.Over) whe
     ends_in_time =
         let shows = is_over.shows 0 state.some in
         let ended = state.ended 0 state.some (none_left 0) in
-        let same : shows.gone ≡ ended.0 = same_Some shows.gone ended.0 (sym shows.is ∙ ended.1) in
-        let end : shows.gone.end ≡ (is_over.rows 0).end = shows.end in
-        let means : (is_over.rows 0).end ≡ meaning_end r.job.now r.input.now = is_over.end told.taken told.order in
-        let at : shows.gone.end ≡ ended.0.end = ap (λ (g : Gone). g.end) same in
+        let same : shows.ended_task ≡ ended.0 = same_Some shows.ended_task ended.0 (sym shows.is ∙ ended.1) in
+        let end : shows.ended_task.end ≡ (is_over.rows 0).end = shows.end in
+        let means : (is_over.rows 0).end ≡ meaning_end r.job.now r.input.now = is_over.end shown.taken shown.order in
+        let at : shows.ended_task.end ≡ ended.0.end = ap (λ (g : EndedTask). g.end) same in
         let tick : ended.0.end ≡ tick_of r.world.clock ended.2.end = ended.2.tick in
         let before : ended.2.end ≤ r.world.tick = ended.2.before in
         let within : r.world.tick ≤ last_of r.world.clock r.limit = w.going.shelved.consistent.within in

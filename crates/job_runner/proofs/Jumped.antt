@@ -41,7 +41,7 @@ use Rattle.job_runner.specs.declared.runner.Runner.{Runner}
 use Rattle.job_runner.specs.Jumps.{sight_asleep, sight_by, sight_in, Wakes, IsNextMoment, BeganBefore, Stayed, IsAnyNow, IsWaking}
 use Rattle.job_runner.specs.Limits.{last_of}
 use Rattle.clock.specs.Sleeping.{IsFirst}
-use Rattle.task_table.specs.TaskTable.{running_at, task_of, gone_of, id_of, task_count, run_state, IsTaskTable}
+use Rattle.task_table.specs.TaskTable.{running_at, task_of, ended_task_of, id_of, task_count, run_state, IsTaskTable}
 use Rattle.job_runner.specs.Shelves.{left_in, moment_of, IsCalledAdded, IsConsistent, IsAsleepIn, DozesIn, Stays, sleep_slot_of, wait_slot_of, timer_times, settled_times, task_state_times, running_times, times_shelved, state_in, IsUnderway}
 use Rattle.task_table.proofs.Times.{one_if}
 use Rattle.job_runner.proofs.Known.{seen_by, sees_from}
@@ -263,7 +263,7 @@ module _ {r : Runner} (w : IsUnderway r) (none : r.batch.current ≡ []) where
       (a.id, a.due, a.timer)
 
   -- the root lives where it has not ended
-  pub root_lives : gone_of r.task_table 0 ≡ None → (task : Task) × (task_of r.task_table 0 ≡ Some task)
+  pub root_lives : ended_task_of r.task_table 0 ≡ None → (task : Task) × (task_of r.task_table 0 ≡ Some task)
   root_lives e = by_task (task_of r.task_table 0) refl
     where
       by_task : (o : Option Task) → task_of r.task_table 0 ≡ o → (task : Task) × (task_of r.task_table 0 ≡ Some task)
@@ -290,7 +290,7 @@ module _ {r : Runner} (w : IsUnderway r) (none : r.batch.current ≡ []) where
         (is_first.least id t
         (sees_from w.going.shelved.known w.unchanged id due x.0 t e x.1 (sym (ap (sight_by r.world) x.1) ∙ sees)))
 
-    -- the clock is told the moment in which that sleeper continues
+    -- the clock gets the moment in which that sleeper continues
     module _ {cancel : Tick} (is_cancel : cancel ≡ option_map wakes_in first) where
       first_of : (c : ℕ) → cancel ≡ Some c → (t : ℕ) × (first ≡ Some t) × (wakes_in t ≡ c)
       first_of c e = by_first first (sym is_cancel ∙ e) refl
@@ -370,7 +370,7 @@ module _ {r : Runner} (w : IsUnderway r) (none : r.batch.current ≡ []) where
             let c = w.going.interleaving k settled in
             state_jumps k r.job.now r.input.now r.world.tick t (task_count r.task_table) (state_in r) (run_state r.task_table later_world r.turns)
             (let lt = next_later in omega (arith, lt))
-            (record { turns = refl; task = λ p. refl; gone = λ p. refl; start = λ p. refl; children = λ p. refl }) refl c
+            (record { turns = refl; task = λ p. refl; ended_task = λ p. refl; start = λ p. refl; children = λ p. refl }) refl c
             (state_blocked k r.job.now r.input.now r.world.tick (task_count r.task_table) (state_in r) c t (all_stay t none_before_next))
 
         -- and while one lives, the meaning does not end before it

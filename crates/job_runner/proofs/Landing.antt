@@ -15,14 +15,14 @@ use Rattle.job_meaning.specs.declared.clock.Clock.{Clock}
 use Rattle.job_meaning.specs.declared.clock.Clock.TheVariants.{ByTicks as by_ticks, ByRounds as by_rounds}
 use Rattle.task_machine.specs.declared.task.Task.{Task}
 use Rattle.task_machine.specs.declared.world.World.{World}
-use Rattle.run_refinement.specs.RunState.{Gone}
+use Rattle.run_refinement.specs.RunState.{EndedTask}
 use Rattle.job_runner.specs.declared.runner.Phase.TheVariants as phases
 use Rattle.clock.specs.Sleeping.{IsFirst}
 use Rattle.job_runner.specs.declared.runner.Runner.{Runner}
 use Rattle.job_runner.specs.Jumps.{IsNextMoment, IsPast, IsWaking, WakesOnly}
 use Rattle.job_runner.specs.Limits.{last_of}
 use Rattle.job_runner.specs.Phases.{phase_by, phase_of}
-use Rattle.task_table.specs.TaskTable.{running_at, task_of, gone_of}
+use Rattle.task_table.specs.TaskTable.{running_at, task_of, ended_task_of}
 use Rattle.task_table.specs.Rows.{times}
 use Rattle.job_runner.specs.Shelves.{IsCalledAdded, IsCalledEntry, AreShelved, IsRefined, IsUnderway, NoneChanged, running_times, times_shelved}
 use Rattle.job_runner.proofs.Jumped.{timers_later, cancel_later, has_timer, root_lives, is_next_moment, next_later, interleaving_jumps, ends_later, later_consistent, has_jumped}
@@ -32,13 +32,13 @@ use Rattle.job_runner.proofs.Shelving.{none_away, times_next, times_now}
 -- ---- the batch
 
 -- in this phase no task is in the current batch, and the root has not ended
-pub blocked_none : (es : List Entry) (end : Option Gone) → phase_by es end ≡ phases.Blocked → (es ≡ []) × (end ≡ None)
+pub blocked_none : (es : List Entry) (end : Option EndedTask) → phase_by es end ≡ phases.Blocked → (es ≡ []) × (end ≡ None)
 blocked_none [] None e = (refl, refl)
 blocked_none [] (Some g) e = absurd (let f : phases.Over ≡ phases.Blocked = e in cc)
 blocked_none (x ∷ es) end e = absurd (let f : phases.Ready ≡ phases.Blocked = e in cc)
 
 -- and this, where some were added
-pub ready_some : (es : List Entry) (added : List Added) (end : Option Gone) → es ≡ map without_answer added → added ≢ [] →
+pub ready_some : (es : List Entry) (added : List Added) (end : Option EndedTask) → es ≡ map without_answer added → added ≢ [] →
     phase_by es end ≡ phases.Ready
 ready_some es [] end e some = absurd (some refl)
 ready_some es (a ∷ added) end e some = rw e refl
@@ -74,15 +74,15 @@ after_last : (clock : Clock) (n m : ℕ) → last_of clock n < m → n < tick_of
 after_last by_ticks n m late = late
 after_last by_rounds n m late = omega (arith, late)
 
--- the clock is told the moment in which the first sleeper that sees a cancellation continues
+-- the clock gets the moment in which the first sleeper that sees a cancellation continues
 module _ {r : Runner} (w : IsUnderway r) (blocked : phase_of r ≡ phases.Blocked) {first cancel : Tick} (is_first : IsFirst r.sleepers first)
     (is_cancel : cancel ≡ option_map (max (suc r.world.tick)) first)
   where
     none : r.batch.current ≡ []
-    none = (blocked_none r.batch.current (gone_of r.task_table 0) blocked).0
+    none = (blocked_none r.batch.current (ended_task_of r.task_table 0) blocked).0
 
     root : (task : Task) × (task_of r.task_table 0 ≡ Some task)
-    root = root_lives w none (blocked_none r.batch.current (gone_of r.task_table 0) blocked).1
+    root = root_lives w none (blocked_none r.batch.current (ended_task_of r.task_table 0) blocked).1
 
     -- what the clock asks
     pub none_due : AllLater r.clock (now_of r.clock)

@@ -37,7 +37,7 @@ module _ (r : Runner) {root : Task} {id : ℕ} (sound : IsSoundJob r.job.now) (s
   begun : (k : Table) → Refines k r.job.now r.input.now 0 1 None (state_in r)
   begun k =
       state_begun k r.job.now r.input.now (state_in r) root sound.in_range sound.starts sound.names small world is_root has.task
-      (λ p. let more : p + 1 ≡ suc p = omega arith in rw more at (has.none p)) has.gone has.start
+      (λ p. let more : p + 1 ≡ suc p = omega arith in rw more at (has.none p)) has.ended_task has.start
       has.children turns
 
   is_refined : IsRefined r

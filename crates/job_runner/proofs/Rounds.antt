@@ -3,7 +3,7 @@ use Rattle.std.proofs.Common.{◌≡◌, ℕ, ◌+◌, ◌*◌, ◌<◌, ◌≤�
 use Rattle.job_tree.specs.Names.{size_of}
 use Rattle.job_tree.specs.Tree.{Tree}
 use Rattle.task_table.specs.declared.entry.Entry.{Entry}
-use Rattle.run_refinement.specs.RunState.{Gone}
+use Rattle.run_refinement.specs.RunState.{EndedTask}
 use Rattle.job_runner.specs.declared.runner.Phase.{Phase}
 use Rattle.job_runner.specs.declared.runner.Phase.TheVariants.{Ready, Blocked, Over}
 use Rattle.job_runner.specs.declared.runner.Runner.{Runner}
@@ -17,7 +17,7 @@ pub few_turns : (r : Runner) → IsUnderway r → r.turns ≤ most_turns r
 few_turns r u = turns_bounded r u.going
 
 -- a task is ready where the run is
-pub ready_some : (es : List Entry) (ended : Option Gone) → phase_by es ended ≡ Ready → 0 < length es
+pub ready_some : (es : List Entry) (ended : Option EndedTask) → phase_by es ended ≡ Ready → 0 < length es
 ready_some [] None e = absurd (let f : Blocked ≡ Ready = e in cc)
 ready_some [] (Some g) e = absurd (let f : Over ≡ Ready = e in cc)
 ready_some (x ∷ es) ended e = omega arith

@@ -52,7 +52,7 @@ starts_none r parent tick = record {
   parent_is = λ i lt. absurd (omega (arith, lt));
   child = sym (append-nil (children_of r parent));
   same_task = λ p lt. refl;
-  same_gone = λ p. refl;
+  same_ended_task = λ p. refl;
   same_start = λ p lt. refl;
   same_children = λ p lt differs. refl;
   same_parent = λ p lt. refl;
@@ -178,7 +178,7 @@ module _ {old mid new : TaskTable} {parent : ℕ} {tasks : List Task} {tick : �
         rw (before, row, append_assoc, serials_more (task_count old) (length tasks), ← longer) refl in
         s.child ∙ serials);
     same_task = λ p lt. s.same_task p (less p lt) ∙ a.same_task p lt;
-    same_gone = λ p. s.same_gone p ∙ a.same_gone p;
+    same_ended_task = λ p. s.same_ended_task p ∙ a.same_ended_task p;
     same_start = λ p lt. s.same_start p (less p lt) ∙ a.same_start p lt;
     same_children = λ p lt differs. s.same_children p (less p lt) differs ∙ a.same_children p lt differs;
     same_parent = λ p lt. s.same_parent p (less p lt) ∙ a.same_parent p lt;
@@ -302,9 +302,9 @@ taking_more {old} {mid} {now} {parent} t there one = record {
               let lives = ap (λ (r : TaskTable). running_at r id) table_is ∙ (ap (running_at one.task_table) e ∙ one.starts.lives) in
               absurd (none-some _ (sym none ∙ lives))
           | inr differs ↦
-              let gone : running_at one.task_table id ≡ None = sym (ap (λ (r : TaskTable). running_at r id) table_is) ∙ none in
+              let removed : running_at one.task_table id ≡ None = sym (ap (λ (r : TaskTable). running_at r id) table_is) ∙ none in
               readied_else one.ready id (once_alone one.id id ∙ one_else one.id id (λ f. differs (sym f)))
-              (t.timers id (sym (one.starts.others id differs) ∙ gone))
+              (t.timers id (sym (one.starts.others id differs) ∙ removed))
         ]
 
 -- once no task waits in the world, all that were started are taken

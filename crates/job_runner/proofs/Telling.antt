@@ -84,17 +84,17 @@ shows_marked w changed scope was now kept mark h = record { stack = h.stack; ope
 -- a run with other marks, of which the sleepers know
 module _ {r : Runner} (going : IsGoing None r) (changed : List Bool) (sleepers : Sleeping)
     (known : AreKnown r.task_table (marked r.world changed) r.clock sleepers r.waiters) where
-  abbrev told : Runner
-  told = record r { world = marked r.world changed; sleepers = sleepers }
+  abbrev informed : Runner
+  informed = record r { world = marked r.world changed; sleepers = sleepers }
 
-  interleaving_told : IsRefined told
-  interleaving_told k settled =
-      (state_takes k r.job.now r.input.now r.world.tick (task_count r.task_table) None (state_in r) (state_in told)
-      (record { turns = refl; task = λ p. refl; gone = λ p. refl; start = λ p. refl; children = λ p. refl }) refl
+  interleaving_informed : IsRefined informed
+  interleaving_informed k settled =
+      (state_takes k r.job.now r.input.now r.world.tick (task_count r.task_table) None (state_in r) (state_in informed)
+      (record { turns = refl; task = λ p. refl; ended_task = λ p. refl; start = λ p. refl; children = λ p. refl }) refl
       (going.interleaving k settled)).0
 
-  consistent_told : IsConsistent r.task_table (marked r.world changed) r.clock r.limit r.turns
-  consistent_told = record {
+  consistent_informed : IsConsistent r.task_table (marked r.world changed) r.clock r.limit r.turns
+  consistent_informed = record {
     agree = going.shelved.consistent.agree;
     homes = λ p task home lives at. (let k = going.shelved.consistent.homes p task home lives at in
         record { task = k.task; lives = k.lives; owned = k.owned });
@@ -106,22 +106,22 @@ module _ {r : Runner} (going : IsGoing None r) (changed : List Bool) (sleepers :
     none_set = going.shelved.consistent.none_set;
   }
 
-  stay_told : AllStay r.task_table (marked r.world changed) r.clock
-  stay_told key due e =
+  stay_informed : AllStay r.task_table (marked r.world changed) r.clock
+  stay_informed key due e =
       some_kept (running_at r.task_table key) (running_at r.task_table key) (λ (y : Running). Stays r.world due y.task)
       (λ (y : Running). Stays (marked r.world changed) due y.task) (λ x is. is)
       (λ x is d. stays_still r.world (marked r.world changed) x.task due refl refl refl
       (same_event (event_at r.world) (event_at r.world) x.task.task_state refl) (λ id waits over. refl) d) (going.shelved.stay key due e)
 
-  going_marked : IsGoing None told
+  going_marked : IsGoing None informed
   going_marked =
       record {
         sound = going.sound;
         counts = going.counts;
         shelved =
             record {
-              consistent = consistent_told;
-              stay = stay_told;
+              consistent = consistent_informed;
+              stay = stay_informed;
               known = known;
               current =
                   All-weaker (IsCalledEntry r.task_table r.world) (IsCalledEntry r.task_table (marked r.world changed))
@@ -132,7 +132,7 @@ module _ {r : Runner} (going : IsGoing None r) (changed : List Bool) (sleepers :
               once = going.shelved.once;
               away = going.shelved.away;
             };
-        interleaving = interleaving_told;
+        interleaving = interleaving_informed;
       }
 
 -- one scope is known anew
@@ -140,9 +140,9 @@ module _ {r : Runner} (going : IsGoing None r) {id : ℕ} (changed : List Bool) 
     (others : OtherMarksKeep r.world.scopes (marked r.world changed).scopes id)
     (sees : ForSome (stack_of r.world.scopes id) (λ stack. seen ≡ sight stack)) (same : SameScopes r.sleepers sleepers)
     (tells : Sees r.sleepers sleepers id seen) where
-  sights_told : (key scope : ℕ) → scope_in sleepers key ≡ Some scope →
+  sights_informed : (key scope : ℕ) → scope_in sleepers key ≡ Some scope →
       Shows (marked r.world changed).scopes scope (sight_of sleepers scope)
-  sights_told key scope e =
+  sights_informed key scope e =
       let was = going.shelved.known.sights key scope (sym (same key) ∙ e) in
       elim (cases_eq scope id) [
         | inl is ↦ record {
@@ -157,13 +157,13 @@ module _ {r : Runner} (going : IsGoing None r) {id : ℕ} (changed : List Bool) 
             (others scope differs) was
       ]
 
-  -- after the sleepers know the scope's effective deadline, and its mark is gone, the run is consistent as before
-  pub told_going : IsGoing None (record r { world = marked r.world changed; sleepers = sleepers })
-  told_going =
+  -- after the sleepers know the scope's effective deadline, and its mark is removed, the run is consistent as before
+  pub informed_going : IsGoing None (record r { world = marked r.world changed; sleepers = sleepers })
+  informed_going =
       going_marked going changed sleepers
       (record {
         sleep_slots = λ key. same key ∙ going.shelved.known.sleep_slots key;
-        sights = sights_told;
+        sights = sights_informed;
         waiting = going.shelved.known.waiting;
       })
 
@@ -185,7 +185,7 @@ pub taken_open : (lent tree read : Tree) (id : ℕ) → tree ≡ record lent { c
     read ≡ tree → IsOpen read id
 taken_open lent tree read id stacks takes reads = rw (reads, stacks) takes.was_open
 
--- the next scope is handed out: only its mark is gone, and the sleepers know its effective deadline
+-- the next scope is handed out: only its mark is removed, and the sleepers know its effective deadline
 pub record TellsOne (old new : Runner) (id : ℕ) : Type 0 where
   pub seen : Tick
   pub stacks : new.world.scopes ≡ record (old.world.scopes) { changed = new.world.scopes.changed }
@@ -196,8 +196,8 @@ pub record TellsOne (old new : Runner) (id : ℕ) : Type 0 where
   pub rest : new ≡ record old { world = record old.world { scopes = new.world.scopes }; sleepers = new.sleepers }
 
 module _ {was r new : Runner} {id : ℕ} (s : IsTelling was r) (one : TellsOne r new id) where
-  is_told : new ≡ record r { world = marked r.world new.world.scopes.changed; sleepers = new.sleepers }
-  is_told = one.rest ∙ ap (λ (t : Tree). record r { world = record r.world { scopes = t }; sleepers = new.sleepers }) one.stacks
+  is_informed : new ≡ record r { world = marked r.world new.world.scopes.changed; sleepers = new.sleepers }
+  is_informed = one.rest ∙ ap (λ (t : Tree). record r { world = record r.world { scopes = t }; sleepers = new.sleepers }) one.stacks
 
   others_kept : OtherMarksKeep r.world.scopes (marked r.world new.world.scopes.changed).scopes id
   others_kept other differs = ap (λ (t : Tree). is_changed t other) (sym one.stacks) ∙ one.takes.others other differs
@@ -213,11 +213,11 @@ module _ {was r new : Runner} {id : ℕ} (s : IsTelling was r) (one : TellsOne r
   pub telling_next : IsTelling was new
   telling_next = record {
     going =
-        subst (IsGoing None) (sym is_told)
-        (told_going s.going new.world.scopes.changed one.seen others_kept
+        subst (IsGoing None) (sym is_informed)
+        (informed_going s.going new.world.scopes.changed one.seen others_kept
         (λ st e. one.sees st (ap (λ (t : Tree). stack_of t id) one.stacks ∙ e)) one.same one.tells);
     only =
-        is_told ∙ ap (λ (x : Runner). record x { world = marked x.world new.world.scopes.changed; sleepers = new.sleepers }) s.only;
+        is_informed ∙ ap (λ (x : Runner). record x { world = marked x.world new.world.scopes.changed; sleepers = new.sleepers }) s.only;
     fewer = fewer;
   }
 
@@ -232,22 +232,22 @@ module _ {was r new : Runner} {id : ℕ} (s : IsTelling was r) (one : TellsOne r
 -- none is left: only marks were read
 module _ {was r : Runner} (tree : Tree) (s : IsTelling was r) (stacks : tree ≡ record (r.world.scopes) { changed = tree.changed })
     (none : (key : ℕ) → is_changed r.world.scopes key ≡ false) (same : SameMarks r.world.scopes tree) where
-  abbrev all_told : Runner
-  all_told = record r { world = record r.world { scopes = tree } }
+  abbrev all_informed : Runner
+  all_informed = record r { world = record r.world { scopes = tree } }
 
-  is_last : all_told ≡ record r { world = marked r.world tree.changed; sleepers = r.sleepers }
+  is_last : all_informed ≡ record r { world = marked r.world tree.changed; sleepers = r.sleepers }
   is_last = ap (λ (t : Tree). record r { world = record r.world { scopes = t } }) stacks
 
   -- then the run fits together
-  pub told_still : IsGoing None all_told
-  told_still =
+  pub informed_still : IsGoing None all_informed
+  informed_still =
       subst (IsGoing None) (sym is_last)
       (still_going s.going tree.changed (λ key. ap (λ (t : Tree). is_changed t key) (sym stacks) ∙ same key))
 
   -- no scope is marked
-  pub told_unchanged : NoneChanged all_told.world
-  told_unchanged key = same key ∙ none key
+  pub informed_unchanged : NoneChanged all_informed.world
+  informed_unchanged key = same key ∙ none key
 
   -- and nothing changed but marks and what is known of sleepers
-  pub told_only : SeesOnly was all_told
-  told_only = is_last ∙ ap (λ (x : Runner). record x { world = marked x.world tree.changed }) s.only
+  pub informed_only : SeesOnly was all_informed
+  informed_only = is_last ∙ ap (λ (x : Runner). record x { world = marked x.world tree.changed }) s.only

@@ -57,7 +57,7 @@ use Rattle.clock.specs.Waiting.{event_in}
 use Rattle.task_table.specs.declared.task_table.TaskTable.{TaskTable}
 use Rattle.task_table.specs.declared.task_table.Running.{Running}
 use Rattle.task_table.specs.Rows.{times}
-use Rattle.task_table.specs.TaskTable.{running_at, task_of, gone_of, start_of, children_of, parent_of, task_count, run_state, MayTurn, HasTurn}
+use Rattle.task_table.specs.TaskTable.{running_at, task_of, ended_task_of, start_of, children_of, parent_of, task_count, run_state, MayTurn, HasTurn}
 use Rattle.task_table.proofs.Lists.{value_at}
 use Rattle.task_table.proofs.Times.{all_others, place_of, times_none}
 use Rattle.job_runner.specs.declared.runner.Runner.{Runner}
@@ -234,13 +234,13 @@ module _ {id : ℕ} {wake : Wake} {stop : Stop} {r after new : Runner} {ro : Tas
     may : MayGo r.world turn.before wake
     may = some_of (running_at r.task_table id) (λ (y : Running). MayGo r.world y.task wake) its turn.lived goes
 
-    gone_same : (p : ℕ) → gone_of after.task_table p ≡ gone_of r.task_table p
-    gone_same p =
-        let here : gone_of ro p ≡ gone_of r.task_table p = elim (cases_eq p s) [
-          | inl e ↦ rw e turn.gone
-          | inr differs ↦ turn.same.gone p differs
+    ended_task_same : (p : ℕ) → ended_task_of after.task_table p ≡ ended_task_of r.task_table p
+    ended_task_same p =
+        let here : ended_task_of ro p ≡ ended_task_of r.task_table p = elim (cases_eq p s) [
+          | inl e ↦ rw e turn.ended_task
+          | inr differs ↦ turn.same.ended_task p differs
         ] in
-        started_at.same_gone p ∙ here
+        started_at.same_ended_task p ∙ here
 
     turn_taken : StateTakesTurn t m s (state_in r) that turn.before turn.after wake stop
     turn_taken = record {
@@ -259,7 +259,7 @@ module _ {id : ℕ} {wake : Wake} {stop : Stop} {r after new : Runner} {ro : Tas
       task_after = started_at.same_task s row_there ∙ turn.task;
       child_after = λ i. ap (λ (n : ℕ). task_of after.task_table (n + i)) (sym same_many) ∙ started_at.task i;
       other_after = λ p lt differs. started_at.same_task p (below p lt) ∙ turn.same.task p differs;
-      gone_after = gone_same;
+      ended_task_after = ended_task_same;
       start_after = λ p lt. started_at.same_start p (below p lt) ∙ turn.same.start p;
       start_child = λ i lt.
           ap (λ (n : ℕ). start_of after.task_table (n + i)) (sym same_many) ∙ started_at.start i lt
@@ -272,7 +272,7 @@ module _ {id : ℕ} {wake : Wake} {stop : Stop} {r after new : Runner} {ro : Tas
     }
 
     same_tasks : SameTasks that (state_in left)
-    same_tasks = record { turns = refl; task = λ p. refl; gone = λ p. refl; start = λ p. refl; children = λ p. refl }
+    same_tasks = record { turns = refl; task = λ p. refl; ended_task = λ p. refl; start = λ p. refl; children = λ p. refl }
 
     count : m + length w.started.items ≡ task_count after.task_table
     count = let more : task_count after.task_table ≡ task_count ro + length w.started.items = started_at.more in omega (arith, more, same_many)
@@ -313,7 +313,7 @@ module _ {id : ℕ} {wake : Wake} {stop : Stop} {r after new : Runner} {ro : Tas
     state : Refines table r.job.now r.input.now t m None (state_in r)
     state = meaning_run r going
 
-    wakes_so : MayWake state.interleaving.froms state.interleaving.tasks
+    wakes_so : MayWake state.interleaving.cancelled_from state.interleaving.tasks
         (record { at = t; own = (now_for wake (state_of turn.before r.world)).own }) (state.interleaving.at s)
         (wake_in r.world.book turn.before.task_state wake) (state.interleaving.at s).rest.stopped
     wakes_so = may_wake table r.job.now r.input.now t m (state_in r) settled going.sound.names going.sound.starts state s turn.before
@@ -356,7 +356,7 @@ module _ {id : ℕ} {wake : Wake} {stop : Stop} {r after new : Runner} {ro : Tas
       y_task : task_of r.task_table y.row ≡ Some y.task
       y_task = task_at r.task_table going.shelved.consistent.agree other y lives
 
-      y_follows : Follows that T.is.froms r.input.now t T.is.at (numbers_then state.numbers s m T.took.numbers_after)
+      y_follows : Follows that T.is.cancelled_from r.input.now t T.is.at (numbers_then state.numbers s m T.took.numbers_after)
           (leaving_by stop s) y.row
           y.task
       y_follows =
@@ -384,7 +384,7 @@ module _ {id : ℕ} {wake : Wake} {stop : Stop} {r after new : Runner} {ro : Tas
           subst (λ (n : ℕ). StaysOrIsSet n (event_at r.world) (event_at w) [] w.set.items key) (sym tick)
           (subst (λ (was : List ℕ). StaysOrIsSet t (event_at r.world) (event_at w) was w.set.items key) none_set
           (event_still state T (acted state T settled going.sound.names going.sound.starts) y.row y.task y_task y_follows.goes.scope
-          (subst (λ (x : Started). AreAt (label_at w) (event_at w) T.is.froms (outer_of w.scopes (scope_of y.task)) x.places)
+          (subst (λ (x : Started). AreAt (label_at w) (event_at w) T.is.cancelled_from (outer_of w.scopes (scope_of y.task)) x.places)
           (T.of_other y.row y_below y_else) y_follows.stands.places) key since is))
 
       -- a nursery that it waits for is the same

@@ -64,12 +64,12 @@ first_turns picks r b answers picker current next =
         ∙ ap (λ (xs : List Added). record { current = answers_placed r.batch.current answers; next = xs }) f
 
 -- and once none is left every entry had one
-pub all_turns : {P : Type 0} {picks : P → ℕ → ℕ → P → Type 0} {r : Runner} {before after : P} (was told : Runner) (answers : List Answer)
+pub all_turns : {P : Type 0} {picks : P → ℕ → ℕ → P → Type 0} {r : Runner} {before after : P} (was informed : Runner) (answers : List Answer)
     (left b : Batches) → TakesTurns picks (with_answers was answers) before r after → left ≡ r.batch → r.batch.current ≡ [] →
-    SeesOnly (record r { batch = left }) told → b.current ≡ map without_answer told.batch.next →
-    Commits picks was (record told { batch = b }) answers before after
-all_turns {picks = picks} {r = r} {before = before} {after = after} was told answers left b turns same over only current =
-    let world : told.world ≡ record r.world { scopes = record (r.world.scopes) { changed = told.world.scopes.changed } } =
+    SeesOnly (record r { batch = left }) informed → b.current ≡ map without_answer informed.batch.next →
+    Commits picks was (record informed { batch = b }) answers before after
+all_turns {picks = picks} {r = r} {before = before} {after = after} was informed answers left b turns same over only current =
+    let world : informed.world ≡ record r.world { scopes = record (r.world.scopes) { changed = informed.world.scopes.changed } } =
     ap (λ (x : Runner). x.world) only in
     record {
       last = r;

@@ -23,10 +23,10 @@ use Rattle.task_machine.specs.declared.task.Home.{Home}
 use Rattle.task_machine.specs.declared.task.Task.{Task}
 use Rattle.task_machine.specs.declared.world.World.{World}
 use Rattle.task_machine.specs.Fitting.{waits_of}
-use Rattle.run_refinement.specs.Leaving.{EndIsTold}
+use Rattle.run_refinement.specs.Leaving.{EndIsRecorded}
 use Rattle.run_refinement.proofs.Found.{finds, gives, puts}
 use Rattle.run_refinement.proofs.Going.{ended_waits}
-use Rattle.run_refinement.proofs.Told.{same_owner}
+use Rattle.run_refinement.proofs.Recorded.{same_owner}
 use Rattle.task_table.specs.declared.task_table.TaskTable.{TaskTable}
 use Rattle.task_table.specs.declared.task_table.Running.{Running}
 use Rattle.task_table.specs.Rows.{times}
@@ -75,18 +75,18 @@ awaits (Awaits id since) key e = (since, ap (λ (n : ℕ). Awaits n since) (same
 awaits Over key e = absurd (none-some key e)
 
 -- a nursery in which a child runs is not settled
-not_all : (es : List End) (place : ℕ) → slice_get es place ≡ Some None → list_all is_some es ≡ false
-not_all [] place e = absurd (none-some None e)
-not_all (None ∷ es) place e = refl
+not_all : (es : List End) (index : ℕ) → slice_get es index ≡ Some None → list_all is_some es ≡ false
+not_all [] index e = absurd (none-some None e)
+not_all (None ∷ es) index e = refl
 not_all (Some x ∷ es) zero e = absurd (let f : Some (Some x) ≡ Some None = e in cc)
-not_all (Some x ∷ es) (suc place) e = not_all es place e
+not_all (Some x ∷ es) (suc index) e = not_all es index e
 
 and_false : (a b : Bool) → b ≡ false → (a && b) ≡ false
 and_false true b e = e
 and_false false b e = refl
 
-unsettled : (n : Nursery) (place : ℕ) → slice_get n.children place ≡ Some None → is_settled n ≡ false
-unsettled n place e = and_false (is_some n.body) (list_all is_some n.children) (not_all n.children place e)
+unsettled : (n : Nursery) (index : ℕ) → slice_get n.children index ≡ Some None → is_settled n ≡ false
+unsettled n index e = and_false (is_some n.body) (list_all is_some n.children) (not_all n.children index e)
 
 -- the body of a settled nursery has ended
 body_ended : (n : Nursery) → is_settled n ≡ true → is_some n.body ≡ true
@@ -107,12 +107,12 @@ due_none n e = ap (λ (b : Bool). if b then 1 else 0) e
 module _ {r : Runner} {task_table : TaskTable} {id row : ℕ} {exc : Option held.Exc} (h : IsStopping id row (stops.Ended exc) r)
     (e : Ends r.task_table task_table id (tick_of r.world.clock r.world.tick) exc) (agree : IsTaskTable task_table)
     (rootless : e.task.home ≡ None) where
-  root_told : EndIsTold r.world.tick r.world.book r.world.book e.task.home (option_map exc_of exc)
-  root_told = rw rootless refl
+  root_recorded : EndIsRecorded r.world.tick r.world.book r.world.book e.task.home (option_map exc_of exc)
+  root_recorded = rw rootless refl
 
   root_once : (other : ℕ) → times_shelved r.batch r.clock other ≡ running_times r.world.book (running_at task_table other)
   root_once other =
-      let kept = once_after h e agree r.world.book root_told (λ (key : ℕ). 0) refl
+      let kept = once_after h e agree r.world.book root_recorded (λ (key : ℕ). 0) refl
       (λ key differs. (let a : times_shelved r.batch r.clock key ≡ running_times r.world.book (running_at r.task_table key) =
       h.shelved.once key differs in omega (arith, a))) other in
       omega (arith, kept)
@@ -125,15 +125,15 @@ module _ {r : Runner} {task_table : TaskTable} {id row : ℕ} {exc : Option held
         counts = h.counts;
         shelved =
             record {
-              consistent = consistent_after h e agree r.world.book root_told;
-              stay = stay_after h e agree r.world.book root_told;
-              known = known_after h e agree r.world.book root_told;
-              current = entries_after h e agree r.world.book root_told;
-              next = added_after h e agree r.world.book root_told;
+              consistent = consistent_after h e agree r.world.book root_recorded;
+              stay = stay_after h e agree r.world.book root_recorded;
+              known = known_after h e agree r.world.book root_recorded;
+              current = entries_after h e agree r.world.book root_recorded;
+              next = added_after h e agree r.world.book root_recorded;
               once = λ other any. root_once other;
               away = none_away (λ (x : ℕ). times_shelved r.batch r.clock x ≡ 0);
             };
-        interleaving = interleaving_after h e agree r.world.book root_told;
+        interleaving = interleaving_after h e agree r.world.book root_recorded;
       }
 
 -- ---- a child that ended
@@ -143,7 +143,7 @@ module _ {r : Runner} {task_table : TaskTable} {id row : ℕ} {exc : Option held
     (n : Nursery) (was : nursery_at r.world.book home.nursery ≡ Some n) where
   -- the nursery after the end was recorded
   abbrev n' : Nursery
-  n' = with_child home.place (option_map exc_of exc) r.world.tick n
+  n' = with_child home.index (option_map exc_of exc) r.world.tick n
 
   w : HasWaiter r row home
   w = waiter_of h e home has
@@ -166,8 +166,8 @@ module _ {r : Runner} {task_table : TaskTable} {id row : ℕ} {exc : Option held
 
   -- the nursery was not settled
   before : settled_times (nursery_at r.world.book home.nursery) ≡ 0
-  before = ap settled_times was ∙ due_none n (unsettled n home.place
-      (gives r.world.book home.nursery n (λ x. slice_get x.children home.place ≡ Some None) was w.runs))
+  before = ap settled_times was ∙ due_none n (unsettled n home.index
+      (gives r.world.book home.nursery n (λ x. slice_get x.children home.index ≡ Some None) was w.runs))
 
   -- no one else waits for it
   one_waits : (other : ℕ) (x : Running) → running_at r.task_table other ≡ Some x → waits_of x.task.task_state ≡ Some home.nursery →
@@ -206,10 +206,10 @@ module _ {r : Runner} {task_table : TaskTable} {id row : ℕ} {exc : Option held
     abbrev world_after : World
     world_after = record r.world { book = book }
 
-    told : EndIsTold r.world.tick r.world.book book e.task.home (option_map exc_of exc)
-    told =
+    recorded : EndIsRecorded r.world.tick r.world.book book e.task.home (option_map exc_of exc)
+    recorded =
         rw has (puts r.world.book home.nursery n (λ x. Updates r.world.book book home.nursery
-        (Some (with_child home.place (option_map exc_of exc) r.world.tick x))) was u)
+        (Some (with_child home.index (option_map exc_of exc) r.world.tick x))) was u)
 
     after : settled_times (nursery_at book home.nursery) ≡ settled_times (Some n')
     after = ap settled_times u.changed
@@ -285,23 +285,23 @@ module _ {r : Runner} {task_table : TaskTable} {id row : ℕ} {exc : Option held
         (puts book home.nursery n' (λ x. x.last ≡ r.world.tick) u.changed refl))
 
     -- the run is between two turns
-    pub told_going : {new : Runner} → IsReadied (waiter_if (is_settled n') waiter) calls.Settled (ended_runner r task_table book) new →
+    pub recorded_going : {new : Runner} → IsReadied (waiter_if (is_settled n') waiter) calls.Settled (ended_runner r task_table book) new →
         IsGoing None new
-    told_going {new} ready =
+    recorded_going {new} ready =
         subst (IsGoing None) (sym ready.rest)
         (record {
           sound = h.sound;
           counts = h.counts;
           shelved = subst (AreShelved None) ready.rest shelved;
-          interleaving = interleaving_after h e agree book told;
+          interleaving = interleaving_after h e agree book recorded;
         })
       where
         shelved : AreShelved None new
         shelved =
             shelved_ready ready (few (is_settled n')) (awake (is_settled n') refl) (each (is_settled n') refl)
-            (consistent_after h e agree book told) (stay_after h e agree book told) (known_after h e agree book told)
-            (entries_after h e agree book told) (added_after h e agree book told) None
-            (λ other any. once_after h e agree book told (λ (key : ℕ). times key (waiter_if (is_settled n') waiter))
+            (consistent_after h e agree book recorded) (stay_after h e agree book recorded) (known_after h e agree book recorded)
+            (entries_after h e agree book recorded) (added_after h e agree book recorded) None
+            (λ other any. once_after h e agree book recorded (λ (key : ℕ). times key (waiter_if (is_settled n') waiter))
             (none_of_it (is_settled n')) (kept (is_settled n') refl) other)
             (none_away (λ (other : ℕ). times_shelved r.batch r.clock other + times other (waiter_if (is_settled n') waiter) ≡ 0))
 
@@ -313,24 +313,24 @@ waiter_is : (r : Runner) (task_table : TaskTable) (row : ℕ) {id tick : ℕ} {e
 waiter_is r task_table row e = e.same.id (parent_of task_table row) ∙ ap (id_of r.task_table) (e.same.parent row)
 
 -- the task that waits for the nursery has no timer where the nursery is settled
-pub tell_awake : {r : Runner} {task_table : TaskTable} {id row nursery place : ℕ} {exc : Option held.Exc} {end : Option Exc} →
+pub tell_awake : {r : Runner} {task_table : TaskTable} {id row nursery index : ℕ} {exc : Option held.Exc} {end : Option Exc} →
     (h : IsStopping id row (stops.Ended exc) r) → (e : Ends r.task_table task_table id (tick_of r.world.clock r.world.tick) exc) →
-    option_map {U = ℕ × ℕ} (λ (x : Home). (x.nursery, x.place)) e.task.home ≡ Some (nursery, place) → end ≡ option_map exc_of exc →
-    HasNursery r.world.book nursery (λ n. is_settled (with_child place end r.world.tick n) ≡ true →
+    option_map {U = ℕ × ℕ} (λ (x : Home). (x.nursery, x.index)) e.task.home ≡ Some (nursery, index) → end ≡ option_map exc_of exc →
+    HasNursery r.world.book nursery (λ n. is_settled (with_child index end r.world.tick n) ≡ true →
     due_of r.clock (id_of task_table (parent_of task_table row)) ≡ None)
-tell_awake {r} {task_table} {id} {row} {nursery} {place} {exc} {end} h e f same =
-    let y = home_is e.task.home nursery place f in
+tell_awake {r} {task_table} {id} {row} {nursery} {index} {exc} {end} h e f same =
+    let y = home_is e.task.home nursery index f in
     let w = waiter_of h e y.0 y.1 in
-    let n = finds r.world.book y.0.nursery (λ x. slice_get x.children y.0.place ≡ Some None) w.runs in
+    let n = finds r.world.book y.0.nursery (λ x. slice_get x.children y.0.index ≡ Some None) w.runs in
     awake_in y.2 y.3 same (puts r.world.book y.0.nursery n.0
-    (λ x. is_settled (with_child y.0.place (option_map exc_of exc) r.world.tick x) ≡ true →
+    (λ x. is_settled (with_child y.0.index (option_map exc_of exc) r.world.tick x) ≡ true →
     due_of r.clock (id_of task_table (parent_of task_table row)) ≡ None) n.1
     (λ over. ap (due_of r.clock) (waiter_is r task_table row e) ∙ waiter_awake h e y.0 y.1 n.0 n.1 over))
   where
-    awake_in : {m p : ℕ} {other : Option Exc} → m ≡ nursery → p ≡ place → end ≡ other →
+    awake_in : {m p : ℕ} {other : Option Exc} → m ≡ nursery → p ≡ index → end ≡ other →
         HasNursery r.world.book m (λ n. is_settled (with_child p other r.world.tick n) ≡ true →
         due_of r.clock (id_of task_table (parent_of task_table row)) ≡ None) →
-        HasNursery r.world.book nursery (λ n. is_settled (with_child place end r.world.tick n) ≡ true →
+        HasNursery r.world.book nursery (λ n. is_settled (with_child index end r.world.tick n) ≡ true →
         due_of r.clock (id_of task_table (parent_of task_table row)) ≡ None)
     awake_in a b d t = rw (← a, ← b, d) t
 
@@ -338,10 +338,10 @@ tell_awake {r} {task_table} {id} {row} {nursery} {place} {exc} {end} h e f same 
 home_going : {r new : Runner} {task_table : TaskTable} {id row : ℕ} {exc : Option held.Exc} → IsStopping id row (stops.Ended exc) r →
     (e : Ends r.task_table task_table id (tick_of r.world.clock r.world.tick) exc) → IsTaskTable task_table → (home : Home) →
     e.task.home ≡ Some home →
-    TellsEnd (record r { task_table = task_table }) new home.nursery home.place (option_map exc_of exc)
+    TellsEnd (record r { task_table = task_table }) new home.nursery home.index (option_map exc_of exc)
     (id_of task_table (parent_of task_table row)) → IsGoing None new
 home_going {r} {new} {task_table} {id} {row} {exc} h e agree home has t =
-    told_going h e home has n.0 n.1 agree n.2
+    recorded_going h e home has n.0 n.1 agree n.2
     (gives new.world.book home.nursery (n' h e home has n.0 n.1)
     (λ x. IsReadied (waiter_if (is_settled x) (id_of r.task_table (parent_of r.task_table row))) calls.Settled
     (ended_runner r task_table new.world.book) new) n.2.changed
@@ -349,9 +349,9 @@ home_going {r} {new} {task_table} {id} {row} {exc} h e agree home has t =
     calls.Settled (ended_runner r task_table new.world.book) new)) (waiter_is r task_table row e) t.ready))
   where
     n : (n : Nursery) × (nursery_at r.world.book home.nursery ≡ Some n)
-        × Updates r.world.book new.world.book home.nursery (Some (with_child home.place (option_map exc_of exc) r.world.tick n))
+        × Updates r.world.book new.world.book home.nursery (Some (with_child home.index (option_map exc_of exc) r.world.tick n))
     n = finds r.world.book home.nursery (λ x. Updates r.world.book new.world.book home.nursery
-        (Some (with_child home.place (option_map exc_of exc) r.world.tick x))) t.book
+        (Some (with_child home.index (option_map exc_of exc) r.world.tick x))) t.book
 
 -- the nursery, the place and the exception of an end that was recorded may be said otherwise
 tells_in : {r new : Runner} {n m p q waiter : ℕ} {end other : Option Exc} → n ≡ m → p ≡ q → end ≡ other →
@@ -360,16 +360,16 @@ tells_in a b same t = rw (a, b, ← same) t
 
 -- the end of a child was recorded in its nursery, and its waiter continues a round later if it is settled: the run is between two
 -- turns
-pub child_going : {r new : Runner} {task_table : TaskTable} {id row nursery place : ℕ} {exc : Option held.Exc} {end : Option Exc} →
+pub child_going : {r new : Runner} {task_table : TaskTable} {id row nursery index : ℕ} {exc : Option held.Exc} {end : Option Exc} →
     IsStopping id row (stops.Ended exc) r → (e : Ends r.task_table task_table id (tick_of r.world.clock r.world.tick) exc) →
     IsTaskTable task_table →
-    option_map {U = ℕ × ℕ} (λ (x : Home). (x.nursery, x.place)) e.task.home ≡ Some (nursery, place) → end ≡ option_map exc_of exc →
-    TellsEnd (record r { task_table = task_table }) new nursery place end (id_of task_table (parent_of task_table row)) → IsGoing None new
-child_going {nursery = nursery} {place = place} h e agree f same t =
-    let y = home_is e.task.home nursery place f in
+    option_map {U = ℕ × ℕ} (λ (x : Home). (x.nursery, x.index)) e.task.home ≡ Some (nursery, index) → end ≡ option_map exc_of exc →
+    TellsEnd (record r { task_table = task_table }) new nursery index end (id_of task_table (parent_of task_table row)) → IsGoing None new
+child_going {nursery = nursery} {index = index} h e agree f same t =
+    let y = home_is e.task.home nursery index f in
     home_going h e agree y.0 y.1 (tells_in y.2 y.3 same t)
 
 -- there is no nursery
-pub homeless : (o : Option Home) → option_map {U = ℕ × ℕ} (λ (x : Home). (x.nursery, x.place)) o ≡ None → o ≡ None
+pub homeless : (o : Option Home) → option_map {U = ℕ × ℕ} (λ (x : Home). (x.nursery, x.index)) o ≡ None → o ≡ None
 homeless None e = refl
-homeless (Some y) e = absurd (none-some (y.nursery, y.place) (sym e))
+homeless (Some y) e = absurd (none-some (y.nursery, y.index) (sym e))

@@ -116,13 +116,13 @@ waking_all {event} {moment} {was} {now} waiters s none =
         IsKept was now id ⊎ IsWoken (event ∷ []) moment was now id → (event_in waiters id ≡ None) × (due_of now.clock id ≡ Some moment)
     woken id other e (inl same) (inl kept) = absurd (none.none id (kept.0 ∙ (e ∙ ap (λ (n : ℕ). Some n) same)))
     woken id other e (inr i) (inl kept) = absurd i
-    woken id other e among (inr (key, is, one, gone, due)) = (none.same id ∙ gone, due)
+    woken id other e among (inr (key, is, one, removed, due)) = (none.same id ∙ removed, due)
 
     others : (id : ℕ) → ((other : ℕ) → event_in was.waiters id ≡ Some other → IsOneOf other (event ∷ []) → ⊥) →
         IsKept was now id ⊎ IsWoken (event ∷ []) moment was now id →
         (event_in waiters id ≡ event_in was.waiters id) × (due_of now.clock id ≡ due_of was.clock id)
     others id spared (inl kept) = (none.same id ∙ kept.0, kept.1)
-    others id spared (inr (key, is, one, gone, due)) = absurd (spared key is one)
+    others id spared (inr (key, is, one, removed, due)) = absurd (spared key is one)
 
 -- the clock shows the moment still, before the task sleeps
 pub waking_now : {event moment : ℕ} {was now : Runner} {mid : timers.Clock} → IsWakingFor event moment was now → SameTime now.clock mid →
@@ -287,4 +287,4 @@ module _ {was now : Runner} (s : IsTakingSet was now) where
             IsKept was now id ⊎ IsWoken s.taken (suc was.world.tick) was now id →
             (event_in now.waiters id ≡ event_in was.waiters id) × (due_of now.clock id ≡ due_of was.clock id)
         spared_all id none (inl kept) = kept
-        spared_all id none (inr (key, is, one, gone, due)) = absurd (none key is one)
+        spared_all id none (inr (key, is, one, removed, due)) = absurd (none key is one)

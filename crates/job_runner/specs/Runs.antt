@@ -3,7 +3,7 @@ use Rattle.std.specs.Prelude.{◌≡◌, ℕ, ◌<◌, Bool, true, false, List, 
 use Rattle.job_tree.specs.Tree.{Tree}
 use Rattle.job_meaning.specs.Log.{Table}
 use Rattle.job_meaning.specs.Moments.{clock_of}
-use Rattle.job_meaning.specs.Meaning.{From, root_log, records_of, all_entered, froms_by, meaning_end, meaning_froms}
+use Rattle.job_meaning.specs.Meaning.{From, root_log, records_of, all_entered, cancelled_from_by, meaning_end, meaning_cancelled_from}
 use Rattle.job_meaning.specs.Follow.{follow, IsSettled}
 use Rattle.job_meaning.specs.Shown.{Row, Ending, well, by_cancellation, with_exception, row_of, meaning_rows}
 use Rattle.task_table.specs.declared.record.Record.{Record}
@@ -39,27 +39,27 @@ abbrev pub root_end : List Row → ℕ
 root_end [] = 0
 root_end (r ∷ rs) = r.end
 
-abbrev pub froms_in : Run → List ScopeFrom
-froms_in run = run.froms.items
+abbrev pub cancelled_from_in : Run → List ScopeFrom
+cancelled_from_in run = run.cancelled_from.items
 
 abbrev pub turns_of : Run → ℕ
 turns_of run = run.turns
 
 -- the scopes and nurseries with the ticks from which they were cancelled
-abbrev pub scope_froms_of : Run → List From
-scope_froms_of run = map from_of (froms_in run)
+abbrev pub scopes_cancelled_from_of : Run → List From
+scopes_cancelled_from_of run = map from_of (cancelled_from_in run)
 
 -- the run of a job over an input is that of its meaning
 pub record IsRun (job : Tree) (input : List ℕ) (run : Run) : Type 0 where
   pub name : name_of run ≡ job.name
   pub rows : rows_of run ≡ meaning_rows job input
   pub slices : AreSlices input (records_in run)
-  pub froms : scope_froms_of run ≡ meaning_froms job input
+  pub cancelled_from : scopes_cancelled_from_of run ≡ meaning_cancelled_from job input
 
--- And it is the result of following a table: its records, and the froms in the table.
+-- And it is the result of following a table: its records, and the moments of cancellation in the table.
 pub record IsFollowed (table : Table) (job : Tree) (input : List ℕ) (run : Run) : Type 0 where
   pub rows : rows_of run ≡ map (row_of input) (records_of (clock_of job.format) (root_log job (follow table job input)))
-  pub froms : scope_froms_of run ≡ froms_by table (all_entered (root_log job (follow table job input)))
+  pub cancelled_from : scopes_cancelled_from_of run ≡ cancelled_from_by table (all_entered (root_log job (follow table job input)))
 
 -- for any settled table
 abbrev pub FollowsEach : Tree → List ℕ → Run → Type 0

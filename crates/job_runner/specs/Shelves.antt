@@ -62,7 +62,7 @@ GoesBy world task call = (answer : Option Answer) (wake : Wake) → IsRight call
 abbrev pub IsCalled : TaskTable → World → ℕ → Call → Type 0
 IsCalled task_table world id call = IsSomeAnd (running_at task_table id) (λ x. GoesBy world x.task call)
 
--- the same of an entry, and of what was added
+-- the task of an entry, or of what was added, has not ended and is ready by its call
 abbrev pub IsCalledEntry : TaskTable → World → Entry → Type 0
 IsCalledEntry task_table world e = IsCalled task_table world e.task e.call
 

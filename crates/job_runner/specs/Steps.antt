@@ -24,7 +24,7 @@ use Rattle.run_refinement.specs.Turn.{serials_from}
 use Rattle.clock.specs.Sleeping.{Moves, Sees}
 use Rattle.clock.specs.Waiting.{event_in}
 use Rattle.task_table.specs.Rows.{times}
-use Rattle.task_table.specs.TaskTable.{running_at, task_of, gone_of, start_of, children_of, parent_of, id_of, task_count, IsTaskTable}
+use Rattle.task_table.specs.TaskTable.{running_at, task_of, ended_task_of, start_of, children_of, parent_of, id_of, task_count, IsTaskTable}
 use Rattle.task_table.specs.declared.task_table.TaskTable.{TaskTable}
 use Rattle.task_table.specs.declared.task_table.Running.{Running}
 use Rattle.job_runner.specs.declared.runner.Runner.{Runner}
@@ -48,7 +48,7 @@ pub record StartsAll (old new : TaskTable) (parent : ℕ) (tasks : List Task) (t
   pub parent_is : (i : ℕ) → i < length tasks → parent_of new (task_count old + i) ≡ parent
   pub child : children_of new parent ≡ children_of old parent ++ serials_from (task_count old) (length tasks)
   pub same_task : (p : ℕ) → p < task_count old → task_of new p ≡ task_of old p
-  pub same_gone : (p : ℕ) → gone_of new p ≡ gone_of old p
+  pub same_ended_task : (p : ℕ) → ended_task_of new p ≡ ended_task_of old p
   pub same_start : (p : ℕ) → p < task_count old → start_of new p ≡ start_of old p
   pub same_children : (p : ℕ) → p < task_count old → p ≢ parent → children_of new p ≡ children_of old p
   pub same_parent : (p : ℕ) → p < task_count old → parent_of new p ≡ parent_of old p
@@ -152,10 +152,10 @@ abbrev pub waiter_if : Bool → ℕ → List ℕ
 waiter_if true id = id ∷ []
 waiter_if false id = []
 
--- The end of the child at that place was recorded in the nursery, and the task with an id, which waits for it, continues a round
+-- The end of the child at that index was recorded in the nursery, and the task with an id, which waits for it, continues a round
 -- later if it is settled now.
-pub record TellsEnd (old new : Runner) (nursery place : ℕ) (exc : Option Exc) (waiter : ℕ) : Type 0 where
-  pub book : Changes old.world.book new.world.book nursery (with_child place exc old.world.tick)
+pub record TellsEnd (old new : Runner) (nursery index : ℕ) (exc : Option Exc) (waiter : ℕ) : Type 0 where
+  pub book : Changes old.world.book new.world.book nursery (with_child index exc old.world.tick)
   pub ready :
       HasNursery new.world.book nursery (λ (n : Nursery). IsReadied (waiter_if (is_settled n) waiter) Settled
       (record old { world = record old.world { book = new.world.book } }) new)

@@ -7,30 +7,30 @@ use task_table::{Outcome, Record};
 pub struct Run<'a> {
     name: Name,
     records: Vec<Record<'a>>,
-    froms: Vec<ScopeFrom>,
+    cancelled_from: Vec<ScopeFrom>,
     turns: u64,
 }
 
 impl<'a> Run<'a> {
     ghost use Rattle.std.specs.Prelude.{◌≡◌};
-    ghost use Rattle.job_runner.specs.Runs.{name_of, records_in, rows_of, froms_in, turns_of, root_is_well, root_end};
+    ghost use Rattle.job_runner.specs.Runs.{name_of, records_in, rows_of, cancelled_from_in, turns_of, root_is_well, root_end};
 
     // A run of these parts.
     pub(crate) fn new(
         name: Name,
         records: Vec<Record<'a>>,
-        froms: Vec<ScopeFrom>,
+        cancelled_from: Vec<ScopeFrom>,
         turns: u64,
     ) -> Run<'a>
         ensures name { name_of result ≡ name }
         ensures records { records_in result ≡ records.entry.items }
-        ensures froms { froms_in result ≡ froms.items }
+        ensures cancelled_from { cancelled_from_in result ≡ cancelled_from.items }
         ensures turns { turns_of result ≡ turns }
     {
         Run {
             name,
             records,
-            froms,
+            cancelled_from,
             turns,
         }
     }
@@ -42,8 +42,7 @@ impl<'a> Run<'a> {
         self.name
     }
 
-    /// Returns the records: the root's, and each followed by those of its descendants in the order of
-    /// their starts.
+    /// Returns the records: the root's, and each followed by those of its descendants in the order of their starts.
     pub fn records(&self) -> &[Record<'a>]
         ensures { result.now ≡ records_in self.now }
     {
@@ -72,18 +71,18 @@ impl<'a> Run<'a> {
 
     /// Returns the scopes and nurseries with the tick from which each was cancelled, in the order of the
     /// records and of entering.
-    pub fn froms(&self) -> &[ScopeFrom]
-        ensures { result.now ≡ froms_in self.now }
+    pub fn cancelled_from(&self) -> &[ScopeFrom]
+        ensures { result.now ≡ cancelled_from_in self.now }
     {
-        self.froms.as_slice()
+        self.cancelled_from.as_slice()
     }
 
-    /// Returns the same as `froms`, without the records.
-    pub fn into_froms(self) -> Vec<ScopeFrom>
-        ensures { result.items ≡ froms_in self.entry }
+    /// Returns the same as `cancelled_from`, without the records.
+    pub fn into_cancelled_from(self) -> Vec<ScopeFrom>
+        ensures { result.items ≡ cancelled_from_in self.entry }
     {
-        let Run { froms, .. } = self;
-        froms
+        let Run { cancelled_from, .. } = self;
+        cancelled_from
     }
 
     /// Returns the number of turns of all tasks.

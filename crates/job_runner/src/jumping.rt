@@ -15,10 +15,10 @@ use std::alloc::AllocError;
 use task_table::Call;
 
 impl<'a> Runner<'a> {
-    /// Lets the clock jump to the next moment in which a task continues: the first in which the moment of a task has come, or
-    /// one that sleeps or waits for an event sees a cancellation. Those tasks are ready then. The caller must ensure that every task is blocked
-    /// (`Phase::Blocked`). The errors are `Limit`, exactly if that moment is after the tick of the limit, and then the job's
-    /// meaning ends later than the limit; or that the allocator is out of memory.
+    /// Lets the clock jump to the next moment in which a task continues: the first in which the moment of a task has come, or one
+    /// that sleeps or waits for an event sees a cancellation. Those tasks are ready then. The caller must ensure that every task
+    /// is blocked (`Phase::Blocked`). The errors are `Limit`, exactly if that moment is after the tick of the limit, and then the
+    /// job's meaning ends later than the limit; or that the allocator is out of memory.
     pub fn jump(self) -> Result<Runner<'a>, RunFault>
         requires underway { IsUnderway self }
         requires blocked { phase_of self ≡ Blocked }

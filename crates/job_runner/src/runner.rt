@@ -251,7 +251,7 @@ impl<'a> Runner<'a> {
             turns,
             ..
         } = self;
-        let (records, froms) = records_of(alloc, task_table.into_rows())?;
-        Ok(Run::new(job.name(), records, froms, turns))
+        let (records, cancelled_from) = records_of(alloc, task_table.into_rows())?;
+        Ok(Run::new(job.name(), records, cancelled_from, turns))
     }
 }

@@ -20,7 +20,7 @@ use clock::TaskId;
 use exceptions::Exc;
 use input_lines::Request;
 use job_meaning::Clock;
-use nursery_book::{NurseryId, Place};
+use nursery_book::{ChildIndex, NurseryId};
 use std::alloc::{AllocError, Global};
 use task_machine::Stop;
 use task_table::Call;
@@ -73,8 +73,8 @@ impl<'a> Runner<'a> {
         Ok(())
     }
 
-    // The task is added to the sleepers, and to those that wait for the event, if nothing has set it. Where a moment is a tick, it
-    // may continue in the same moment.
+    // The task is added to the sleepers, and to those that wait for the event, if nothing has set it. Where a moment is a tick,
+    // it may continue in the same moment.
     fn handle_wait_for(&mut self, id: TaskId, row: usize, event: ScopeId) -> Result<(), AllocError>
         requires { IsStopping id row (WaitFor event) self.old }
         ensures going { OnOk result (IsGoing None self.new) }
@@ -94,8 +94,8 @@ impl<'a> Runner<'a> {
         Ok(())
     }
 
-    // Where a moment is a tick, a task that waits until a moment continues in this one if it sees a cancellation, or if that moment has
-    // come.
+    // Where a moment is a tick, a task that waits until a moment continues in this one if it sees a cancellation, or if that
+    // moment has come.
     fn call_at_once(&self, id: TaskId, due: u64) -> Option<Call<'a>>
         requires lives { IsSome (running_at self.now.task_table id) }
         requires opened { ForSome (running_at self.now.task_table id) (λ x. ForSome (scope_of x.task) (IsOpen self.now.world.scopes)) }
@@ -173,8 +173,8 @@ impl<'a> Runner<'a> {
 
     // The task's row keeps what is left of it, and its end is recorded in its nursery, if it has one.
     //
-    // The exception of a child is then there twice: its row keeps it for the report, and its nursery raises it, in a group, when it
-    // is closed. Each owns its parts, so one of them is a copy. The root has no nursery, and its exception is not copied.
+    // The exception of a child is then there twice: its row keeps it for the report, and its nursery raises it, in a group, when
+    // it is closed. Each owns its parts, so one of them is a copy. The root has no nursery, and its exception is not copied.
     fn handle_end(&mut self, id: TaskId, row: usize, exc: Option<Exc>) -> Result<(), AllocError>
         requires { IsStopping id row (Ended exc) self.old }
         ensures going { OnOk result (IsGoing None self.new) }
@@ -184,37 +184,37 @@ impl<'a> Runner<'a> {
         match self.task_table.home(id) {
             None => self.task_table.end(id, self.world.tick(), exc)?,
             Some(home) => {
-                let (nursery, place) = home;
+                let (nursery, index) = home;
                 let copy = copy_of(self.alloc, &exc)?;
                 self.task_table.end(id, self.world.tick(), exc)?;
-                self.tell(row, nursery, place, copy)?;
+                self.tell(row, nursery, index, copy)?;
             }
         }
         Ok(())
     }
 
-    // Records in a nursery how its child at that place ended, which is the task of that row. The task that waits for the nursery
+    // Records in a nursery how its child at that index ended, which is the task of that row. The task that waits for the nursery
     // continues a round later, if it is settled now.
     fn tell(
         &mut self,
         row: usize,
         nursery: NurseryId,
-        place: Place,
+        index: ChildIndex,
         exc: Option<Exc>,
     ) -> Result<(), AllocError>
-        requires runs { HasNursery self.old.world.book nursery (λ n. slice_get n.children place ≡ Some None) }
+        requires runs { HasNursery self.old.world.book nursery (λ n. slice_get n.children index ≡ Some None) }
         requires awake { HasNursery self.old.world.book nursery
-            (λ n. is_settled (with_child place (option_map exc_of exc) self.old.world.tick n) ≡ true →
+            (λ n. is_settled (with_child index (option_map exc_of exc) self.old.world.tick n) ≡ true →
             due_of self.old.clock (id_of self.old.task_table (parent_of self.old.task_table row)) ≡ None) }
         requires now { now_of self.old.clock ≡ self.old.world.tick }
         requires bounded { self.old.world.tick ≤ 2 ^ 62 }
         requires row { row < task_count self.old.task_table }
         requires parent { parent_of self.old.task_table row < task_count self.old.task_table }
-        ensures { OnOk result (TellsEnd self.old self.new nursery place (option_map exc_of exc)
+        ensures { OnOk result (TellsEnd self.old self.new nursery index (option_map exc_of exc)
             (id_of self.old.task_table (parent_of self.old.task_table row))) }
     {
         let now = self.world.now();
-        self.world.book_mut().child_ended(nursery, place, exc, now);
+        self.world.book_mut().child_ended(nursery, index, exc, now);
         if self.world.book().settled(nursery) {
             let waiter = self.task_table.parent(row);
             self.ready(waiter, Call::Settled)?;

@@ -66,7 +66,7 @@ blamed : (table : Table) (st : Levels) (t from : ℕ) (during : During) → IsOf
     IsBlamed table st t (seer st from) during
 blamed table st t from during of e when =
     let named = seer_is table st from of e in
-    record { label = named.0; from = from; named = named.1; told = named.2; seen = e; innermost = named.3; raised = when }
+    record { label = named.0; from = from; named = named.1; in_table = named.2; seen = e; innermost = named.3; raised = when }
 
 -- ---- the stories of a walk
 

@@ -17,10 +17,10 @@ use Rattle.job_story.specs.Story.{Tale, enters, enters_event, leaves, waits}
 use Rattle.job_story.specs.Tell.{Scene, story_of_one, tell, tell_block, tell_event, tell_left, tell_wait, tell_gathered, tell_child}
 use Rattle.job_story.specs.declared.event.Event as held
 use Rattle.job_story.specs.declared.progress.Progress.{Progress}
-use Rattle.job_story.specs.declared.told.Told.{Told}
-use Rattle.job_story.specs.Tales.{IsTold, Adds, Tells, IsLeft, own_of, now_in}
+use Rattle.job_story.specs.declared.stretch.Stretch.{Stretch}
+use Rattle.job_story.specs.Tales.{IsStretchOf, Adds, Tells, IsLeft, own_of, now_in}
 use Rattle.job_story.proofs.Adding.{adds_then, adds_child}
-use Rattle.job_story.proofs.Teller.{told_like}
+use Rattle.job_story.proofs.Teller.{stretch_like}
 
 -- what is left of a block, by where the task is and with what its inside ended
 abbrev left_in : Label → Tick → Bool → Levels → Now → Option Exc → Left
@@ -28,7 +28,7 @@ left_in label from shield st now o =
     left_with (catches (from_for now.own now.at label from) shield (stack_for now.own now.at st) now.at) o
 
 -- what a block that is left notes, and how it ends
-record Shut (clock : Clock) (me : Label) (mid : List held.Event) (after : Progress) (w : Told) (kind : Kind) (label : Label) (from : Tick)
+record Shut (clock : Clock) (me : Label) (mid : List held.Event) (after : Progress) (w : Stretch) (kind : Kind) (label : Label) (from : Tick)
     (shield : Bool) (st : Levels) (now : Now) (o : Option Exc) : Type 0 where
   pub exc : option_map exc_of w.exc ≡ exc_after kind label (tick_of clock now.at) (left_in label from shield st now o)
   pub events : Adds me mid after.events.items
@@ -37,7 +37,7 @@ record Shut (clock : Clock) (me : Label) (mid : List held.Event) (after : Progre
 
 -- a block is entered, and left where its inside ends
 pub tells_block : (clock : Clock) (me : Label) (a b : List held.Event) (c d : Progress) (table : Table) (kind : Kind) (label : Label)
-    (m : ℕ) (deadline : Tick) (shield : Bool) (st : Levels) (inside : Tick → Tale) (inner w : Told) (from : Tick) → from ≡ table label →
+    (m : ℕ) (deadline : Tick) (shield : Bool) (st : Levels) (inside : Tick → Tale) (inner w : Stretch) (from : Tick) → from ≡ table label →
     Adds me a b (story_of_one m (enters kind label deadline shield)) → Tells me b inner c (inside from) →
     IsLeft clock me c.events.items d inner w kind label (own_of c)
     (left_in label from shield st (now_in inner.end c) (option_map exc_of inner.exc)) →
@@ -49,72 +49,72 @@ tells_block clock me a b c d table kind label m deadline shield st inside inner 
     (option_map exc_of inner.exc)
     = record { exc = x.exc; events = x.events } in
     let shut : Shut clock me c.events.items d w kind label from shield st (record { at = tale.end; own = tale.own }) tale.exc =
-    subst (λ (n : ℕ). Shut clock me c.events.items d w kind label from shield st (record { at = n; own = tale.own }) tale.exc) k.told.end
+    subst (λ (n : ℕ). Shut clock me c.events.items d w kind label from shield st (record { at = n; own = tale.own }) tale.exc) k.stretch.end
     (subst (λ (own : List Label). Shut clock me c.events.items d w kind label from shield st
     (record { at = inner.end; own = own }) tale.exc) k.own
     (subst (λ (o : Option Exc). Shut clock me c.events.items d w kind label from shield st (record { at = inner.end; own = own_of c }) o)
-    k.told.exc begun)) in
+    k.stretch.exc begun)) in
     let until : w.open_until ≡ 0 = x.open_until in
     subst (λ (f : Tick). Tells me a w d (tell_left clock kind label m deadline shield
     (left_in label f shield st (record { at = (inside f).end; own = (inside f).own }) (inside f).exc) (inside f))) is
     (record {
-      told = record { end = x.end ∙ k.told.end; exc = shut.exc; open_until = λ u. omega (arith, until); open_excs = x.open_excs };
+      stretch = record { end = x.end ∙ k.stretch.end; exc = shut.exc; open_until = λ u. omega (arith, until); open_excs = x.open_excs };
       events =
           adds_then me a b d.events.items _ _ h (adds_then me b c.events.items d.events.items tale.story _ k.events shut.events);
       own = x.own ∙ k.own;
     })
 
 -- the body of a nursery ended, and the nursery ends after its last member
-pub tells_wait : (clock : Clock) (me : Label) (start : List held.Event) (mid now : Progress) (told w : Told) (label : Label) (a : Tale) →
-    Tells me start told mid a →
-    Adds me mid.events.items now.events.items (story_of_one told.end (waits label (option_map exc_of told.exc))) → own_of now ≡ [] →
-    ((b : Tale) → IsTold told b → IsTold w (tell_gathered clock label b)) →
+pub tells_wait : (clock : Clock) (me : Label) (start : List held.Event) (mid now : Progress) (stretch w : Stretch) (label : Label) (a : Tale) →
+    Tells me start stretch mid a →
+    Adds me mid.events.items now.events.items (story_of_one stretch.end (waits label (option_map exc_of stretch.exc))) → own_of now ≡ [] →
+    ((b : Tale) → IsStretchOf stretch b → IsStretchOf w (tell_gathered clock label b)) →
     Tells me start w now (tell_gathered clock label (tell_wait label a))
 unfolding tell_wait tell_gathered
-tells_wait clock me start mid now told w label a h k own g =
+tells_wait clock me start mid now stretch w label a h k own g =
     let waited : Adds me mid.events.items now.events.items (story_of_one a.end (waits label a.exc)) =
-    subst (λ (n : ℕ). Adds me mid.events.items now.events.items (story_of_one n (waits label a.exc))) h.told.end
-    (subst (λ (o : Option Exc). Adds me mid.events.items now.events.items (story_of_one told.end (waits label o))) h.told.exc k) in
+    subst (λ (n : ℕ). Adds me mid.events.items now.events.items (story_of_one n (waits label a.exc))) h.stretch.end
+    (subst (λ (o : Option Exc). Adds me mid.events.items now.events.items (story_of_one stretch.end (waits label o))) h.stretch.exc k) in
     record {
-      told = told_like w (tell_gathered clock label a) (tell_gathered clock label (tell_wait label a)) (g a h.told) refl refl refl;
+      stretch = stretch_like w (tell_gathered clock label a) (tell_gathered clock label (tell_wait label a)) (g a h.stretch) refl refl refl;
       events = adds_then me start mid.events.items now.events.items a.story _ h.events waited;
       own = own;
     }
 
 -- an event is entered, and its inside walked
 pub tells_event : (me : Label) (a b : List held.Event) (d : Progress) (table : Table) (label : Label) (m : ℕ) (inside : Tick → Tale)
-    (w : Told) →
+    (w : Stretch) →
     Adds me a b (story_of_one m (enters_event label)) → Tells me b w d (inside (table label)) →
     Tells me a w d (tell_event table label m inside)
 unfolding tell_event
 tells_event me a b d table label m inside w h k =
     record {
-      told = told_like w (inside (table label)) (tell_event table label m inside) k.told refl refl refl;
+      stretch = stretch_like w (inside (table label)) (tell_event table label m inside) k.stretch refl refl refl;
       events = adds_then me a b d.events.items _ (inside (table label)).story h k.events;
       own = k.own;
     }
 
 -- a task is started, and walked up to its end
 pub tells_child : (me l : Label) (home : Option Label) (scene : Scene) (begins : ℕ) (tale : Tale) (here : Now) (a b : List held.Event)
-    (c d : Progress) (told w : Told) →
-    map event_of b ≡ map event_of a ++ event begins l (starts home scene.here.part) ∷ [] → Tells l b told c tale →
-    map event_of d.events.items ≡ map event_of c.events.items ++ event told.end l (ends home (option_map exc_of told.exc)) ∷ [] →
-    own_of d ≡ here.own → IsTold w (tell_child l home scene begins tale here) → Tells me a w d (tell_child l home scene begins tale here)
+    (c d : Progress) (stretch w : Stretch) →
+    map event_of b ≡ map event_of a ++ event begins l (starts home scene.here.part) ∷ [] → Tells l b stretch c tale →
+    map event_of d.events.items ≡ map event_of c.events.items ++ event stretch.end l (ends home (option_map exc_of stretch.exc)) ∷ [] →
+    own_of d ≡ here.own → IsStretchOf w (tell_child l home scene begins tale here) → Tells me a w d (tell_child l home scene begins tale here)
 unfolding tell_child
-tells_child me l home scene begins tale here a b c d told w first h last own k =
+tells_child me l home scene begins tale here a b c d stretch w first h last own k =
     let over : map event_of d.events.items ≡ map event_of c.events.items ++ event tale.end l (ends home tale.exc) ∷ [] =
-    subst (λ (n : ℕ). map event_of d.events.items ≡ map event_of c.events.items ++ event n l (ends home tale.exc) ∷ []) h.told.end
-    (subst (λ (o : Option Exc). map event_of d.events.items ≡ map event_of c.events.items ++ event told.end l
-    (ends home o) ∷ []) h.told.exc last) in
+    subst (λ (n : ℕ). map event_of d.events.items ≡ map event_of c.events.items ++ event n l (ends home tale.exc) ∷ []) h.stretch.end
+    (subst (λ (o : Option Exc). map event_of d.events.items ≡ map event_of c.events.items ++ event stretch.end l
+    (ends home o) ∷ []) h.stretch.exc last) in
     record {
-      told = k;
+      stretch = k;
       events =
           adds_child me l home scene.here.part begins tale.end tale.exc tale.story a b c.events.items d.events.items first h.events over;
       own = own;
     }
 
 -- the same steps, walked where the input is the same
-pub tells_in : (me : Label) (a : List held.Event) (b : Progress) (w : Told) (k : Table) (ss : Steps) (clock : Clock) (x y : List ℕ)
+pub tells_in : (me : Label) (a : List held.Event) (b : Progress) (w : Stretch) (k : Table) (ss : Steps) (clock : Clock) (x y : List ℕ)
     (p : Range) (l : Label) (in_cleanup : Bool) (st : Stack) (now : Now) → x ≡ y →
     Tells me a w b (tell k ss
     (record { here = record { clock = clock; input = x; part = p; task = l; path = l.indices }; in_cleanup = in_cleanup }) st now) →
@@ -126,7 +126,7 @@ tells_in me a b w k ss clock x y p l in_cleanup st now e h =
     (record { here = record { clock = clock; input = z; part = p; task = l; path = l.indices }; in_cleanup = in_cleanup }) st now)) e h
 
 -- equal steps, walked from an equal moment
-pub tells_at : (me : Label) (a : List held.Event) (b : Progress) (w : Told) (k : Table) (ss body : Steps) (scene : Scene) (st : Stack)
+pub tells_at : (me : Label) (a : List held.Event) (b : Progress) (w : Stretch) (k : Table) (ss body : Steps) (scene : Scene) (st : Stack)
     (u v : Now) →
     ss ≡ body → u ≡ v →
     Tells me a w b (tell k ss scene st u) → Tells me a w b (tell k body scene st v)

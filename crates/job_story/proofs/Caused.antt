@@ -21,7 +21,7 @@ use Rattle.job_story.specs.Causes.{Cause, by_deadline, by_task, by_set, Entering
 use Rattle.job_story.specs.Sentences.{job_events}
 use Rattle.job_story.specs.Blame.{IsBlamedIn, AllBlamed, open_after}
 use Rattle.job_story.specs.Shown.{IsIn, IsEntered, HasACause}
-use Rattle.job_story.specs.LawsOfCauses.{FromsHaveCauses, CancellationsHaveCauses}
+use Rattle.job_story.specs.LawsOfCauses.{CancelledFromHasCauses, CancellationsHaveCauses}
 use Rattle.job_story.proofs.Erasing.{telling_is_following}
 use Rattle.job_story.proofs.Blamed.{is_from_itself, earlier_is, cancellations_are_seen}
 use Rattle.job_story.proofs.Found.{some_is, entering_is}
@@ -424,10 +424,10 @@ module _ (table : Table) (job : Tree) (input : List ℕ) where
       -- a deadline which cancels it.
       pub cause_among : (l : Label) (from : ℕ) → table l ≡ Some from → ((x : Event) → IsIn x walked → x.tick + 1 ≡ from → IsIn x es) →
           (deadline_of l own_log ≡ Some (Some from) → is_some (entering_of l es) ≡ true) → is_some (cause_of table es l) ≡ true
-      cause_among l from told before enters_it =
-          ap (λ (f : Tick). is_some (cause_from f l es)) told
+      cause_among l from in_table before enters_it =
+          ap (λ (f : Tick). is_some (cause_from f l es)) in_table
           ∙ by_deadline_of (deadline_of l own_log) refl
-          (ap (λ (log : Log). entered_from (deadline_of l log) (least_sign l log)) log_is ∙ (sym (settled l) ∙ told))
+          (ap (λ (log : Log). entered_from (deadline_of l log) (least_sign l log)) log_is ∙ (sym (settled l) ∙ in_table))
         where
           signed : (s : Tick) → least_sign l own_log ≡ s → next s ≡ Some from → is_some (cause_by_entering (entering_of l es) l from es) ≡ true
           signed None is h = absurd (cc)
@@ -449,14 +449,14 @@ module _ (table : Table) (job : Tree) (input : List ℕ) where
           by_deadline_of (Some d) is h = by_either d is (earlier_is d (next (least_sign l own_log)) from h)
 
     cause_there : (l : Label) (from : ℕ) → table l ≡ Some from → is_some (cause_of table (job_events table job input) l) ≡ true
-    cause_there l from told =
-        cause_among (job_events table job input) (λ x i. from_order x walked i) l from told (λ x i at. to_order x walked i)
+    cause_there l from in_table =
+        cause_among (job_events table job input) (λ x i. from_order x walked i) l from in_table (λ x i at. to_order x walked i)
         (λ is.
         let e = deadline_event (root_label job.name) (tale_by table job input).story l from is in
         entering_found l (job_events table job input) _ e.kind (Some from) e.shield (to_order _ walked (from_own _ e.entered)) refl)
 
-pub froms_have_causes : FromsHaveCauses
-froms_have_causes table job input l from once settled told = cause_there table job input once settled l from told
+pub cancelled_from_has_causes : CancelledFromHasCauses
+cancelled_from_has_causes table job input l from once settled in_table = cause_there table job input once settled l from in_table
 
 -- ---- the cancellations of a story
 
@@ -466,7 +466,7 @@ IsNamed table (happens (is_cancelled by during in_cleanup)) = (l : Label) × (by
 IsNamed table _ = Unit {0}
 
 one_named : (table : Table) (st : Levels) (t : ℕ) (what : Happening) → IsBlamedIn table st t what → IsNamed table (happens what)
-one_named table st t (is_cancelled by during in_cleanup) b = (b.label, b.named, b.from, b.told)
+one_named table st t (is_cancelled by during in_cleanup) b = (b.label, b.named, b.from, b.in_table)
 one_named table st t _ b = tt
 
 all_named : (table : Table) (st : Levels) (me : Label) (s : Story) → AllBlamed table st s → (x : Event) → IsIn x (events_of me s) →

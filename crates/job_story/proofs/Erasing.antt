@@ -20,7 +20,7 @@ use Rattle.job_meaning.proofs.Finish.{followed_assoc}
 use Rattle.job_meaning.proofs.Clips.{followed_nil}
 use Rattle.job_meaning.proofs.Settled.{settled_is_meaning}
 use Rattle.job_story.specs.Story.{at_checkpoint, waiting_for, Happening, enters, enters_event, sleeps, is_cancelled, finds, misses, raises, cancels, sets, awaits, was_set, handles, cleans, replaces, waits, leaves, Story, no_more, happened, started, then_story, erased_one, erased_log, Tale, result_of}
-use Rattle.job_story.specs.Tell.{Scene, told_at, now_of, story_of_one, and_tale, tale_if, then_tale, failed_at, after_this, seer, asleep_for, during_sleep, tell_slept, tell_sleep, tell_pace, tell_waiting, with_set_if, tell_event_wait, tell_lines, tell_need, tell_raise, tell_cancel, tell_set, tell_left, tell_block, tell_event, tell_wait, tell_gathered, tell_child, tell_each, tell_passes, handled_if, handled_exc, tell_handled, replacement, cleaned_by, tell_cleaned, at_place, tell, tell_step, tell_handler, tell_cleanup, root_scene, tale_by}
+use Rattle.job_story.specs.Tell.{Scene, ended_at, now_of, story_of_one, and_tale, tale_if, then_tale, failed_at, after_this, seer, asleep_for, during_sleep, tell_slept, tell_sleep, tell_pace, tell_waiting, with_set_if, tell_event_wait, tell_lines, tell_need, tell_raise, tell_cancel, tell_set, tell_left, tell_block, tell_event, tell_wait, tell_gathered, tell_child, tell_each, tell_passes, handled_if, handled_exc, tell_handled, replacement, cleaned_by, tell_cleaned, at_place, tell, tell_step, tell_handler, tell_cleanup, root_scene, tale_by}
 use Rattle.job_story.specs.Laws.{TellingIsFollowing, StoriesAreTrue}
 
 -- ---- stories, one after another
@@ -80,7 +80,7 @@ asleep_nothing (suc n) m until = refl
 
 slept_is : (from : Tick) (n m least gives_up end : ℕ) (st : Levels) (c : Bool) (until : Tick) → m ≤ least →
     result_of (tell_slept from n m least gives_up end st c until) ≡ wait_by_sight from least gives_up end
-slept_is None n m least gives_up end st c until le = with_log (told_at (only_at end) (asleep_for n m until)) nil (asleep_nothing n m until)
+slept_is None n m least gives_up end st c until le = with_log (ended_at (only_at end) (asleep_for n m until)) nil (asleep_nothing n m until)
 slept_is (Some from) n m least gives_up end st c until le = by_now (nat_le from m) (nat_le from least) (nat_le from end) seen_by_then
   where
     seen_by_then : nat_le from m ≡ true → nat_le from least ≡ true
@@ -98,14 +98,14 @@ slept_is (Some from) n m least gives_up end st c until le = by_now (nat_le from 
     by_now : (b d w : Bool) → (b ≡ true → d ≡ true) →
         result_of (if b then failed_at cancelled (only_at gives_up) (story_of_one gives_up (is_cancelled (seer st from) at_checkpoint c))
         else (if d then while_asleep gives_up
-        else (if w then while_asleep from else told_at (only_at end) (asleep_for n m until))))
+        else (if w then while_asleep from else ended_at (only_at end) (asleep_for n m until))))
         ≡ (if d then raised_at cancelled (only_at gives_up)
         else (if w then raised_at cancelled (only_at from) else done_at (only_at end)))
     by_now true true w least_too = refl
     by_now true false w least_too = absurd (true≢false (sym (least_too refl)))
     by_now false true w least_too = asleep_is gives_up
     by_now false false true least_too = asleep_is from
-    by_now false false false least_too = with_log (told_at (only_at end) (asleep_for n m until)) nil (asleep_nothing n m until)
+    by_now false false false least_too = with_log (ended_at (only_at end) (asleep_for n m until)) nil (asleep_nothing n m until)
 
 sleep_is : (clock : Clock) (st : Stack) (c : Bool) (until : Tick) (n m : ℕ) →
     result_of (tell_sleep clock st.scopes c until n m) ≡ sleep_result clock st n m
@@ -166,7 +166,7 @@ waiting_is (Some from) m least end st c label le late = by_now (nat_le from m) (
         result_of (if b then failed_at cancelled (only_at t) (story_of_one t (is_cancelled (seer st from) at_checkpoint c))
         else (if w then failed_at cancelled (only_at t)
         (happened m (awaits label) (story_of_one t (is_cancelled (seer st from) (waiting_for label m) c)))
-        else told_at (only_at end) (happened m (awaits label) (story_of_one end (was_set label)))))
+        else ended_at (only_at end) (happened m (awaits label) (story_of_one end (was_set label)))))
         ≡ (let r = (if w then raised_at cancelled (only_at t) else done_at (only_at end)) in with_line_if r.exc label r)
     by_now true true before = refl
     by_now true false before = absurd (true≢false (sym (before refl)))

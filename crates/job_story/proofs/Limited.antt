@@ -295,9 +295,9 @@ cancellations_have_causes_by_limit table limit job input once settled e i =
     there : (l : Label) (from : ℕ) → table l ≡ Some from → from ≤ e.tick → tick_of (clock_of job.format) e.tick ≤ limit →
         BeganBy l e.tick (events_of (root_label job.name) (story_by table job input)) →
         is_some (cause_of table (in_order (walked_to table limit job input)) l) ≡ true
-    there l from told le most began =
+    there l from in_table le most began =
         cause_among table job input once settled (in_order (walked_to table limit job input))
-        (λ x j. (limited x (from_order x (walked_to table limit job input) j)).0) l from told
+        (λ x j. (limited x (from_order x (walked_to table limit job input) j)).0) l from in_table
         (λ x j at. to_limit x j (by_then (clock_of job.format) limit x.tick e.tick (omega arith) most))
         (λ is. entering_found l (in_order (walked_to table limit job input)) _ began.kind began.deadline began.shield
         (to_limit _ began.entered (by_then (clock_of job.format) limit began.tick e.tick began.by most)) refl)

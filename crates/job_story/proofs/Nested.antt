@@ -114,10 +114,10 @@ leads_plain table clock st now (replaces lost fresh) plain outside read rest r h
 leads_plain table clock st now _ plain outside read rest r h = absurd plain
 
 -- a block is left as the story says
-left_as_told : (table : Table) (clock : Clock) (st : Levels) (last : Now) (kind : Kind) (label : Label) (shield : Bool) (inside : Option Exc)
+left_in_story : (table : Table) (clock : Clock) (st : Levels) (last : Now) (kind : Kind) (label : Label) (shield : Bool) (inside : Option Exc)
     (own : List Label) → own ≡ last.own →
     IsNestedIn clock own (levels_inside label shield (table label) st) last.at (left_in clock table st last kind label shield inside)
-left_as_told table clock st last kind label shield inside own e =
+left_in_story table clock st last kind label shield inside own e =
     subst (λ (o : List Label). IsNestedIn clock o (levels_inside label shield (table label) st) last.at (left_in clock table st last kind label shield inside))
     (sym e) (refl, refl, refl)
 
@@ -165,7 +165,7 @@ leads table clock =
         subst (AllNested clock table _ outside (levels_inside label shield (table label) st)) (sym (then_assoc a _ rest))
             (f outside _ (happened last.at (left_in clock table st last kind label shield inside) rest) (reads_event clock read now r)
             (λ next s. (
-              left_as_told table clock st last kind label shield inside _ (reads_own clock next last s),
+              left_in_story table clock st last kind label shield inside _ (reads_own clock next last s),
               h _ (reads_event clock next last s),
             ))),
       );

@@ -8,39 +8,39 @@ use Rattle.exceptions.specs.Exceptions.{Label}
 use Rattle.job_meaning.specs.Moments.{Now}
 use Rattle.job_meaning.specs.Walk.{in_pass}
 use Rattle.job_story.specs.Story.{Story, Tale, no_more}
-use Rattle.job_story.specs.Tell.{told_at, and_tale, then_tale, tell_passes, at_place}
+use Rattle.job_story.specs.Tell.{ended_at, and_tale, then_tale, tell_passes, at_place}
 use Rattle.job_story.specs.declared.event.Event as held
 use Rattle.job_story.specs.declared.here.Here.{Here}
 use Rattle.job_story.specs.declared.progress.Progress.{Progress}
-use Rattle.job_story.specs.declared.told.Told.{Told}
+use Rattle.job_story.specs.declared.stretch.Stretch.{Stretch}
 use Rattle.job_story.specs.Heres.{HasRoom, here_of, scene_of, stack_of, table_of, pass}
 use Rattle.job_story.specs.Rooms.{base, reach, span}
-use Rattle.job_story.specs.Tales.{IsTold, Tells, now_in}
+use Rattle.job_story.specs.Tales.{IsStretchOf, Tells, now_in}
 use Rattle.job_story.proofs.Going.{Going, going_start, going_failed, going_next, going_stop}
 use Rattle.job_story.proofs.Steps.{ends_small}
 
 -- before a pass, what was walked ended without an exception and continues with the passes that are
 -- left
-pub record AtPass (h : Here) (now : Now) (count : ℕ) (body : Steps) (i : ℕ) (start : List held.Event) (w : Told)
+pub record AtPass (h : Here) (now : Now) (count : ℕ) (body : Steps) (i : ℕ) (start : List held.Event) (w : Stretch)
     (mid : Progress) : Type 0 where
   pub going : Going h.task.now start w mid (tell_passes 0 count (pass body h) now) (λ u. tell_passes i (count - i) (pass body h) u)
   pub in_range : AreInRange body
   pub room : HasRoom ((count - i) * (1 + size_of body)) h w.end
 
-pub at_first : (h : Here) (m count : ℕ) (body : Steps) (start : Progress) (w : Told) →
-    ((own : List Label) (s : Story) → IsTold w (told_at (record { at = m; own = own }) s)) → AreInRange body →
+pub at_first : (h : Here) (m count : ℕ) (body : Steps) (start : Progress) (w : Stretch) →
+    ((own : List Label) (s : Story) → IsStretchOf w (ended_at (record { at = m; own = own }) s)) → AreInRange body →
     HasRoom (count * (1 + size_of body)) h m → AtPass h (now_in m start) count body 0 start.events.items w start
-at_first h m count body start w told in_range room =
+at_first h m count body start w stretch in_range room =
     let none : count ≡ count - 0 = omega arith in
     record {
       going =
           subst (λ (n : ℕ). Going h.task.now start.events.items w start (tell_passes 0 count (pass body h) (now_in m start))
           (λ u. tell_passes 0 n (pass body h) u)) none
-          (going_start h.task.now start w m (λ u. tell_passes 0 count (pass body h) u) told);
+          (going_start h.task.now start w m (λ u. tell_passes 0 count (pass body h) u) stretch);
       in_range = in_range;
       room =
           subst (λ (n : ℕ). HasRoom (n * (1 + size_of body)) h w.end) none
-          (subst (λ (u : ℕ). HasRoom (count * (1 + size_of body)) h u) (sym (told [] no_more).end) room);
+          (subst (λ (u : ℕ). HasRoom (count * (1 + size_of body)) h u) (sym (stretch [] no_more).end) room);
     }
 
 -- the first of the passes that are left
@@ -58,7 +58,7 @@ left_size i count size lt =
     let left : count - i ≡ suc (count - (i + 1)) = omega (arith, lt) in
     ap (λ (n : ℕ). n * size) left ∙ suc-mul (count - (i + 1)) size
 
-pub room_pass : (h : Here) (now : Now) (count : ℕ) (body : Steps) (i : ℕ) (start : List held.Event) (w : Told) (mid : Progress) →
+pub room_pass : (h : Here) (now : Now) (count : ℕ) (body : Steps) (i : ℕ) (start : List held.Event) (w : Stretch) (mid : Progress) →
     AtPass h now count body i start w mid → i < count → HasRoom (size_of body) h w.end
 room_pass h now count body i start w mid at lt =
     record { room = fits (span h.clock) at.room.room; small = at.room.small }
@@ -70,11 +70,11 @@ room_pass h now count body i start w mid at lt =
         ap (λ (z : ℕ). z * n) (left_size i count (1 + size_of body) lt) ∙ omega arith in
         omega (arith, le, left)
 
--- a pass that ended with an exception ends the loop, and what was told is the tale of the whole loop
-pub pass_failed : (h : Here) (now : Now) (count : ℕ) (body : Steps) (i : ℕ) (start : List held.Event) (mid over : Progress) (w v x : Told) →
+-- a pass that ended with an exception ends the loop, and what was recorded is the tale of the whole loop
+pub pass_failed : (h : Here) (now : Now) (count : ℕ) (body : Steps) (i : ℕ) (start : List held.Event) (mid over : Progress) (w v x : Stretch) →
     AtPass h now count body i start w mid → i < count → (u : ℕ) → u ≡ w.end →
     Tells h.task.now mid.events.items v over (pass body h i (now_in u mid)) →
-    ((p q : Tale) → IsTold w p → IsTold v q → IsTold x (and_tale p q)) → is_some x.exc ≡ true →
+    ((p q : Tale) → IsStretchOf w p → IsStretchOf v q → IsStretchOf x (and_tale p q)) → is_some x.exc ≡ true →
     Tells h.task.now start x over (tell_passes 0 count (pass body h) now)
 pass_failed h now count body i start mid over w v x at lt u ends tells join failed =
     going_failed h.task.now start mid over w v x _ _ (λ y. pass body h i y) (λ y. tell_passes (i + 1) (count - (i + 1))
@@ -82,17 +82,17 @@ pass_failed h now count body i start mid over w v x at lt u ends tells join fail
     (first_left i count (pass body h) lt) u ends tells join failed
 
 -- a pass that ended well: the walk is at the next pass, with the tales so far (`w`) and of this pass (`v`) joined
-pub pass_next : (h : Here) (now : Now) (count : ℕ) (body : Steps) (i : ℕ) (start : List held.Event) (mid over : Progress) (w v x : Told) →
+pub pass_next : (h : Here) (now : Now) (count : ℕ) (body : Steps) (i : ℕ) (start : List held.Event) (mid over : Progress) (w v x : Stretch) →
     AtPass h now count body i start w mid → i < count → (u : ℕ) → u ≡ w.end →
     Tells h.task.now mid.events.items v over (pass body h i (now_in u mid)) →
-    ((p q : Tale) → IsTold w p → IsTold v q → IsTold x (and_tale p q)) → is_some x.exc ≡ false →
+    ((p q : Tale) → IsStretchOf w p → IsStretchOf v q → IsStretchOf x (and_tale p q)) → is_some x.exc ≡ false →
     AtPass h now count body (i + 1) start x over
 pass_next h now count body i start mid over w v x at lt u ends tells join well =
     let ends_by : max v.end v.open_until ≤ reach h.clock u + size_of body * span h.clock =
     ends_small v (table_of h) body (at_place (in_pass i (here_of h)) (scene_of h)) (stack_of h) (now_in u mid) at.in_range at.room.small
-    tells.told in
+    tells.stretch in
     let from : u ≡ w.end = ends in
-    let last : x.end ≡ v.end = (join at.going.before _ at.going.tells.told tells.told).end ∙ sym tells.told.end in
+    let last : x.end ≡ v.end = (join at.going.before _ at.going.tells.stretch tells.stretch).end ∙ sym tells.stretch.end in
     record {
       going =
           going_next h.task.now start mid over w v x _ _ (λ y. pass body h i y) (λ y. tell_passes (i + 1) (count - (i + 1))
@@ -111,9 +111,9 @@ pass_next h now count body i start mid over w v x at lt u ends tells join well =
         omega (arith, le, left, ends_by, from, last)
 
 -- all passes were walked
-pub pass_stop : (h : Here) (now : Now) (count : ℕ) (body : Steps) (i : ℕ) (start : List held.Event) (w : Told) (mid : Progress) →
+pub pass_stop : (h : Here) (now : Now) (count : ℕ) (body : Steps) (i : ℕ) (start : List held.Event) (w : Stretch) (mid : Progress) →
     AtPass h now count body i start w mid → count ≤ i → Tells h.task.now start w mid (tell_passes 0 count (pass body h) now)
 pass_stop h now count body i start w mid at le =
     let none : 0 ≡ count - i = omega (arith, le) in
     going_stop h.task.now start mid w _ _ at.going
-    (λ u. subst (λ (n : ℕ). tell_passes i n (pass body h) u ≡ told_at u no_more) none refl)
+    (λ u. subst (λ (n : ℕ). tell_passes i n (pass body h) u ≡ ended_at u no_more) none refl)

@@ -18,14 +18,14 @@ use Rattle.job_story.specs.Story.{misses}
 use Rattle.job_story.specs.Tell.{failed_at, story_of_one, tell_lines, tell_need}
 use Rattle.job_story.specs.declared.event.Event as held
 use Rattle.job_story.specs.declared.progress.Progress.{Progress}
-use Rattle.job_story.specs.declared.told.Told.{Told}
+use Rattle.job_story.specs.declared.stretch.Stretch.{Stretch}
 use Rattle.job_story.specs.Tales.{Tells}
 use Rattle.job_meaning.proofs.Ends.{count_le}
 
 -- a `find` shows its lines, by the answer of the kernel
 pub shows_found : (me : Label) (before : List held.Event) (after : Progress) (part : Part) (needle : Bor (List ℕ)) (text : List ℕ)
     (a : Answer)
-    (lines : List Line) (w : Told) (now : Now) →
+    (lines : List Line) (w : Stretch) (now : Now) →
     IsAnswer (Find needle) part a → a ≡ answers.Lines lines → needle.now ≡ text →
     Tells me before w after (tell_lines (map span_of lines) now) →
     Tells me before w after (tell_lines (found_in (buffer_of part) text (range_of part)) now)
@@ -36,7 +36,7 @@ shows_found me before after part needle text a lines w now is lines_is needle_is
     (subst (λ (ls : List Span). Tells me before w after (tell_lines ls now)) at.places h)
 
 pub shows_head : (me : Label) (before : List held.Event) (after : Progress) (part : Part) (count : ℕ) (a : Answer) (lines : List Line)
-    (w : Told)
+    (w : Stretch)
     (now : Now) →
     IsAnswer (Head count) part a → a ≡ answers.Lines lines → Tells me before w after (tell_lines (map span_of lines) now) →
     Tells me before w after (tell_lines (head_of (buffer_of part) count (range_of part)) now)
@@ -45,7 +45,7 @@ shows_head me before after part count a lines w now is lines_is h =
     (Head count) part) lines_is is in
     subst (λ (ls : List Span). Tells me before w after (tell_lines ls now)) at.places h
 
-pub shows_longest : (me : Label) (before : List held.Event) (after : Progress) (part : Part) (a : Answer) (lines : List Line) (w : Told)
+pub shows_longest : (me : Label) (before : List held.Event) (after : Progress) (part : Part) (a : Answer) (lines : List Line) (w : Stretch)
     (now : Now) →
     IsAnswer Longest part a → a ≡ answers.Lines lines → Tells me before w after (tell_lines (map span_of lines) now) →
     Tells me before w after (tell_lines (longest_in (buffer_of part) (range_of part)) now)
@@ -54,7 +54,7 @@ shows_longest me before after part a lines w now is lines_is h =
     subst (λ (ls : List Span). Tells me before w after (tell_lines ls now)) at.places h
 
 shows_needed_if : (me : Label) (before : List held.Event) (after : Progress) (buffer : List ℕ) (found : Option Span) (lines : List Line)
-    (name : List ℕ) (here : Here) (w : Told) (now : Now) →
+    (name : List ℕ) (here : Here) (w : Stretch) (now : Now) →
     MatchOption found ⊥ (λ l. AreLinesAt buffer (l ∷ []) lines) → Tells me before w after (tell_lines (map span_of lines) now) →
     Tells me before w after (tell_need found name here now)
 unfolding tell_need tell_lines
@@ -65,7 +65,7 @@ shows_needed_if me before after buffer (Some l) lines name here w now at h =
 -- a `need` that has its line shows it, by the answer of the kernel
 pub shows_needed : (me : Label) (before : List held.Event) (after : Progress) (part : Part) (needle : Bor (List ℕ)) (text : List ℕ)
     (a : Answer)
-    (lines : List Line) (name : List ℕ) (here : Here) (w : Told) (now : Now) →
+    (lines : List Line) (name : List ℕ) (here : Here) (w : Stretch) (now : Now) →
     IsAnswer (Need needle) part a → a ≡ answers.Lines lines → needle.now ≡ text →
     Tells me before w after (tell_lines (map span_of lines) now) →
     Tells me before w after (tell_need (needed_in (buffer_of part) text (range_of part)) name here now)
@@ -77,7 +77,7 @@ shows_needed me before after part needle text a lines name here w now is lines_i
 -- a `need` that has no line raises its name, by the answer of the kernel
 pub misses_needed : (me : Label) (before : List held.Event) (after : Progress) (part : Part) (needle : Bor (List ℕ)) (text : List ℕ)
     (a : Answer)
-    (name : List ℕ) (here : Here) (w : Told) (now : Now) →
+    (name : List ℕ) (here : Here) (w : Stretch) (now : Now) →
     IsAnswer (Need needle) part a → ((lines : List Line) → a ≡ answers.Lines lines → ⊥) → needle.now ≡ text →
     Tells me before w after (failed_at (raised name here.task (tick_of here.clock now.at)) now (story_of_one now.at (misses name))) →
     Tells me before w after (tell_need (needed_in (buffer_of part) text (range_of part)) name here now)

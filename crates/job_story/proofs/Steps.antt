@@ -14,15 +14,15 @@ use Rattle.job_meaning.specs.declared.clock.Clock.{Clock}
 use Rattle.job_meaning.specs.declared.clock.Clock.TheVariants.{ByTicks as by_ticks, ByRounds as by_rounds}
 use Rattle.job_meaning.specs.Walk.{Stack, by_table, walk, walk_step, walk_handler, latest}
 use Rattle.job_story.specs.Story.{Story, Tale, no_more, result_of}
-use Rattle.job_story.specs.Tell.{Scene, told_at, and_tale, tell, tell_step, tell_handler, tell_each, tell_child}
+use Rattle.job_story.specs.Tell.{Scene, ended_at, and_tale, tell, tell_step, tell_handler, tell_each, tell_child}
 use Rattle.job_story.specs.declared.event.Event as held
 use Rattle.job_story.proofs.Erasing.{tell_is, step_is, handler_is}
 use Rattle.job_story.specs.declared.here.Here.{Here}
 use Rattle.job_story.specs.declared.progress.Progress.{Progress}
-use Rattle.job_story.specs.declared.told.Told.{Told}
+use Rattle.job_story.specs.declared.stretch.Stretch.{Stretch}
 use Rattle.job_story.specs.Heres.{HasRoom, scene_of, stack_of, started_by, started_over, table_of}
 use Rattle.job_story.specs.Rooms.{reach, span}
-use Rattle.job_story.specs.Tales.{IsTold, Tells, now_in}
+use Rattle.job_story.specs.Tales.{IsStretchOf, Tells, now_in}
 use Rattle.job_meaning.proofs.Ends.{EndsBy, AllBy, ends_step, ends_by, ends_handler}
 use Rattle.job_story.proofs.Going.{Going, going_start, going_failed, going_next, going_stop}
 
@@ -32,12 +32,12 @@ round_by by_ticks m = omega arith
 round_by by_rounds m = omega arith
 
 -- what the code recorded of a walk has ended when the walk and its members have
-told_by : (w : Told) (a : Tale) (r : Result) (b : ℕ) → IsTold w a → result_of a ≡ r → EndsBy b r → max w.end w.open_until ≤ b
-told_by w a r b told is ends =
+stretch_by : (w : Stretch) (a : Tale) (r : Result) (b : ℕ) → IsStretchOf w a → result_of a ≡ r → EndsBy b r → max w.end w.open_until ≤ b
+stretch_by w a r b stretch is ends =
     let by : EndsBy b (result_of a) = subst (EndsBy b) (sym is) ends in
     let last : latest a.end a.members ≤ b = latest_by b a.end a.members by.end by.members in
-    let end : w.end ≡ a.end = told.end in
-    let all : latest a.end a.members ≡ max a.end w.open_until = told.open_until a.end in
+    let end : w.end ≡ a.end = stretch.end in
+    let all : latest a.end a.members ≡ max a.end w.open_until = stretch.open_until a.end in
     omega (arith, last, end, all)
   where
     latest_by : (c t : ℕ) (ms : List Member) → t ≤ c → AllBy c ms → latest t ms ≤ c
@@ -47,47 +47,47 @@ told_by w a r b told is ends =
         latest_by c (max t m.end) ms (omega arith) h.1
 
 -- a walk of steps, and its members, end before any moment is too large
-pub ends_small : (w : Told) (k : Table) (ss : Steps) (scene : Scene) (st : Stack) (now : Now) → AreInRange ss →
-    length scene.here.input ≤ 16777216 → IsTold w (tell k ss scene st now) →
+pub ends_small : (w : Stretch) (k : Table) (ss : Steps) (scene : Scene) (st : Stack) (now : Now) → AreInRange ss →
+    length scene.here.input ≤ 16777216 → IsStretchOf w (tell k ss scene st now) →
     max w.end w.open_until ≤ reach scene.here.clock now.at + size_of ss * span scene.here.clock
-ends_small w k ss scene st now in_range small told =
-    told_by w (tell k ss scene st now) (walk (by_table k) ss scene.here st now) _ told (tell_is k ss scene st now)
+ends_small w k ss scene st now in_range small stretch =
+    stretch_by w (tell k ss scene st now) (walk (by_table k) ss scene.here st now) _ stretch (tell_is k ss scene st now)
     (ends_by (by_table k) ss scene.here st now in_range small)
 
-pub ends_one : (w : Told) (k : Table) (s : Step) (scene : Scene) (st : Stack) (now : Now) → IsInRangeStep s →
-    length scene.here.input ≤ 16777216 → IsTold w (tell_step k s scene st now) →
+pub ends_one : (w : Stretch) (k : Table) (s : Step) (scene : Scene) (st : Stack) (now : Now) → IsInRangeStep s →
+    length scene.here.input ≤ 16777216 → IsStretchOf w (tell_step k s scene st now) →
     max w.end w.open_until ≤ reach scene.here.clock now.at + size_in s * span scene.here.clock
-ends_one w k s scene st now in_range small told =
-    told_by w (tell_step k s scene st now) (walk_step (by_table k) s scene.here st now) _ told (step_is k s scene st now)
+ends_one w k s scene st now in_range small stretch =
+    stretch_by w (tell_step k s scene st now) (walk_step (by_table k) s scene.here st now) _ stretch (step_is k s scene st now)
     (ends_step (by_table k) s scene.here st now in_range small)
 
-pub ends_handled : (w : Told) (k : Table) (x : Handled) (ss : Steps) (scene : Scene) (st : Stack) (now : Now) → AreInRange ss →
+pub ends_handled : (w : Stretch) (k : Table) (x : Handled) (ss : Steps) (scene : Scene) (st : Stack) (now : Now) → AreInRange ss →
     IsInRangeHandler x →
-    length scene.here.input ≤ 16777216 → IsTold w (tell_handler k x scene st (tell k ss scene st now)) →
+    length scene.here.input ≤ 16777216 → IsStretchOf w (tell_handler k x scene st (tell k ss scene st now)) →
     max w.end w.open_until
     ≤ reach scene.here.clock now.at + size_of ss * span scene.here.clock + handled_size x * span scene.here.clock
-ends_handled w k x ss scene st now in_range in_range_handler small told =
+ends_handled w k x ss scene st now in_range in_range_handler small stretch =
     let walked = walk (by_table k) ss scene.here st now in
-    told_by w (tell_handler k x scene st (tell k ss scene st now)) (walk_handler (by_table k) x scene.here st walked) _ told
+    stretch_by w (tell_handler k x scene st (tell k ss scene st now)) (walk_handler (by_table k) x scene.here st walked) _ stretch
     (handler_is k x scene st (tell k ss scene st now) walked (tell_is k ss scene st now))
     (ends_handler (by_table k) x scene.here st walked (reach scene.here.clock now.at + size_of ss * span scene.here.clock) in_range_handler
     small (omega arith) (ends_by (by_table k) ss scene.here st now in_range small))
 
 -- at a step, what was walked ended without an exception and continues with the steps that are left
-pub record AtStep (h : Here) (now : Now) (all left : Steps) (start : List held.Event) (w : Told) (at : Progress) : Type 0 where
+pub record AtStep (h : Here) (now : Now) (all left : Steps) (start : List held.Event) (w : Stretch) (at : Progress) : Type 0 where
   pub going : Going h.task.now start w at (tell (table_of h) all (scene_of h) (stack_of h) now)
       (λ u. tell (table_of h) left (scene_of h) (stack_of h) u)
   pub in_range : AreInRange left
   pub room : HasRoom (size_of left) h w.end
 
-pub at_start : (h : Here) (m : ℕ) (all : Steps) (start : Progress) (w : Told) →
-    ((own : List Label) (s : Story) → IsTold w (told_at (record { at = m; own = own }) s)) → AreInRange all →
+pub at_start : (h : Here) (m : ℕ) (all : Steps) (start : Progress) (w : Stretch) →
+    ((own : List Label) (s : Story) → IsStretchOf w (ended_at (record { at = m; own = own }) s)) → AreInRange all →
     HasRoom (size_of all) h m → AtStep h (now_in m start) all all start.events.items w start
-at_start h m all start w told in_range room =
+at_start h m all start w stretch in_range room =
     record {
-      going = going_start h.task.now start w m (λ u. tell (table_of h) all (scene_of h) (stack_of h) u) told;
+      going = going_start h.task.now start w m (λ u. tell (table_of h) all (scene_of h) (stack_of h) u) stretch;
       in_range = in_range;
-      room = subst (λ (u : ℕ). HasRoom (size_of all) h u) (sym (told [] no_more).end) room;
+      room = subst (λ (u : ℕ). HasRoom (size_of all) h u) (sym (stretch [] no_more).end) room;
     }
 
 -- the first of the steps that are left
@@ -100,20 +100,20 @@ steps_at (x ∷ xs) (suc i) s lt is =
     rw e (steps_at xs i s (omega arith) is)
 
 pub at_item : (h : Here) (now : Now) (all : Steps) (ss : List held_step.Step) (i : ℕ) (s : held_step.Step) (start : List held.Event)
-    (w : Told)
+    (w : Stretch)
     (mid : Progress) → AtStep h now all (steps_of (drop i ss)) start w mid → i < length ss → s ≡ get_or ss i s →
     AtStep h now all (step (step_of s) (steps_of (drop (i + 1) ss))) start w mid
 at_item h now all ss i s start w mid at lt is = subst (λ (x : Steps). AtStep h now all x start w mid) (steps_at ss i s lt is) at
 
-pub room_step : (h : Here) (now : Now) (all rest : Steps) (s : Step) (start : List held.Event) (w : Told) (mid : Progress) →
+pub room_step : (h : Here) (now : Now) (all rest : Steps) (s : Step) (start : List held.Event) (w : Stretch) (mid : Progress) →
     AtStep h now all (step s rest) start w mid → HasRoom (size_in s) h w.end
 room_step h now all rest s start w mid at = record { room = omega (arith, at.room.room); small = at.room.small }
 
--- a step that ended with an exception ends the block, and what was told is the tale of the whole block
-pub at_failed : (h : Here) (now : Now) (all rest : Steps) (s : Step) (start : List held.Event) (mid over : Progress) (w v x : Told) →
+-- a step that ended with an exception ends the block, and what was recorded is the tale of the whole block
+pub at_failed : (h : Here) (now : Now) (all rest : Steps) (s : Step) (start : List held.Event) (mid over : Progress) (w v x : Stretch) →
     AtStep h now all (step s rest) start w mid → (u : ℕ) → u ≡ w.end →
     Tells h.task.now mid.events.items v over (tell_step (table_of h) s (scene_of h) (stack_of h) (now_in u mid)) →
-    ((p q : Tale) → IsTold w p → IsTold v q → IsTold x (and_tale p q)) → is_some x.exc ≡ true →
+    ((p q : Tale) → IsStretchOf w p → IsStretchOf v q → IsStretchOf x (and_tale p q)) → is_some x.exc ≡ true →
     Tells h.task.now start x over (tell (table_of h) all (scene_of h) (stack_of h) now)
 unfolding tell
 at_failed h now all rest s start mid over w v x at u ends tells join failed =
@@ -121,16 +121,16 @@ at_failed h now all rest s start mid over w v x at u ends tells join failed =
     (λ y. tell (table_of h) rest (scene_of h) (stack_of h) y) at.going (λ y. refl) u ends tells join failed
 
 -- a step that ended well: the walk is at the next step, with the tales so far (`w`) and of this step (`v`) joined
-pub at_next : (h : Here) (now : Now) (all rest : Steps) (s : Step) (start : List held.Event) (mid over : Progress) (w v x : Told) →
+pub at_next : (h : Here) (now : Now) (all rest : Steps) (s : Step) (start : List held.Event) (mid over : Progress) (w v x : Stretch) →
     AtStep h now all (step s rest) start w mid → (u : ℕ) → u ≡ w.end →
     Tells h.task.now mid.events.items v over (tell_step (table_of h) s (scene_of h) (stack_of h) (now_in u mid)) →
-    ((p q : Tale) → IsTold w p → IsTold v q → IsTold x (and_tale p q)) → is_some x.exc ≡ false → AtStep h now all rest start x over
+    ((p q : Tale) → IsStretchOf w p → IsStretchOf v q → IsStretchOf x (and_tale p q)) → is_some x.exc ≡ false → AtStep h now all rest start x over
 unfolding tell
 at_next h now all rest s start mid over w v x at u ends tells join well =
     let fits : max v.end v.open_until ≤ reach h.clock u + size_in s * span h.clock =
-    ends_one v (table_of h) s (scene_of h) (stack_of h) (now_in u mid) at.in_range.0 at.room.small tells.told in
+    ends_one v (table_of h) s (scene_of h) (stack_of h) (now_in u mid) at.in_range.0 at.room.small tells.stretch in
     let from : u ≡ w.end = ends in
-    let last : x.end ≡ v.end = (join at.going.before _ at.going.tells.told tells.told).end ∙ sym tells.told.end in
+    let last : x.end ≡ v.end = (join at.going.before _ at.going.tells.stretch tells.stretch).end ∙ sym tells.stretch.end in
     record {
       going =
           going_next h.task.now start mid over w v x _ _ (λ y. tell_step (table_of h) s (scene_of h) (stack_of h) y)
@@ -140,7 +140,7 @@ at_next h now all rest s start mid over w v x at u ends tells join well =
     }
 
 -- all steps were walked
-pub at_stop : (h : Here) (now : Now) (all : Steps) (start : List held.Event) (w : Told) (mid : Progress) →
+pub at_stop : (h : Here) (now : Now) (all : Steps) (start : List held.Event) (w : Stretch) (mid : Progress) →
     AtStep h now all stop start w mid →
     Tells h.task.now start w mid (tell (table_of h) all (scene_of h) (stack_of h) now)
 unfolding tell

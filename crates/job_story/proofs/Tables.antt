@@ -6,10 +6,10 @@ use Rattle.exceptions.specs.Exceptions.{Label}
 use Rattle.exceptions.specs.Labels.{same_label}
 use Rattle.cancel_scopes.specs.Sight.{Tick}
 use Rattle.job_meaning.specs.Log.{Log, nil, entry, sign, entered, task, Table, deadline_of, deadline_if, either, entered_from, least_sign}
-use Rattle.job_meaning.specs.Meaning.{froms_by, entered_by, all_entered, root_log, meaning, meaning_table}
+use Rattle.job_meaning.specs.Meaning.{cancelled_from_by, entered_by, all_entered, root_log, meaning, meaning_table}
 use Rattle.job_meaning.proofs.Distinct.{same_label_equal, same_label_itself}
-use Rattle.job_story.specs.Froms.{never, set_in}
-use Rattle.job_story.specs.Laws.{FromsGiveTheTable}
+use Rattle.job_story.specs.CancelledFrom.{never, set_in}
+use Rattle.job_story.specs.Laws.{CancelledFromGivesTheTable}
 
 -- whether a label is one of these
 abbrev is_one : Label → List Label → Bool
@@ -42,7 +42,7 @@ no_deadline l (task m s u e mine rest) own all =
 
 -- after the moments that a table has for some labels are set, each of these has its moment, and every other what it had
 set_is : (table before : Table) (ls : List Label) (l : Label) →
-    set_in before (froms_by table ls) l ≡ (if is_one l ls then table l else before l)
+    set_in before (cancelled_from_by table ls) l ≡ (if is_one l ls then table l else before l)
 set_is table before [] l = refl
 set_is table before (m ∷ ms) l =
     set_is table (λ (k : Label). if same_label m k then table m else before k) ms l
@@ -88,8 +88,8 @@ apart job input l false e =
     let none : deadline_of l log ≡ None = no_deadline l log parts.0 (not_in_both l (all_entered log) [] parts.1).0 in
     ap (λ (o : Option Tick). entered_from o (least_sign l log)) (sym none)
 
-pub froms_give_the_table : FromsGiveTheTable
-froms_give_the_table job input =
+pub cancelled_from_gives_the_table : CancelledFromGivesTheTable
+cancelled_from_gives_the_table job input =
     fun_ext (λ (l : Label).
     set_is (meaning_table job input) never (all_entered (root_log job (meaning job input))) l
     ∙ apart job input l (is_one l (all_entered (root_log job (meaning job input)))) refl)

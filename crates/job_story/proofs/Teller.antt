@@ -11,16 +11,16 @@ use Rattle.job_meaning.specs.Moments.{a_round_after}
 use Rattle.job_meaning.specs.declared.clock.Clock.{Clock}
 use Rattle.job_meaning.specs.Walk.{latest, with_exc, excs_of}
 use Rattle.job_story.specs.Story.{Story, Tale}
-use Rattle.job_story.specs.Tell.{Scene, told_at, failed_at, and_tale, with_exc_of, tell_gathered, tell_child}
+use Rattle.job_story.specs.Tell.{Scene, ended_at, failed_at, and_tale, with_exc_of, tell_gathered, tell_child}
 use Rattle.job_story.specs.declared.event.Event as held_event
 use Rattle.job_story.specs.declared.progress.Progress.{Progress}
-use Rattle.job_story.specs.declared.told.Told.{Told}
-use Rattle.job_story.specs.Tales.{IsTold, Tells}
+use Rattle.job_story.specs.declared.stretch.Stretch.{Stretch}
+use Rattle.job_story.specs.Tales.{IsStretchOf, Tells}
 use Rattle.job_story.proofs.Adding.{adds_then}
 
 -- the story does not matter for the end
-pub told_like : (w : Told) (a b : Tale) → IsTold w a → a.end ≡ b.end → a.exc ≡ b.exc → a.members ≡ b.members → IsTold w b
-told_like w a b h e x m =
+pub stretch_like : (w : Stretch) (a b : Tale) → IsStretchOf w a → a.end ≡ b.end → a.exc ≡ b.exc → a.members ≡ b.members → IsStretchOf w b
+stretch_like w a b h e x m =
     record {
       end = h.end ∙ e;
       exc = h.exc ∙ x;
@@ -29,8 +29,8 @@ told_like w a b h e x m =
     }
 
 -- nothing is open
-pub is_at : (w : Told) (t : ℕ) (own : List Label) (s : Story) → w.end ≡ t → w.exc ≡ None → w.open_until ≡ 0 → w.open_excs.items ≡ [] →
-    IsTold w (told_at (record { at = t; own = own }) s)
+pub is_at : (w : Stretch) (t : ℕ) (own : List Label) (s : Story) → w.end ≡ t → w.exc ≡ None → w.open_until ≡ 0 → w.open_excs.items ≡ [] →
+    IsStretchOf w (ended_at (record { at = t; own = own }) s)
 is_at w t own s end exc until excs =
     record {
       end = end;
@@ -40,8 +40,8 @@ is_at w t own s end exc until excs =
           (map held.exc_of) excs;
     }
 
-pub is_failed : (w : Told) (e : held_exc.Exc) (t : ℕ) (own : List Label) (s : Story) → w.end ≡ t → w.exc ≡ Some e → w.open_until ≡ 0 →
-    w.open_excs.items ≡ [] → IsTold w (failed_at (held.exc_of e) (record { at = t; own = own }) s)
+pub is_failed : (w : Stretch) (e : held_exc.Exc) (t : ℕ) (own : List Label) (s : Story) → w.end ≡ t → w.exc ≡ Some e → w.open_until ≡ 0 →
+    w.open_excs.items ≡ [] → IsStretchOf w (failed_at (held.exc_of e) (record { at = t; own = own }) s)
 is_failed w e t own s end exc until excs =
     record {
       end = end;
@@ -64,8 +64,8 @@ excs_append : (ms ns : List Member) → excs_of (ms ++ ns) ≡ excs_of ms ++ exc
 excs_append [] ns = refl
 excs_append (m ∷ ms) ns = ap (with_exc m.exc) (excs_append ms ns) ∙ with_append m.exc (excs_of ms) (excs_of ns)
 
-pub is_joined : (w v x : Told) (a b : Tale) → IsTold w a → IsTold v b → x.end ≡ v.end → x.exc ≡ v.exc →
-    x.open_until ≡ max w.open_until v.open_until → x.open_excs.items ≡ w.open_excs.items ++ v.open_excs.items → IsTold x (and_tale a b)
+pub is_joined : (w v x : Stretch) (a b : Tale) → IsStretchOf w a → IsStretchOf v b → x.end ≡ v.end → x.exc ≡ v.exc →
+    x.open_until ≡ max w.open_until v.open_until → x.open_excs.items ≡ w.open_excs.items ++ v.open_excs.items → IsStretchOf x (and_tale a b)
 is_joined w v x a b h k end exc until excs =
     record {
       end = end ∙ k.end;
@@ -80,14 +80,14 @@ is_joined w v x a b h k end exc until excs =
     }
 
 -- with another exception
-pub is_outcome : (w x : Told) (b : Tale) (e : Option Exc) → IsTold w b → x ≡ record w { exc = x.exc } → option_map held.exc_of x.exc ≡ e →
-    IsTold x (with_exc_of e b)
+pub is_outcome : (w x : Stretch) (b : Tale) (e : Option Exc) → IsStretchOf w b → x ≡ record w { exc = x.exc } → option_map held.exc_of x.exc ≡ e →
+    IsStretchOf x (with_exc_of e b)
 is_outcome w x b e h same exc =
     record {
-      end = ap (λ (y : Told). y.end) same ∙ h.end;
+      end = ap (λ (y : Stretch). y.end) same ∙ h.end;
       exc = exc;
-      open_until = λ t. h.open_until t ∙ ap (λ (y : Told). max t y.open_until) (sym same);
-      open_excs = ap (λ (y : Told). map held.exc_of y.open_excs.items) same ∙ h.open_excs;
+      open_until = λ t. h.open_until t ∙ ap (λ (y : Stretch). max t y.open_until) (sym same);
+      open_excs = ap (λ (y : Stretch). map held.exc_of y.open_excs.items) same ∙ h.open_excs;
     }
 
 -- a list of exceptions as parts
@@ -95,11 +95,11 @@ held_parts : (es : List held_exc.Exc) → held.excs_of es ≡ parts_of (map held
 held_parts [] = refl
 held_parts (e ∷ es) = ap (λ (x : Excs). part (held.exc_of e) x) (held_parts es)
 
-pub is_gathered : (clock : Clock) (w x : Told) (label : Label) (a : Tale) (all : List held_exc.Exc) → IsTold w a →
+pub is_gathered : (clock : Clock) (w x : Stretch) (label : Label) (a : Tale) (all : List held_exc.Exc) → IsStretchOf w a →
     x.end ≡ a_round_after clock (max w.end w.open_until) →
     option_map held.exc_of x.exc ≡ group_of (by_nursery label) (held.excs_of all) →
     map held.exc_of all ≡ with_exc (option_map held.exc_of w.exc) (map held.exc_of w.open_excs.items) →
-    x.open_until ≡ 0 → x.open_excs.items ≡ [] → IsTold x (tell_gathered clock label a)
+    x.open_until ≡ 0 → x.open_excs.items ≡ [] → IsStretchOf x (tell_gathered clock label a)
 unfolding tell_gathered
 is_gathered clock w x label a all h end exc parts until excs =
     record {
@@ -112,10 +112,10 @@ is_gathered clock w x label a all h end exc parts until excs =
       open_excs = ap (map held.exc_of) excs;
     }
 
-pub is_child : (w x : Told) (label : Label) (home : Option Label) (scene : Scene) (begins t : ℕ) (own : List Label) (a : Tale) →
-    IsTold w a →
+pub is_child : (w x : Stretch) (label : Label) (home : Option Label) (scene : Scene) (begins t : ℕ) (own : List Label) (a : Tale) →
+    IsStretchOf w a →
     x.end ≡ t → x.exc ≡ None → x.open_until ≡ w.end → map held.exc_of x.open_excs.items ≡ with_exc (option_map held.exc_of w.exc) [] →
-    IsTold x (tell_child label home scene begins a (record { at = t; own = own }))
+    IsStretchOf x (tell_child label home scene begins a (record { at = t; own = own }))
 unfolding tell_child
 is_child w x label home scene begins t own a h end exc until excs =
     record {
@@ -126,12 +126,12 @@ is_child w x label home scene begins t own a h end exc until excs =
     }
 
 -- a tale and then another
-pub tells_joined : (me : Label) (start : List held_event.Event) (mid now : Progress) (w v x : Told) (a b : Tale) → Tells me start w mid a →
-    Tells me mid.events.items v now b → ((p q : Tale) → IsTold w p → IsTold v q → IsTold x (and_tale p q)) →
+pub tells_joined : (me : Label) (start : List held_event.Event) (mid now : Progress) (w v x : Stretch) (a b : Tale) → Tells me start w mid a →
+    Tells me mid.events.items v now b → ((p q : Tale) → IsStretchOf w p → IsStretchOf v q → IsStretchOf x (and_tale p q)) →
     Tells me start x now (and_tale a b)
 tells_joined me start mid now w v x a b h k join =
     record {
-      told = join a b h.told k.told;
+      stretch = join a b h.stretch k.stretch;
       events = adds_then me start mid.events.items now.events.items a.story b.story h.events k.events;
       own = k.own;
     }

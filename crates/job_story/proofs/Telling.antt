@@ -17,7 +17,7 @@ use Rattle.job_meaning.specs.Walk.{Levels, Stack, Here, Kind, home_of, set_momen
 use Rattle.job_meaning.proofs.Late.{latest_ends}
 use Rattle.job_meaning.proofs.MomentLemmas.{round_after, wakes_after, gives_up_after}
 use Rattle.job_story.specs.Story.{at_checkpoint, sleeping, waiting_for, Happening, enters, enters_event, sleeps, is_cancelled, finds, misses, raises, cancels, sets, awaits, was_set, handles, cleans, replaces, waits, leaves, Story, no_more, happened, started, then_story, Tale}
-use Rattle.job_story.specs.Tell.{Scene, told_at, now_of, story_of_one, tale_if, then_tale, failed_at, seer, tell_slept, tell_sleep, tell_pace, tell_waiting, with_set_if, tell_event_wait, tell_lines, tell_need, tell_raise, tell_cancel, tell_set, tell_block, tell_event, tell_wait, tell_gathered, tell_child, tell_each, tell_passes, handled_if, handled_exc, tell_handled, replacement, tell_cleaned, at_place, tell, tell_step, tell_handler, tell_cleanup}
+use Rattle.job_story.specs.Tell.{Scene, ended_at, now_of, story_of_one, tale_if, then_tale, failed_at, seer, tell_slept, tell_sleep, tell_pace, tell_waiting, with_set_if, tell_event_wait, tell_lines, tell_need, tell_raise, tell_cancel, tell_set, tell_block, tell_event, tell_wait, tell_gathered, tell_child, tell_each, tell_passes, handled_if, handled_exc, tell_handled, replacement, tell_cleaned, at_place, tell, tell_step, tell_handler, tell_cleanup}
 use Rattle.job_story.specs.Blame.{levels_inside}
 use Rattle.job_story.specs.Waking.{until_tick, IsSetBy}
 
@@ -57,7 +57,7 @@ abbrev pub Passes : Clock → ℕ → ℕ → Type 0
 Passes by_ticks m t = t ≡ m
 Passes by_rounds m t = m + 1 ≤ t
 
--- A claim on the stories that are told inside these scopes and nurseries, from one place in time to another: it holds of each part
+-- A claim on the stories inside these scopes and nurseries, from one place in time to another: it holds of each part
 -- that a walk tells, and where it holds of two stories it holds of one after the other.
 pub record IsKept (clock : Clock) (k : Table) (P : Levels → Now → Now → Story → Type 0) : Type 0 where
   pub nothing : (st : Levels) (now : Now) → P st now now no_more
@@ -229,7 +229,7 @@ module _ (clock : Clock) (k : Table) (P : Levels → Now → Now → Story → T
           Keeps st now (if b then failed_at cancelled (only_at gives_up) (story_of_one gives_up (is_cancelled (seer st from) at_checkpoint c))
           else (if d then failed_at cancelled (only_at gives_up) (story_of_one gives_up (is_cancelled (seer st from) at_checkpoint c))
           else (if w then failed_at cancelled (only_at from) (story_of_one from (is_cancelled (seer st from) at_checkpoint c))
-          else told_at (only_at (wakes_at clock 0 now.at)) no_more)))
+          else ended_at (only_at (wakes_at clock 0 now.at)) no_more)))
       by_now true d w at least due =
           let le : from ≤ now.at = reached from now.at at in
           let first : now.at ≤ a_round_after clock now.at = round_after clock now.at in
@@ -266,7 +266,7 @@ module _ (clock : Clock) (k : Table) (P : Levels → Now → Now → Story → T
           (happened now.at (sleeps until) (story_of_one (a_round_after clock now.at) (is_cancelled (seer st from) (sleeping now.at) c)))
           else (if w then failed_at cancelled (only_at from)
           (happened now.at (sleeps until) (story_of_one from (is_cancelled (seer st from) (sleeping now.at) c)))
-          else told_at (only_at (wakes_at clock (suc n) now.at)) (story_of_one now.at (sleeps until)))))
+          else ended_at (only_at (wakes_at clock (suc n) now.at)) (story_of_one now.at (sleeps until)))))
       by_now true d w at least due =
           let le : from ≤ now.at = reached from now.at at in
           let first : now.at ≤ a_round_after clock now.at = round_after clock now.at in
@@ -330,7 +330,7 @@ module _ (clock : Clock) (k : Table) (P : Levels → Now → Now → Story → T
           Keeps st now (if b then failed_at cancelled (only_at t) (story_of_one t (is_cancelled (seer st from) at_checkpoint c))
           else (if w then failed_at cancelled (only_at t)
           (happened now.at (awaits label) (story_of_one t (is_cancelled (seer st from) (waiting_for label now.at) c)))
-          else told_at (only_at u) (happened now.at (awaits label) (story_of_one u (was_set label)))))
+          else ended_at (only_at u) (happened now.at (awaits label) (story_of_one u (was_set label)))))
       by_now true w at before =
           let le : from ≤ now.at = reached from now.at at in
           kept_seen st now t from c (sight_passes clock now.at from le) e (most_right (a_round_after clock now.at) from)
@@ -350,7 +350,7 @@ module _ (clock : Clock) (k : Table) (P : Levels → Now → Now → Story → T
           a_round_after clock m ≤ (if b then failed_at cancelled (only_at gives_up) (story_of_one gives_up (is_cancelled (seer st from) at_checkpoint c))
           else (if d then failed_at cancelled (only_at gives_up) (story_of_one gives_up (is_cancelled (seer st from) at_checkpoint c))
           else (if w then failed_at cancelled (only_at from) (story_of_one from (is_cancelled (seer st from) at_checkpoint c))
-          else told_at (only_at (wakes_at clock 0 m)) no_more))).end
+          else ended_at (only_at (wakes_at clock 0 m)) no_more))).end
       by_now true d w least = late
       by_now false true w least = late
       by_now false false true least =

@@ -8,14 +8,14 @@ use Rattle.job_meaning.specs.Moments.{Now, only_at, a_round_after}
 use Rattle.job_meaning.specs.declared.clock.Clock.{Clock}
 use Rattle.job_meaning.specs.Walk.{Levels, set_moment}
 use Rattle.job_story.specs.Story.{at_checkpoint, waiting_for, Story, Tale, no_more, is_cancelled, awaits, was_set, happened}
-use Rattle.job_story.specs.Tell.{told_at, failed_at, story_of_one, seer, tell_sleep, tell_waiting, with_set_if, with_set, tell_event_wait}
+use Rattle.job_story.specs.Tell.{ended_at, failed_at, story_of_one, seer, tell_sleep, tell_waiting, with_set_if, with_set, tell_event_wait}
 use Rattle.job_story.specs.declared.event.Event as held
 use Rattle.job_story.specs.declared.progress.Progress.{Progress}
-use Rattle.job_story.specs.declared.told.Told.{Told}
-use Rattle.job_story.specs.Tales.{IsTold, Adds, Tells, own_of}
+use Rattle.job_story.specs.declared.stretch.Stretch.{Stretch}
+use Rattle.job_story.specs.Tales.{IsStretchOf, Adds, Tells, own_of}
 use Rattle.job_story.proofs.Adding.{adds_nothing, adds_then}
 use Rattle.job_story.proofs.Slept.{none_own}
-use Rattle.job_story.proofs.Teller.{told_like, none_fails, none_well}
+use Rattle.job_story.proofs.Teller.{stretch_like, none_fails, none_well}
 
 -- ---- a wait that is no checkpoint
 
@@ -26,22 +26,22 @@ waiting_from at before from m least end st c label =
     if at then failed_at cancelled (only_at t) (story_of_one t (is_cancelled (seer st from) at_checkpoint c))
     else (if before then failed_at cancelled (only_at t)
     (happened m (awaits label) (story_of_one t (is_cancelled (seer st from) (waiting_for label m) c)))
-    else told_at (only_at end) (happened m (awaits label) (story_of_one end (was_set label))))
+    else ended_at (only_at end) (happened m (awaits label) (story_of_one end (was_set label))))
 
 -- no cancellation is seen
-pub waited_never : (me : Label) (before : List held.Event) (after : Progress) (w : Told) (sight : Tick) (m least end : ℕ) (st : Levels)
+pub waited_never : (me : Label) (before : List held.Event) (after : Progress) (w : Stretch) (sight : Tick) (m least end : ℕ) (st : Levels)
     (c : Bool) (label : Label) → sight ≡ None →
     Adds me before after.events.items (happened m (awaits label) (story_of_one end (was_set label))) → after.cancelled.items ≡ [] →
-    ((own : List Label) (s : Story) → IsTold w (told_at (record { at = end; own = own }) s)) →
+    ((own : List Label) (s : Story) → IsStretchOf w (ended_at (record { at = end; own = own }) s)) →
     Tells me before w after (tell_waiting sight m least end st c label)
 waited_never me before after w sight m least end st c label e h own k =
-    rw e (record { told = k [] _; events = h; own = none_own after.cancelled.items own })
+    rw e (record { stretch = k [] _; events = h; own = none_own after.cancelled.items own })
 
 -- a wait at whose start the task is cancelled already
-pub waited_now : (me : Label) (before : List held.Event) (after : Progress) (w : Told) (sight : Tick) (m least end : ℕ) (st : Levels)
+pub waited_now : (me : Label) (before : List held.Event) (after : Progress) (w : Stretch) (sight : Tick) (m least end : ℕ) (st : Levels)
     (c : Bool) (label : Label) (from t : ℕ) → sight ≡ Some from → from ≤ m → t ≡ max least from →
     Adds me before after.events.items (story_of_one t (is_cancelled (seer st from) at_checkpoint c)) → after.cancelled.items ≡ [] →
-    ((own : List Label) (s : Story) → IsTold w (failed_at cancelled (record { at = t; own = own }) s)) →
+    ((own : List Label) (s : Story) → IsStretchOf w (failed_at cancelled (record { at = t; own = own }) s)) →
     Tells me before w after (tell_waiting sight m least end st c label)
 waited_now me before after w sight m least end st c label from t e le is h own k = rw e (by_test (nat_le from m) refl)
   where
@@ -52,15 +52,15 @@ waited_now me before after w sight m least end st c label from t e le is h own k
         Tells me before w after (waiting_from at (nat_lt from end) from m least end st c label)
     by_test true x =
         subst (λ (u : ℕ). Tells me before w after (tale u)) is
-        (record { told = k [] _; events = h; own = none_own after.cancelled.items own })
+        (record { stretch = k [] _; events = h; own = none_own after.cancelled.items own })
     by_test false x = absurd (grind (arith, nat_tests))
 
 -- a wait that is cancelled before the event is set
-pub waited_cut : (me : Label) (before : List held.Event) (after : Progress) (w : Told) (sight : Tick) (m least end : ℕ) (st : Levels)
+pub waited_cut : (me : Label) (before : List held.Event) (after : Progress) (w : Stretch) (sight : Tick) (m least end : ℕ) (st : Levels)
     (c : Bool) (label : Label) (from t : ℕ) → sight ≡ Some from → m < from → from < end → t ≡ max least from →
     Adds me before after.events.items
     (happened m (awaits label) (story_of_one t (is_cancelled (seer st from) (waiting_for label m) c))) → after.cancelled.items ≡ [] →
-    ((own : List Label) (s : Story) → IsTold w (failed_at cancelled (record { at = t; own = own }) s)) →
+    ((own : List Label) (s : Story) → IsStretchOf w (failed_at cancelled (record { at = t; own = own }) s)) →
     Tells me before w after (tell_waiting sight m least end st c label)
 waited_cut me before after w sight m least end st c label from t e later lt is h own k =
     rw e (by_test (nat_le from m) refl (nat_lt from end) refl)
@@ -75,14 +75,14 @@ waited_cut me before after w sight m least end st c label from t e later lt is h
     by_test true x cut y = absurd (grind (arith, nat_tests))
     by_test false x true y =
         subst (λ (u : ℕ). Tells me before w after (tale u)) is
-        (record { told = k [] _; events = h; own = none_own after.cancelled.items own })
+        (record { stretch = k [] _; events = h; own = none_own after.cancelled.items own })
     by_test false x false y = absurd (grind (arith, nat_tests))
 
 -- a wait that ends before the moment from which the task is cancelled, or in that moment
-pub waited_past : (me : Label) (before : List held.Event) (after : Progress) (w : Told) (sight : Tick) (m least end : ℕ) (st : Levels)
+pub waited_past : (me : Label) (before : List held.Event) (after : Progress) (w : Stretch) (sight : Tick) (m least end : ℕ) (st : Levels)
     (c : Bool) (label : Label) (from : ℕ) → sight ≡ Some from → m < from → end ≤ from →
     Adds me before after.events.items (happened m (awaits label) (story_of_one end (was_set label))) → after.cancelled.items ≡ [] →
-    ((own : List Label) (s : Story) → IsTold w (told_at (record { at = end; own = own }) s)) →
+    ((own : List Label) (s : Story) → IsStretchOf w (ended_at (record { at = end; own = own }) s)) →
     Tells me before w after (tell_waiting sight m least end st c label)
 waited_past me before after w sight m least end st c label from e later le h own k =
     rw e (by_test (nat_le from m) refl (nat_lt from end) refl)
@@ -91,21 +91,21 @@ waited_past me before after w sight m least end st c label from e later le h own
         Tells me before w after (waiting_from at cut from m least end st c label)
     by_test true x cut y = absurd (grind (arith, nat_tests))
     by_test false x true y = absurd (grind (arith, nat_tests))
-    by_test false x false y = record { told = k [] _; events = h; own = none_own after.cancelled.items own }
+    by_test false x false y = record { stretch = k [] _; events = h; own = none_own after.cancelled.items own }
 
 -- ---- a wait that is a checkpoint
 
 -- a checkpoint that was cancelled
-pub set_failed : (me : Label) (start : List held.Event) (after : Progress) (w : Told) (a : Tale) (label : Label) → is_some w.exc ≡ true →
+pub set_failed : (me : Label) (start : List held.Event) (after : Progress) (w : Stretch) (a : Tale) (label : Label) → is_some w.exc ≡ true →
     Tells me start w after a → Tells me start w after (with_set label a)
 set_failed me start after w a label failed h = by_exc a.exc refl
   where
     by_exc : (o : Option Exc) → a.exc ≡ o → Tells me start w after (with_set_if o label a)
-    by_exc None e = absurd (none_fails w.exc (h.told.exc ∙ e) failed)
+    by_exc None e = absurd (none_fails w.exc (h.stretch.exc ∙ e) failed)
     by_exc (Some x) e = h
 
 -- a checkpoint that ended well, after which the event is set
-pub set_well : (me : Label) (start : List held.Event) (mid after : Progress) (w : Told) (a : Tale) (label : Label) (t : ℕ) →
+pub set_well : (me : Label) (start : List held.Event) (mid after : Progress) (w : Stretch) (a : Tale) (label : Label) (t : ℕ) →
     is_some w.exc ≡ false → Tells me start w mid a → t ≡ w.end →
     Adds me mid.events.items after.events.items (story_of_one t (was_set label)) → own_of after ≡ own_of mid →
     Tells me start w after (with_set label a)
@@ -114,13 +114,13 @@ set_well me start mid after w a label t well h is k own = by_exc a.exc refl
     by_exc : (o : Option Exc) → a.exc ≡ o → Tells me start w after (with_set_if o label a)
     by_exc None e =
         record {
-          told = told_like w a (with_set_if None label a) h.told refl refl refl;
+          stretch = stretch_like w a (with_set_if None label a) h.stretch refl refl refl;
           events =
               adds_then me start mid.events.items after.events.items a.story (story_of_one a.end (was_set label)) h.events
-              (subst (λ (u : ℕ). Adds me mid.events.items after.events.items (story_of_one u (was_set label))) (is ∙ h.told.end) k);
+              (subst (λ (u : ℕ). Adds me mid.events.items after.events.items (story_of_one u (was_set label))) (is ∙ h.stretch.end) k);
           own = own ∙ h.own;
         }
-    by_exc (Some x) e = absurd (clash x (sym e ∙ (sym h.told.exc ∙ none_well w.exc well)))
+    by_exc (Some x) e = absurd (clash x (sym e ∙ (sym h.stretch.exc ∙ none_well w.exc well)))
       where
         clash : (y : Exc) → Some y ≡ None → ⊥
         clash y same = cc
@@ -128,15 +128,15 @@ set_well me start mid after w a label t well h is k own = by_exc a.exc refl
 -- ---- a wait
 
 -- where no event of the name encloses the task, nothing happens
-pub waits_for_none : (me : Label) (start : Progress) (w : Told) (clock : Clock) (st : Levels) (c : Bool) (o : Option (Level Label)) (m : ℕ) →
-    o ≡ None → ((own : List Label) (s : Story) → IsTold w (told_at (record { at = m; own = own }) s)) →
+pub waits_for_none : (me : Label) (start : Progress) (w : Stretch) (clock : Clock) (st : Levels) (c : Bool) (o : Option (Level Label)) (m : ℕ) →
+    o ≡ None → ((own : List Label) (s : Story) → IsStretchOf w (ended_at (record { at = m; own = own }) s)) →
     Tells me start.events.items w start (tell_event_wait clock st c o (record { at = m; own = own_of start }))
 unfolding tell_event_wait
 waits_for_none me start w clock st c o m e k =
-    rw e (record { told = k (own_of start) no_more; events = adds_nothing me start.events.items; own = refl })
+    rw e (record { stretch = k (own_of start) no_more; events = adds_nothing me start.events.items; own = refl })
 
 -- an event that is set by the next round
-pub waits_checked : (me : Label) (start : List held.Event) (after : Progress) (w : Told) (clock : Clock) (st : Levels) (c : Bool)
+pub waits_checked : (me : Label) (start : List held.Event) (after : Progress) (w : Stretch) (clock : Clock) (st : Levels) (c : Bool)
     (o : Option (Level Label)) (l : Level Label) (now : Now) (u : ℕ) → o ≡ Some l → u ≡ set_moment clock l.from now.at →
     u ≤ a_round_after clock now.at → Tells me start w after (with_set l.label (tell_sleep clock st c (Some now.at) 0 now.at)) →
     Tells me start w after (tell_event_wait clock st c o now)
@@ -156,7 +156,7 @@ waits_checked me start after w clock st c o l now u e is le h = rw e (by_test (n
         late m n some test = grind (arith, nat_tests)
 
 -- an event that is set later
-pub waits_awaited : (me : Label) (start : List held.Event) (after : Progress) (w : Told) (clock : Clock) (st : Levels) (c : Bool)
+pub waits_awaited : (me : Label) (start : List held.Event) (after : Progress) (w : Stretch) (clock : Clock) (st : Levels) (c : Bool)
     (o : Option (Level Label)) (l : Level Label) (now : Now) (u : ℕ) → o ≡ Some l → u ≡ set_moment clock l.from now.at →
     a_round_after clock now.at < u →
     Tells me start w after (tell_waiting (sight st) now.at (a_round_after clock now.at) u st c l.label) →

@@ -37,7 +37,7 @@ next_past clock (asleep since due) t u next passes = goes_on_past clock due t u 
 next_past clock (waiting since) t u next passes = waited_past clock since t u next passes
 next_past clock (expecting event since set) t u next passes = absurd next
 
--- a task for which nothing else is told next is not one that waits for an event
+-- a task to which nothing else happens next is not one that waits for an event
 next_is_set : (clock : Clock) (table : Table) (doing : Doing) (t : ℕ) (label : Label) → IsNext clock doing t → IsSetBy clock (table label) t →
     IsSet clock table doing t label
 next_is_set clock table (awake at) t label next set = (next, set)

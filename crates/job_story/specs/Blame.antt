@@ -44,7 +44,7 @@ pub record IsBlamed (table : Table) (stack : Levels) (t : ℕ) (by : Option Labe
   pub label : Label
   pub from : ℕ
   pub named : by ≡ Some label
-  pub told : table label ≡ Some from
+  pub in_table : table label ≡ Some from
   pub seen : sight stack ≡ Some from
   pub innermost : IsInnermost label from stack
   pub raised : IsRaisedAt from t during

@@ -20,9 +20,9 @@ lines_of [] = []
 lines_of (l ∷ ls) = l ++ codes "\n" ++ lines_of ls
 
 -- the story of the meaning
-unfoldable pub told_text : Tree → List ℕ → List ℕ
+unfoldable pub text_of_story : Tree → List ℕ → List ℕ
 unfolding meaning walk and_then sleep_result lines_result raise_result need_result cancel_result set_result event_wait block event_block with_sign nursery_result child handler_result cleanup_result tell then_tale tell_sleep tell_lines tell_need tell_raise tell_cancel tell_set tell_event_wait tell_block tell_event tell_wait tell_gathered tell_child tell_handled tell_cleaned tale_by
-told_text job input = story_text (meaning_table job input) job input
+text_of_story job input = story_text (meaning_table job input) job input
 
 -- job supervisor { nursery workers {
 --   start reader { try { forever; } finally { scope flush after 5 shield { sleep 3; } } }
@@ -37,7 +37,7 @@ supervisor =
     ∷ []) ∷ [])
 
 pub a_sibling_fails :
-    told_text supervisor []
+    text_of_story supervisor []
     ≡ lines_of
     (codes "tick 0"
     ∷ codes "  supervisor  starts"
@@ -61,12 +61,12 @@ pub a_sibling_fails :
     ∷ codes "  supervisor  leaves nursery workers: cancellation caught, workers[DiskFull(writer@4)] propagates"
     ∷ codes "  supervisor  ends: raised workers[DiskFull(writer@4)]"
     ∷ [])
-unfolding told_text digits
+unfolding text_of_story digits
 a_sibling_fails = refl
 
 -- job late { find "zz"; need "zz" Gone; }
 pub a_need_finds_no_line :
-    told_text (job_named (codes "late") (find (codes "zz") ∷ need (codes "zz") (codes "Gone") ∷ [])) (lines_of (codes "ok" ∷ []))
+    text_of_story (job_named (codes "late") (find (codes "zz") ∷ need (codes "zz") (codes "Gone") ∷ [])) (lines_of (codes "ok" ∷ []))
     ≡ lines_of
     (codes "tick 0"
     ∷ codes "  late  starts"
@@ -74,5 +74,5 @@ pub a_need_finds_no_line :
     ∷ codes "  late  finds no line and raises Gone"
     ∷ codes "  late  ends: raised Gone(late@0)"
     ∷ [])
-unfolding told_text digits
+unfolding text_of_story digits
 a_need_finds_no_line = refl

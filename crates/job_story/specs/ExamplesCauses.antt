@@ -3,7 +3,7 @@ use Rattle.std.specs.Prelude.{◌≡◌, [], ◌∷◌, codes, refl}
 use Rattle.std.specs.Fmt.{digits}
 use Rattle.job_tree.specs.Tree.{sleep, find, raise, cancel, repeat, Tree}
 use Rattle.job_meaning.specs.Examples.{block_of, nursery_of, start_of, timed_scope, fail_scope, try_except}
-use Rattle.job_story.specs.Examples.{job_named, lines_of, told_text}
+use Rattle.job_story.specs.Examples.{job_named, lines_of, text_of_story}
 
 -- job hedge { nursery replicas {
 --   start replica_a { sleep 12; find "200"; cancel replicas; }
@@ -18,7 +18,7 @@ hedge =
     ∷ []) ∷ [])
 
 pub the_first_answer_cancels :
-    told_text hedge
+    text_of_story hedge
     (lines_of (codes "GET /a 200" ∷ codes "GET /b 503" ∷ []))
     ≡ lines_of
     (codes "tick 0"
@@ -41,7 +41,7 @@ pub the_first_answer_cancels :
     ∷ codes "  hedge      leaves nursery replicas: cancellation caught"
     ∷ codes "  hedge      ends: done"
     ∷ [])
-unfolding told_text digits
+unfolding text_of_story digits
 the_first_answer_cancels = refl
 
 -- job race {
@@ -62,7 +62,7 @@ race =
     ∷ []) ∷ timed_scope (codes "limit") 5 (sleep 5 ∷ find (codes "GET") ∷ []) ∷ [])
 
 pub a_cancellation_is_seen_a_tick_later :
-    told_text race
+    text_of_story race
     (lines_of (codes "GET /a" ∷ codes "PUT /b" ∷ []))
     ≡ lines_of
     (codes "tick 0"
@@ -91,7 +91,7 @@ pub a_cancellation_is_seen_a_tick_later :
     ∷ codes "  race    leaves scope limit: cancellation caught"
     ∷ codes "  race    ends: done"
     ∷ [])
-unfolding told_text digits
+unfolding text_of_story digits
 a_cancellation_is_seen_a_tick_later = refl
 
 -- job retry { scope budget after 20 fail {
@@ -113,7 +113,7 @@ retry =
     (codes "Answered") [] ∷ []) ∷ [])
 
 pub a_budget_is_spent :
-    told_text retry
+    text_of_story retry
     (lines_of (codes "GET /a" ∷ []))
     ≡ lines_of
     (codes "tick 0"
@@ -151,5 +151,5 @@ pub a_budget_is_spent :
     ∷ codes "  retry  leaves scope budget: cancellation caught, raises TooSlow(budget@20)"
     ∷ codes "  retry  ends: raised TooSlow(budget@20)"
     ∷ [])
-unfolding told_text digits
+unfolding text_of_story digits
 a_budget_is_spent = refl

@@ -3,7 +3,7 @@ use Rattle.std.specs.Prelude.{◌≡◌, [], ◌∷◌, codes, refl}
 use Rattle.std.specs.Fmt.{digits}
 use Rattle.job_tree.specs.Tree.{sleep, forever, find, Tree}
 use Rattle.job_meaning.specs.Examples.{nursery_of, start_of, timed_scope, shielded_scope, timed_shield, try_finally}
-use Rattle.job_story.specs.Examples.{job_named, lines_of, told_text}
+use Rattle.job_story.specs.Examples.{job_named, lines_of, text_of_story}
 
 -- job cleanup { scope stop after 5 { nursery writers {
 --   start journal { try { forever; } finally { scope closing shield { find "journal: flush"; sleep 3; find "journal: close"; } } }
@@ -22,7 +22,7 @@ cleanup =
     ∷ []) ∷ []) ∷ [])
 
 pub a_cleanup_is_cut :
-    told_text cleanup
+    text_of_story cleanup
     (lines_of (codes "journal: flush" ∷ codes "journal: close" ∷ codes "cache: flush" ∷ codes "cache: close" ∷ []))
     ≡ lines_of
     (codes "tick 0"
@@ -54,7 +54,7 @@ pub a_cleanup_is_cut :
     ∷ codes "  cleanup  leaves scope stop: cancellation caught"
     ∷ codes "  cleanup  ends: done"
     ∷ [])
-unfolding told_text digits
+unfolding text_of_story digits
 a_cleanup_is_cut = refl
 
 -- job shutdown { scope serving after 6 { nursery workers {
@@ -76,7 +76,7 @@ shutdown =
     ∷ []) ∷ []) ∷ find (codes "EXIT") ∷ [])
 
 pub a_shield_has_a_deadline :
-    told_text shutdown
+    text_of_story shutdown
     (lines_of (codes "PUT /a" ∷ codes "GET /b" ∷ codes "PUT /c" ∷ codes "GET /d" ∷ codes "EXIT" ∷ []))
     ≡ lines_of
     (codes "tick 0"
@@ -113,5 +113,5 @@ pub a_shield_has_a_deadline :
     ∷ codes "  shutdown  finds 1 line"
     ∷ codes "  shutdown  ends: done"
     ∷ [])
-unfolding told_text digits
+unfolding text_of_story digits
 a_shield_has_a_deadline = refl

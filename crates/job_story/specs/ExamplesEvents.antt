@@ -6,8 +6,8 @@ use Rattle.job_tree.specs.declared.deadline.Deadline.TheVariants.{After}
 use Rattle.job_tree.specs.declared.format.Format.TheVariants.{Three}
 use Rattle.job_tree.specs.Tree.{Step, sleep, set_event, wait_for, nursery, Tree}
 use Rattle.job_meaning.specs.Examples.{block_of, event_of, nursery_of, start_of, start_over}
-use Rattle.job_story.specs.Examples.{lines_of, told_text}
-use Rattle.job_story.specs.ExamplesLimit.{told_to}
+use Rattle.job_story.specs.Examples.{lines_of, text_of_story}
+use Rattle.job_story.specs.ExamplesLimit.{text_of_story_to}
 
 -- a job of format 3 with this name
 abbrev pub job_by_rounds : List ℕ → List Step → Tree
@@ -29,7 +29,7 @@ ready =
     ∷ [])
 
 pub readiness :
-    told_text ready []
+    text_of_story ready []
     ≡ lines_of
     (codes "tick 0"
     ∷ codes "  main      starts"
@@ -57,7 +57,7 @@ pub readiness :
     ∷ codes "  main      leaves nursery n: completed"
     ∷ codes "  main      ends: done"
     ∷ [])
-unfolding told_text digits
+unfolding text_of_story digits
 readiness = refl
 
 -- job main { event e { nursery n after 2 { start a { wait e; } } } }
@@ -67,7 +67,7 @@ cut_short =
     (event_of (codes "e") (nursery (codes "n") (After 2) false (block_of (start_of (codes "a") (wait_for (codes "e") ∷ []) ∷ [])) ∷ []) ∷ [])
 
 pub the_waiter_is_cancelled :
-    told_text cut_short []
+    text_of_story cut_short []
     ≡ lines_of
     (codes "tick 0"
     ∷ codes "  main  starts"
@@ -82,7 +82,7 @@ pub the_waiter_is_cancelled :
     ∷ codes "  main  leaves nursery n: cancellation caught"
     ∷ codes "  main  ends: done"
     ∷ [])
-unfolding told_text digits
+unfolding text_of_story digits
 the_waiter_is_cancelled = refl
 
 -- job main { event e { set e; wait e; set e; sleep 1; wait e; } }
@@ -94,7 +94,7 @@ set_first =
     ∷ [])
 
 pub it_is_set_already :
-    told_text set_first []
+    text_of_story set_first []
     ≡ lines_of
     (codes "tick 0"
     ∷ codes "  main  starts"
@@ -107,7 +107,7 @@ pub it_is_set_already :
     ∷ codes "  main  goes on: event e was set"
     ∷ codes "  main  ends: done"
     ∷ [])
-unfolding told_text digits
+unfolding text_of_story digits
 it_is_set_already = refl
 
 -- job main { event e { nursery n { start a { wait e; } start b { sleep 5; } } } }
@@ -119,7 +119,7 @@ stuck =
     ∷ [])
 
 pub nobody_sets_it :
-    told_to 100 stuck []
+    text_of_story_to 100 stuck []
     ≡ lines_of
     (codes "tick 0"
     ∷ codes "  main  starts"
@@ -136,5 +136,5 @@ pub nobody_sets_it :
     ∷ codes "  main  waiting for nursery n since 0"
     ∷ codes "  a     waiting for event e since 0; nothing sets it"
     ∷ [])
-unfolding told_to digits
+unfolding text_of_story_to digits
 nobody_sets_it = refl

@@ -12,14 +12,14 @@ use Rattle.job_story.specs.Focus.{story_of_task}
 use Rattle.job_story.specs.Tell.{tell, then_tale, tell_sleep, tell_lines, tell_need, tell_raise, tell_cancel, tell_block, tell_wait, tell_gathered, tell_child, tell_handled, tell_cleaned, tale_by}
 
 -- the events of the meaning that concern a task
-unfoldable pub told_for : Tree → List ℕ → Label → List ℕ
+unfoldable pub text_of_story_for : Tree → List ℕ → Label → List ℕ
 unfolding meaning walk and_then sleep_result lines_result raise_result need_result cancel_result block with_sign nursery_result child handler_result cleanup_result tell then_tale tell_sleep tell_lines tell_need tell_raise tell_cancel tell_block tell_wait tell_gathered tell_child tell_handled tell_cleaned tale_by
-told_for job input task =
+text_of_story_for job input task =
     story_of_task (meaning_table job input) job input task
 
 -- the task `late` of the race, which is cancelled by `stop`
 pub who_cancelled_late :
-    told_for race (lines_of (codes "GET /a" ∷ codes "PUT /b" ∷ [])) (label_named (codes "late"))
+    text_of_story_for race (lines_of (codes "GET /a" ∷ codes "PUT /b" ∷ [])) (label_named (codes "late"))
     ≡ lines_of
     (codes "tick 0"
     ∷ codes "  stop  starts in nursery calls"
@@ -33,5 +33,5 @@ pub who_cancelled_late :
     ∷ codes "  late  is cancelled while sleeping since 0 by nursery calls (cancelled by stop at 5)"
     ∷ codes "  late  ends: cancelled"
     ∷ [])
-unfolding told_for digits
+unfolding text_of_story_for digits
 who_cancelled_late = refl

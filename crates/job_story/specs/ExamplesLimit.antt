@@ -10,9 +10,9 @@ use Rattle.job_story.specs.Tell.{tell, then_tale, tell_sleep, tell_lines, tell_n
 use Rattle.job_story.specs.Limit.{story_to}
 
 -- the story of the meaning up to a limit
-unfoldable pub told_to : ℕ → Tree → List ℕ → List ℕ
+unfoldable pub text_of_story_to : ℕ → Tree → List ℕ → List ℕ
 unfolding meaning walk and_then sleep_result lines_result raise_result need_result cancel_result set_result event_wait block event_block with_sign nursery_result child handler_result cleanup_result tell then_tale tell_sleep tell_lines tell_need tell_raise tell_cancel tell_set tell_event_wait tell_block tell_event tell_wait tell_gathered tell_child tell_handled tell_cleaned tale_by
-told_to limit job input = story_to (meaning_table job input) limit job input
+text_of_story_to limit job input = story_to (meaning_table job input) limit job input
 
 -- job m { nursery n { start a { forever; } start b { sleep 5; } } }
 abbrev pub endless : Tree
@@ -21,7 +21,7 @@ endless =
     (nursery_of (codes "n") (start_of (codes "a") (forever ∷ []) ∷ start_of (codes "b") (sleep 5 ∷ []) ∷ []) ∷ [])
 
 pub somebody_sleeps_forever :
-    told_to 100 endless []
+    text_of_story_to 100 endless []
     ≡ lines_of
     (codes "tick 0"
     ∷ codes "  m  starts"
@@ -37,5 +37,5 @@ pub somebody_sleeps_forever :
     ∷ codes "  m  waiting for nursery n since 0"
     ∷ codes "  a  sleeping forever since 0"
     ∷ [])
-unfolding told_to digits
+unfolding text_of_story_to digits
 somebody_sleeps_forever = refl

@@ -59,7 +59,7 @@ with_causers table all kept (e ∷ es) =
     let rest = with_causers table all kept es in
     add_if (is_causer_of_some table all e.task kept && not (is_among e.task rest)) e.task rest
 
--- the same, repeated n times
+-- the labels with their causers, and the causers of those, n times
 abbrev pub causers_in : ℕ → Table → List Event → List Label → List Label
 causers_in zero table all kept = kept
 causers_in (suc n) table all kept = causers_in n table all (with_causers table all kept all)
@@ -78,7 +78,7 @@ story_of_task table job input l =
     let all = job_events table job input in
     kept_text (clock_of job.format) table all (of_tasks (concerned_tasks table all l) all)
 
--- the same up to a limit, with what the tasks do that have not ended by then
+-- the text of the part of a story that concerns a task, up to a limit, with what the tasks do that have not ended by then
 abbrev pub story_of_task_to : Table → ℕ → Tree → List ℕ → Label → List ℕ
 story_of_task_to table limit job input l =
     let walked = walked_to table limit job input in

@@ -11,7 +11,7 @@ use Rattle.job_meaning.specs.Log.{Table}
 use Rattle.job_meaning.specs.Moments.{Now, only_at, a_round_after, wakes_at}
 use Rattle.job_meaning.specs.Walk as meaning
 use Rattle.job_meaning.specs.Walk.{Levels, Kind, a_scope, a_nursery, stack_inside, stack_in_event, here_in, home_of, in_pass, label_here, label_over}
-use Rattle.job_story.specs.Froms.{table_in}
+use Rattle.job_story.specs.CancelledFrom.{table_in}
 use Rattle.job_story.specs.Story.{Tale}
 use Rattle.block_exits.specs.declared.kind.Kind as held
 use Rattle.job_story.specs.Tell.{Scene, at_place, tell, tell_child, tell_each, tell_gathered, tell_pace, tell_wait}
@@ -41,7 +41,7 @@ abbrev pub stack_of : Here → meaning.Stack
 stack_of h = record { scopes = scopes_of h; events = open_events h }
 
 abbrev pub table_of : Here → Table
-table_of h = table_in h.froms.now
+table_of h = table_in h.cancelled_from.now
 
 -- the label of a scope, nursery, event or task that is entered or started here
 abbrev pub label_in : List ℕ → Here → Label

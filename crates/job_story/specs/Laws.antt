@@ -3,9 +3,9 @@ use Rattle.std.specs.Prelude.{◌≡◌, ℕ, List}
 use Rattle.job_tree.specs.Tree.{Tree}
 use Rattle.job_tree.specs.Names.{GivesNamesOnce}
 use Rattle.job_meaning.specs.Log.{Table}
-use Rattle.job_meaning.specs.Meaning.{root_log, meaning, meaning_table, meaning_froms}
+use Rattle.job_meaning.specs.Meaning.{root_log, meaning, meaning_table, meaning_cancelled_from}
 use Rattle.job_meaning.specs.Follow.{follow, IsSettled}
-use Rattle.job_story.specs.Froms.{never, set_in}
+use Rattle.job_story.specs.CancelledFrom.{never, set_in}
 use Rattle.job_story.specs.Story.{result_of, erased_log}
 use Rattle.job_story.specs.Tell.{tale_by, story_by}
 
@@ -21,5 +21,5 @@ StoriesAreTrue =
     erased_log (story_by table job input) ≡ root_log job (meaning job input)
 
 -- The moments from which the scopes and nurseries of a meaning are cancelled, set in an empty table, make the table of the meaning.
-abbrev pub FromsGiveTheTable : Type 0
-FromsGiveTheTable = (job : Tree) (input : List ℕ) → set_in never (meaning_froms job input) ≡ meaning_table job input
+abbrev pub CancelledFromGivesTheTable : Type 0
+CancelledFromGivesTheTable = (job : Tree) (input : List ℕ) → set_in never (meaning_cancelled_from job input) ≡ meaning_table job input

@@ -52,8 +52,8 @@ CancellationsHaveCauses =
     (e : Event) → IsIn e (job_events table job input) → HasACause table (job_events table job input) e.what
 
 -- By such a table, each scope or nursery that is cancelled, and each event that is set, has a cause among the events of the story.
-abbrev pub FromsHaveCauses : Type 0
-FromsHaveCauses =
+abbrev pub CancelledFromHasCauses : Type 0
+CancelledFromHasCauses =
     (table : Table) (job : Tree) (input : List ℕ) (l : Label) (from : ℕ) → GivesNamesOnce job → IsSettled table job input →
     table l ≡ Some from → is_some (cause_of table (job_events table job input) l) ≡ true
 

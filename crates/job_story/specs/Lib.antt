@@ -6,7 +6,7 @@ pub mod Sentences
 pub mod Limit
 pub mod Focus
 pub mod Held
-pub mod Froms
+pub mod CancelledFrom
 pub mod Laws
 pub mod Blame
 pub mod Waking

@@ -12,7 +12,7 @@ use Rattle.job_story.specs.Story.{Story, Tale, leaves}
 use Rattle.job_story.specs.Tell.{story_of_one}
 use Rattle.job_story.specs.declared.event.Event.{Event}
 use Rattle.job_story.specs.declared.progress.Progress.{Progress}
-use Rattle.job_story.specs.declared.told.Told.{Told}
+use Rattle.job_story.specs.declared.stretch.Stretch.{Stretch}
 
 -- what a task has cancelled itself in its moment, the last first
 abbrev pub own_of : Progress → List Label
@@ -23,7 +23,7 @@ abbrev pub now_in : ℕ → Progress → Now
 now_in m p = record { at = m; own = own_of p }
 
 -- what the code recorded is the end of the tale
-pub record IsTold (w : Told) (a : Tale) : Type 0 where
+pub record IsStretchOf (w : Stretch) (a : Tale) : Type 0 where
   pub end : w.end ≡ a.end
   pub exc : option_map exc_of w.exc ≡ a.exc
   pub open_until : (t : ℕ) → latest t a.members ≡ max t w.open_until
@@ -34,13 +34,13 @@ pub record Adds (me : Label) (before after : List Event) (story : Story) : Type 
   pub added : map event_of after ≡ map event_of before ++ events_of me story
 
 -- the code appended the events of a tale, and recorded its end and what the task has cancelled itself in this moment
-pub record Tells (me : Label) (before : List Event) (w : Told) (after : Progress) (a : Tale) : Type 0 where
-  pub told : IsTold w a
+pub record Tells (me : Label) (before : List Event) (w : Stretch) (after : Progress) (a : Tale) : Type 0 where
+  pub stretch : IsStretchOf w a
   pub events : Adds me before after.events.items a.story
   pub own : own_of after ≡ a.own
 
 -- a block was left, whose inside has this result
-pub record IsLeft (clock : Clock) (me : Label) (before : List Event) (after : Progress) (inner w : Told) (kind : Kind) (label : Label)
+pub record IsLeft (clock : Clock) (me : Label) (before : List Event) (after : Progress) (inner w : Stretch) (kind : Kind) (label : Label)
     (cancelled : List Label) (left : Left) : Type 0 where
   pub end : w.end ≡ inner.end
   pub exc : option_map exc_of w.exc ≡ exc_after kind label (tick_of clock inner.end) left

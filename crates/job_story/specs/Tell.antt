@@ -19,8 +19,8 @@ pub record Scene : Type 0 where
   pub here : Here
   pub in_cleanup : Bool
 
-abbrev pub told_at : Now → Story → Tale
-told_at now story = record { end = now.at; own = now.own; exc = None; members = []; story = story }
+abbrev pub ended_at : Now → Story → Tale
+ended_at now story = record { end = now.at; own = now.own; exc = None; members = []; story = story }
 
 -- where a task is after a tale
 abbrev pub now_of : Tale → Now
@@ -77,19 +77,19 @@ during_sleep (suc n) m = sleeping m
 -- A sleep of n ticks from moment m, which cannot end before `least`, and ends in `gives_up` if a cancellation is seen by then; the
 -- story says that it is until `until`, or forever. A cancellation that is seen when it begins is one at a checkpoint.
 abbrev pub tell_slept : Tick → (n m least gives_up end : ℕ) → Levels → Bool → Tick → Tale
-tell_slept None n m least gives_up end levels cleanup until = told_at (only_at end) (asleep_for n m until)
+tell_slept None n m least gives_up end levels cleanup until = ended_at (only_at end) (asleep_for n m until)
 tell_slept (Some from) n m least gives_up end levels cleanup until =
     let while_asleep = (λ (t : ℕ). failed_at cancelled (only_at t)
     (then_story (asleep_for n m until) (story_of_one t (is_cancelled (seer levels from) (during_sleep n m) cleanup)))) in
     if nat_le from m then failed_at cancelled (only_at gives_up) (story_of_one gives_up (is_cancelled (seer levels from) at_checkpoint cleanup))
     else (if nat_le from least then while_asleep gives_up
-    else (if nat_le from end then while_asleep from else told_at (only_at end) (asleep_for n m until)))
+    else (if nat_le from end then while_asleep from else ended_at (only_at end) (asleep_for n m until)))
 
 unfoldable pub tell_sleep : Clock → Levels → Bool → Tick → ℕ → ℕ → Tale
 tell_sleep clock levels cleanup until n m =
     tell_slept (sight levels) n m (a_round_after clock m) (gives_up_at clock n m) (wakes_at clock n m) levels cleanup until
 
--- the same for `pace`
+-- a sleep of n ticks from moment m by `pace`
 unfoldable pub tell_pace : Clock → Levels → Bool → Tick → ℕ → ℕ → Tale
 tell_pace clock levels cleanup until n m =
     tell_slept (sight levels) n m (a_round_after clock m) (a_round_after clock m) (wakes_at clock n m) levels cleanup until
@@ -100,13 +100,13 @@ tell_pace clock levels cleanup until n m =
 -- begins is one at a checkpoint.
 abbrev pub tell_waiting : Tick → (m least end : ℕ) → Levels → Bool → Label → Tale
 tell_waiting None m least end levels cleanup label =
-    told_at (only_at end) (happened m (awaits label) (story_of_one end (was_set label)))
+    ended_at (only_at end) (happened m (awaits label) (story_of_one end (was_set label)))
 tell_waiting (Some from) m least end levels cleanup label =
     let t = max least from in
     if nat_le from m then failed_at cancelled (only_at t) (story_of_one t (is_cancelled (seer levels from) at_checkpoint cleanup))
     else (if nat_lt from end then failed_at cancelled (only_at t)
     (happened m (awaits label) (story_of_one t (is_cancelled (seer levels from) (waiting_for label m) cleanup)))
-    else told_at (only_at end) (happened m (awaits label) (story_of_one end (was_set label))))
+    else ended_at (only_at end) (happened m (awaits label) (story_of_one end (was_set label))))
 
 -- after a checkpoint that ended well, the event is set
 abbrev pub with_set_if : Option Exc → Label → Tale → Tale
@@ -124,7 +124,7 @@ tell_wait_by clock levels cleanup label set m =
 
 -- where no event of the name encloses the task, nothing happens
 abbrev pub tell_wait_on : Clock → Levels → Bool → Option (Level Label) → Now → Tale
-tell_wait_on clock levels cleanup None now = told_at now no_more
+tell_wait_on clock levels cleanup None now = ended_at now no_more
 tell_wait_on clock levels cleanup (Some l) now =
     tell_wait_by clock levels cleanup l.label (set_moment clock l.from now.at) now.at
 
@@ -134,10 +134,10 @@ tell_event_wait clock levels cleanup level now = tell_wait_on clock levels clean
 -- ---- other steps
 
 unfoldable pub tell_lines : List Span → Now → Tale
-tell_lines lines now = told_at now (story_of_one now.at (finds lines))
+tell_lines lines now = ended_at now (story_of_one now.at (finds lines))
 
 abbrev pub need_if : Option Span → List ℕ → Here → Now → Tale
-need_if (Some l) name here now = told_at now (story_of_one now.at (finds (l ∷ [])))
+need_if (Some l) name here now = ended_at now (story_of_one now.at (finds (l ∷ [])))
 need_if None name here now = failed_at (raised name here.task (tick_of here.clock now.at)) now (story_of_one now.at (misses name))
 
 unfoldable pub tell_need : Option Span → List ℕ → Here → Now → Tale
@@ -147,10 +147,10 @@ unfoldable pub tell_raise : List ℕ → Here → Now → Tale
 tell_raise name here now = failed_at (raised name here.task (tick_of here.clock now.at)) now (story_of_one now.at (raises name))
 
 unfoldable pub tell_cancel : Clock → Option Label → Now → Tale
-tell_cancel clock label now = told_at (record { at = now.at; own = with_own clock label now.own }) (story_of_one now.at (cancels label))
+tell_cancel clock label now = ended_at (record { at = now.at; own = with_own clock label now.own }) (story_of_one now.at (cancels label))
 
 unfoldable pub tell_set : Clock → Option Label → Now → Tale
-tell_set clock label now = told_at (record { at = now.at; own = with_own clock label now.own }) (story_of_one now.at (sets label))
+tell_set clock label now = ended_at (record { at = now.at; own = with_own clock label now.own }) (story_of_one now.at (sets label))
 
 -- ---- blocks
 
@@ -205,11 +205,11 @@ tell_child label home scene begins a now =
     }
 
 abbrev pub tell_each : ℕ → (ℕ → Tale) → Now → Tale
-tell_each zero go now = told_at now no_more
+tell_each zero go now = ended_at now no_more
 tell_each (suc k) go now = and_tale (tell_each k go now) (go k)
 
 abbrev pub tell_passes : ℕ → ℕ → (ℕ → Now → Tale) → Now → Tale
-tell_passes first zero go now = told_at now no_more
+tell_passes first zero go now = ended_at now no_more
 tell_passes first (suc k) go now = then_tale (go first now) (λ later. tell_passes (suc first) k go later)
 
 -- ---- handlers and cleanups
@@ -252,14 +252,14 @@ tell_cleaned a go = cleaned_by a (go (now_of a))
 
 -- ---- the walk
 
--- the same walk elsewhere
+-- a scene with another place in the job
 abbrev pub at_place : Here → Scene → Scene
 at_place here scene = record scene { here = here }
 
 unfoldable mutual
   -- the steps of a block, from a moment on
   pub tell : Table → Steps → Scene → Stack → Now → Tale
-  tell k stop scene st now = told_at now no_more
+  tell k stop scene st now = ended_at now no_more
   tell k (step s ss) scene st now = then_tale (tell_step k s scene st now) (λ later. tell k ss scene st later)
 
   -- one step

@@ -35,8 +35,9 @@ abbrev pub GoesOnIn : Clock → ℕ → ℕ → Type 0
 GoesOnIn by_ticks m t = t ≡ m
 GoesOnIn by_rounds m t = m ≤ t
 
--- The next thing of a task is where it goes on: in the same moment if it is awake, in the moment in which its sleep is due if it sleeps,
--- and in that moment or later if it waits for a nursery. Of a task that waits for an event nothing is told before the event is set.
+-- The next thing of a task is where it goes on: in the same moment if it is awake, in the moment in which its sleep is due if it
+-- sleeps, and in that moment or later if it waits for a nursery. To a task that waits for an event nothing happens before the
+-- event is set.
 abbrev pub IsNext : Clock → Doing → ℕ → Type 0
 IsNext clock (awake at) t = GoesOnIn clock at t
 IsNext clock (asleep since due) t = GoesOnIn clock due t

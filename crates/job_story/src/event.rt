@@ -99,7 +99,8 @@ pub enum Happening {
         /// The innermost event of that name that encloses the task, or `None` if there is none.
         label: Option<Label>,
     },
-    /// The task waits for an event. A wait for an event that is set by the next round is a checkpoint, and is not an event of a story.
+    /// The task waits for an event. A wait for an event that is set by the next round is a checkpoint, and is not an event of a
+    /// story.
     Awaits {
         /// The label of the event.
         event: Label,

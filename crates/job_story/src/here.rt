@@ -3,7 +3,7 @@ ghost use Rattle.job_story.specs.Heres.{label_in, block_in, event_in};
 
 use crate::block::Block;
 use crate::stack::{Level, Stack};
-use crate::{Froms, Kind};
+use crate::{CancelledFrom, Kind};
 use exceptions::Label;
 use input_lines::Part;
 use job_meaning::Clock;
@@ -19,7 +19,7 @@ pub struct Here<'a, 's> {
     /// How the job's time is counted.
     pub clock: Clock,
     /// The moment from which each scope and nursery is cancelled, and each event set.
-    pub froms: &'s Froms,
+    pub cancelled_from: &'s CancelledFrom,
     /// The task's part of the input.
     pub part: Part<'a>,
     /// The task's label.
@@ -55,7 +55,7 @@ impl<'a, 's> Here<'a, 's> {
         ensures { IfOk result (λ block. block ≡ block_in kind name deadline shield self.now) }
     {
         let label = self.label_here(name)?;
-        let from = self.froms.of(&label);
+        let from = self.cancelled_from.of(&label);
         Ok(Block {
             kind,
             label,
@@ -71,7 +71,7 @@ impl<'a, 's> Here<'a, 's> {
         ensures { IfOk result (λ event. event ≡ event_in name self.now) }
     {
         let label = self.label_here(name)?;
-        let from = self.froms.of(&label);
+        let from = self.cancelled_from.of(&label);
         Ok(Level {
             label,
             shield: false,

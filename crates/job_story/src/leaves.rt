@@ -12,7 +12,7 @@ ghost use Rattle.job_tree.specs.InRange.{IsInRangeStep};
 ghost use Rattle.job_tree.specs.Names.{size_in};
 ghost use Rattle.job_story.specs.Heres.{HasRoom, IsLeaf, tell_paced, here_of, input_of, scene_of, scopes_of, stack_of, table_of};
 ghost use Rattle.job_story.specs.Story.{Story};
-ghost use Rattle.job_story.specs.Tales.{IsTold, Tells, now_in};
+ghost use Rattle.job_story.specs.Tales.{IsStretchOf, Tells, now_in};
 
 use crate::excs::copy_label;
 use crate::here::Here;
@@ -20,7 +20,7 @@ use crate::notes::{note, note_cancelled, note_sleep};
 use crate::own::{add_own, during_sleep, gives_up_at};
 use crate::places::spans;
 use crate::progress::Progress;
-use crate::told::Told;
+use crate::stretch::Stretch;
 use crate::waits::{set, wait_for};
 use crate::{During, Happening};
 use exceptions::{Exc, Label};
@@ -36,7 +36,7 @@ pub(crate) fn tell_leaf<'a>(
     here: Here<'a, '_>,
     moment: u64,
     progress: &mut Progress,
-) -> Result<Told, AllocError>
+) -> Result<Stretch, AllocError>
     requires leaf { IsLeaf (step_of step.now) }
     requires in_range { IsInRangeStep (step_of step.now) }
     requires room { HasRoom (size_in (step_of step.now)) here moment }
@@ -74,15 +74,15 @@ pub(crate) fn sleep<'a>(
     ticks: u64,
     moment: u64,
     progress: &mut Progress,
-) -> Result<Told, AllocError>
+) -> Result<Stretch, AllocError>
     requires few { ticks ≤ 2 ^ 40 }
     requires room { moment ≤ 4611686018427387904 }
-    ensures { IfOk result (λ told. Tells here.entry.task.now progress.old.events.items told progress.new
+    ensures { IfOk result (λ stretch. Tells here.entry.task.now progress.old.events.items stretch progress.new
         (tell_sleep here.entry.clock (scopes_of here.entry) here.entry.in_cleanup until ticks moment)) }
 {
     let gives_up = gives_up_at(here.clock, ticks, moment);
-    let told = doze(here, until, ticks, moment, gives_up, progress)?;
-    Ok(told)
+    let stretch = doze(here, until, ticks, moment, gives_up, progress)?;
+    Ok(stretch)
 }
 
 // Walks a sleep that ends in the moment `gives_up` if a cancellation is seen when it begins, or a round after. The task has then
@@ -94,10 +94,10 @@ fn doze<'a>(
     moment: u64,
     gives_up: u64,
     progress: &mut Progress,
-) -> Result<Told, AllocError>
+) -> Result<Stretch, AllocError>
     requires few { ticks ≤ 2 ^ 40 }
     requires room { moment ≤ 4611686018427387904 }
-    ensures { IfOk result (λ told. Tells here.entry.task.now progress.old.events.items told progress.new
+    ensures { IfOk result (λ stretch. Tells here.entry.task.now progress.old.events.items stretch progress.new
         (tell_slept (sight (scopes_of here.entry)) ticks moment (a_round_after here.entry.clock moment) gives_up
         (wakes_at here.entry.clock ticks moment) (scopes_of here.entry) here.entry.in_cleanup until)) }
 {
@@ -105,7 +105,7 @@ fn doze<'a>(
     let end = here.clock.wakes_at(ticks, moment);
     let Some(from) = here.scopes.sight() else {
         note_sleep(here, until, ticks, moment, &mut progress.events)?;
-        return Ok(Told::at(here.alloc, end));
+        return Ok(Stretch::at(here.alloc, end));
     };
     if from <= moment {
         note_cancelled(
@@ -115,19 +115,19 @@ fn doze<'a>(
             gives_up,
             &mut progress.events,
         )?;
-        return Ok(Told::failure(here.alloc, Exc::Cancelled, gives_up));
+        return Ok(Stretch::failure(here.alloc, Exc::Cancelled, gives_up));
     }
     note_sleep(here, until, ticks, moment, &mut progress.events)?;
     let during = during_sleep(ticks, moment);
     if from <= here.clock.a_round_after(moment) {
         note_cancelled(here, from, during, gives_up, &mut progress.events)?;
-        return Ok(Told::failure(here.alloc, Exc::Cancelled, gives_up));
+        return Ok(Stretch::failure(here.alloc, Exc::Cancelled, gives_up));
     }
     if from <= end {
         note_cancelled(here, from, during, from, &mut progress.events)?;
-        return Ok(Told::failure(here.alloc, Exc::Cancelled, from));
+        return Ok(Stretch::failure(here.alloc, Exc::Cancelled, from));
     }
-    Ok(Told::at(here.alloc, end))
+    Ok(Stretch::at(here.alloc, end))
 }
 
 // Walks a sleep of the number of lines of the task's part divided by `per_tick`, rounded up.
@@ -136,20 +136,20 @@ pub(crate) fn pace<'a>(
     per_tick: u64,
     moment: u64,
     progress: &mut Progress,
-) -> Result<Told, AllocError>
+) -> Result<Stretch, AllocError>
     requires some { 1 ≤ per_tick }
     requires few { per_tick ≤ 1000000 }
     requires small { length (input_of here) ≤ MAX_INPUT }
     requires room { moment ≤ 4611686018427387904 }
-    ensures { IfOk result (λ told. Tells here.entry.task.now progress.old.events.items told progress.new
+    ensures { IfOk result (λ stretch. Tells here.entry.task.now progress.old.events.items stretch progress.new
         (tell_paced here.entry (pace_ticks (count_in (input_of here.entry) (range_of here.entry.part)) per_tick) moment)) }
 {
     let count = line_count(here)?;
     let ticks = (count + (per_tick - 1)) / per_tick;
     let until = here.clock.wakes_at(ticks, moment);
     let gives_up = here.clock.a_round_after(moment);
-    let told = doze(here, Some(until), ticks, moment, gives_up, progress)?;
-    Ok(told)
+    let stretch = doze(here, Some(until), ticks, moment, gives_up, progress)?;
+    Ok(stretch)
 }
 
 // The number of lines of the task's part.
@@ -170,14 +170,14 @@ fn show_lines<'a>(
     lines: FoundLines<'a>,
     moment: u64,
     progress: &mut Progress,
-) -> Result<Told, AllocError>
-    ensures { IfOk result (λ told. Tells here.entry.task.now progress.old.events.items told progress.new
+) -> Result<Stretch, AllocError>
+    ensures { IfOk result (λ stretch. Tells here.entry.task.now progress.old.events.items stretch progress.new
         (tell_lines (map span_of lines.entry) (now_in moment progress.old))) }
 {
     let lines = spans(here.alloc, lines.as_slice())?;
     let what = Happening::Finds { lines };
     note(here, moment, what, &mut progress.events)?;
-    Ok(Told::at(here.alloc, moment))
+    Ok(Stretch::at(here.alloc, moment))
 }
 
 // Walks a `find`: the lines of the task's part that contain a string.
@@ -186,15 +186,15 @@ pub(crate) fn find<'a>(
     text: &'a Text,
     moment: u64,
     progress: &mut Progress,
-) -> Result<Told, AllocError>
-    ensures { IfOk result (λ told. Tells here.entry.task.now progress.old.events.items told progress.new
+) -> Result<Stretch, AllocError>
+    ensures { IfOk result (λ stretch. Tells here.entry.task.now progress.old.events.items stretch progress.new
         (tell_lines (found_in (input_of here.entry) text.now (range_of here.entry.part)) (now_in moment progress.old))) }
 {
     let Answer::Lines(lines) = answer(here.alloc, &Kernel::Find(text.bytes()), here.part)? else {
         unreachable!()
     };
-    let told = show_lines(here, lines, moment, progress)?;
-    Ok(told)
+    let stretch = show_lines(here, lines, moment, progress)?;
+    Ok(stretch)
 }
 
 // Walks a `head`: the first `count` lines of the task's part.
@@ -203,15 +203,15 @@ pub(crate) fn head<'a>(
     count: u64,
     moment: u64,
     progress: &mut Progress,
-) -> Result<Told, AllocError>
-    ensures { IfOk result (λ told. Tells here.entry.task.now progress.old.events.items told progress.new
+) -> Result<Stretch, AllocError>
+    ensures { IfOk result (λ stretch. Tells here.entry.task.now progress.old.events.items stretch progress.new
         (tell_lines (head_of (input_of here.entry) count (range_of here.entry.part)) (now_in moment progress.old))) }
 {
     let Answer::Lines(lines) = answer(here.alloc, &Kernel::Head(count), here.part)? else {
         unreachable!()
     };
-    let told = show_lines(here, lines, moment, progress)?;
-    Ok(told)
+    let stretch = show_lines(here, lines, moment, progress)?;
+    Ok(stretch)
 }
 
 // Walks a `longest`: the first of the longest lines of the task's part.
@@ -219,15 +219,15 @@ pub(crate) fn longest<'a>(
     here: Here<'a, '_>,
     moment: u64,
     progress: &mut Progress,
-) -> Result<Told, AllocError>
-    ensures { IfOk result (λ told. Tells here.entry.task.now progress.old.events.items told progress.new
+) -> Result<Stretch, AllocError>
+    ensures { IfOk result (λ stretch. Tells here.entry.task.now progress.old.events.items stretch progress.new
         (tell_lines (longest_in (input_of here.entry) (range_of here.entry.part)) (now_in moment progress.old))) }
 {
     let Answer::Lines(lines) = answer(here.alloc, &Kernel::Longest, here.part)? else {
         unreachable!()
     };
-    let told = show_lines(here, lines, moment, progress)?;
-    Ok(told)
+    let stretch = show_lines(here, lines, moment, progress)?;
+    Ok(stretch)
 }
 
 // Walks a `need`: the first line of the task's part that contains a string, or an exception of that name if there is none.
@@ -237,8 +237,8 @@ pub(crate) fn need<'a>(
     name: &Name,
     moment: u64,
     progress: &mut Progress,
-) -> Result<Told, AllocError>
-    ensures { IfOk result (λ told. Tells here.entry.task.now progress.old.events.items told progress.new
+) -> Result<Stretch, AllocError>
+    ensures { IfOk result (λ stretch. Tells here.entry.task.now progress.old.events.items stretch progress.new
         (tell_need (needed_in (input_of here.entry) text.now (range_of here.entry.part)) name.now (here_of here.entry)
         (now_in moment progress.old))) }
 {
@@ -248,8 +248,8 @@ pub(crate) fn need<'a>(
         note(here, moment, what, &mut progress.events)?;
         return Ok(raised(here, *name, task, moment));
     };
-    let told = show_lines(here, lines, moment, progress)?;
-    Ok(told)
+    let stretch = show_lines(here, lines, moment, progress)?;
+    Ok(stretch)
 }
 
 // Walks a `raise`: an exception of that name.
@@ -258,8 +258,8 @@ pub(crate) fn raise<'a>(
     name: &Name,
     moment: u64,
     progress: &mut Progress,
-) -> Result<Told, AllocError>
-    ensures { IfOk result (λ told. Tells here.entry.task.now progress.old.events.items told progress.new
+) -> Result<Stretch, AllocError>
+    ensures { IfOk result (λ stretch. Tells here.entry.task.now progress.old.events.items stretch progress.new
         (tell_raise name.now (here_of here.entry) (now_in moment progress.old))) }
 {
     let task = here.task.copy(here.alloc)?;
@@ -269,12 +269,12 @@ pub(crate) fn raise<'a>(
 }
 
 // A stretch that ended with an exception of that name, which this task raised in this moment.
-fn raised(here: Here<'_, '_>, name: Name, task: Label, moment: u64) -> Told
-    ensures { (own : List TreeLabel) (story : Story) → IsTold result
+fn raised(here: Here<'_, '_>, name: Name, task: Label, moment: u64) -> Stretch
+    ensures { (own : List TreeLabel) (story : Story) → IsStretchOf result
         (failed_at (raised name task (tick_of here.entry.clock moment)) (record { at = moment; own = own }) story) }
 {
     let tick = here.clock.tick_of(moment);
-    Told::failure(here.alloc, Exc::Raised { name, task, tick }, moment)
+    Stretch::failure(here.alloc, Exc::Raised { name, task, tick }, moment)
 }
 
 // Walks a `cancel` of the innermost scope or nursery of that name that encloses the task.
@@ -283,8 +283,8 @@ pub(crate) fn cancel<'a>(
     name: &Name,
     moment: u64,
     progress: &mut Progress,
-) -> Result<Told, AllocError>
-    ensures { IfOk result (λ told. Tells here.entry.task.now progress.old.events.items told progress.new
+) -> Result<Stretch, AllocError>
+    ensures { IfOk result (λ stretch. Tells here.entry.task.now progress.old.events.items stretch progress.new
         (tell_cancel here.entry.clock (label_on name.now (scopes_of here.entry)) (now_in moment progress.old))) }
 {
     let label = copy_label(here.alloc, here.scopes.label_on(name))?;
@@ -296,5 +296,5 @@ pub(crate) fn cancel<'a>(
     )?;
     let own = copy_label(here.alloc, here.scopes.label_on(name))?;
     add_own(here.clock, own, &mut progress.cancelled)?;
-    Ok(Told::at(here.alloc, moment))
+    Ok(Stretch::at(here.alloc, moment))
 }

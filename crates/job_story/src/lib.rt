@@ -18,9 +18,9 @@
 #![tactic(auto)]
 
 mod block;
+mod cancelled_from;
 mod event;
 mod excs;
-mod froms;
 mod here;
 mod kinds;
 mod laws;
@@ -31,14 +31,15 @@ mod places;
 mod progress;
 mod root;
 mod stack;
-mod told;
+mod stretch;
 mod waits;
 mod walk;
 
 pub use block_exits::Kind;
+pub use cancelled_from::CancelledFrom;
 pub use event::{During, Event, Happening, Range, Span, What};
-pub use froms::Froms;
 pub use laws::{
-    law_blame, law_causes, law_focus, law_froms_of_meaning, law_nesting, law_story, law_waking,
+    law_blame, law_cancelled_from_of_meaning, law_causes, law_focus, law_nesting, law_story,
+    law_waking,
 };
 pub use root::tell;

@@ -19,7 +19,7 @@ use crate::here::Here;
 use crate::own::from_for;
 use crate::places::range;
 use crate::progress::Progress;
-use crate::told::Told;
+use crate::stretch::Stretch;
 use crate::{During, Event, Happening, What};
 use block_exits::{exc_after, left_with};
 use exceptions::{Exc, Label};
@@ -78,8 +78,8 @@ pub(crate) fn note_sleep<'a>(
     Ok(())
 }
 
-// Appends the event of a `Cancelled` that is raised in `moment`, because a cancellation from the moment `from` on is seen. `during` says
-// what the task does then.
+// Appends the event of a `Cancelled` that is raised in `moment`, because a cancellation from the moment `from` on is seen.
+// `during` says what the task does then.
 #[inline(never)]
 pub(crate) fn note_cancelled<'a>(
     here: Here<'a, '_>,
@@ -153,22 +153,22 @@ pub(crate) fn note_start<'a>(
 #[inline(never)]
 pub(crate) fn note_end<'a>(
     label: &Label,
-    told: &Told,
+    stretch: &Stretch,
     here: Here<'a, '_>,
     events: &mut Vec<Event>,
 ) -> Result<(), AllocError>
     ensures { OnOk result (map event_of events.new.items ≡ map event_of events.old.items
-        ++ event told.now.end label.now (ends (home_of (scopes_of here.entry)) (option_map exc_of told.now.exc)) ∷ []) }
+        ++ event stretch.now.end label.now (ends (home_of (scopes_of here.entry)) (option_map exc_of stretch.now.exc)) ∷ []) }
 {
     let home = copy_label(here.alloc, here.scopes.home())?;
-    let exc = told.box_exc(here.alloc)?;
+    let exc = stretch.box_exc(here.alloc)?;
     let what = What::Ends { home, exc };
-    add(here.alloc, label, told.end(), what, events)?;
+    add(here.alloc, label, stretch.end(), what, events)?;
     Ok(())
 }
 
-// Appends the event that a handler runs for a part of an exception, given the other part. It is a function of its own since the time
-// that the proof of `tell_handler` takes grows with the values that are alive at each call that can fail.
+// Appends the event that a handler runs for a part of an exception, given the other part. It is a function of its own since the
+// time that the proof of `tell_handler` takes grows with the values that are alive at each call that can fail.
 #[inline(never)]
 pub(crate) fn note_handled<'a>(
     here: Here<'a, '_>,
@@ -191,38 +191,38 @@ pub(crate) fn note_handled<'a>(
 #[inline(never)]
 pub(crate) fn wait<'a>(
     label: &Label,
-    told: Told,
+    stretch: Stretch,
     here: Here<'a, '_>,
     progress: &mut Progress,
-) -> Result<Told, AllocError>
-    requires room { max told.end told.open_until < 2 ^ 63 }
-    ensures { IfOk result (λ w. (start : List HeldEvent) (a : Tale) → Tells here.entry.task.now start told progress.old a
+) -> Result<Stretch, AllocError>
+    requires room { max stretch.end stretch.open_until < 2 ^ 63 }
+    ensures { IfOk result (λ w. (start : List HeldEvent) (a : Tale) → Tells here.entry.task.now start stretch progress.old a
         → Tells here.entry.task.now start w progress.new (tell_gathered here.entry.clock label.now (tell_wait label.now a))) }
 {
     let nursery = label.copy(here.alloc)?;
-    let exc = told.box_exc(here.alloc)?;
+    let exc = stretch.box_exc(here.alloc)?;
     let what = Happening::Waits { nursery, exc };
-    note(here, told.end(), what, &mut progress.events)?;
+    note(here, stretch.end(), what, &mut progress.events)?;
     progress.cancelled.clear();
-    let told = told.gather(here.alloc, here.clock, label)?;
-    Ok(told)
+    let stretch = stretch.gather(here.alloc, here.clock, label)?;
+    Ok(stretch)
 }
 
-// Leaves a scope or nursery whose inside was walked, and appends that event. What the task has cancelled itself in this moment, it
-// sees here at once.
+// Leaves a scope or nursery whose inside was walked, and appends that event. What the task has cancelled itself in this moment,
+// it sees here at once.
 #[inline(never)]
 pub(crate) fn leave<'a>(
     block: &Block,
-    inside: Told,
+    inside: Stretch,
     here: Here<'a, '_>,
     progress: &mut Progress,
-) -> Result<Told, AllocError>
+) -> Result<Stretch, AllocError>
     ensures { IfOk result (λ w. IsLeft here.entry.clock here.entry.task.now progress.old.events.items progress.new inside w
         (kind_of block.now.kind) block.now.label (own_of progress.old)
         (left_with (catches (from_for (own_of progress.old) inside.end block.now.label block.now.from) block.now.shield
         (stack_for (own_of progress.old) inside.end (scopes_of here.entry)) inside.end) (option_map exc_of inside.exc))) }
 {
-    let Told { end, exc, .. } = inside;
+    let Stretch { end, exc, .. } = inside;
     let inner = boxed_copy(here.alloc, &exc)?;
     let catches = catches(block, here, progress.cancelled.as_slice(), end);
     let left = left_with(here.alloc, catches, exc)?;
@@ -239,7 +239,7 @@ pub(crate) fn leave<'a>(
         outside,
     };
     note(here, end, what, &mut progress.events)?;
-    Ok(Told {
+    Ok(Stretch {
         end,
         exc: outer,
         open_until: 0,
@@ -247,8 +247,8 @@ pub(crate) fn leave<'a>(
     })
 }
 
-// Returns whether a scope or nursery that is left in a moment catches `Cancelled`, for a task that has cancelled some labels itself
-// in that moment.
+// Returns whether a scope or nursery that is left in a moment catches `Cancelled`, for a task that has cancelled some labels
+// itself in that moment.
 fn catches(block: &Block, here: Here<'_, '_>, cancelled: &[Label], moment: u64) -> bool
     ensures { result ≡ catches (from_for (reverse cancelled.now) moment block.now.label block.now.from) block.now.shield
         (stack_for (reverse cancelled.now) moment (scopes_of here.entry)) moment }

@@ -12,8 +12,8 @@ use exceptions::Label;
 use job_meaning::Clock;
 use std::alloc::AllocError;
 
-// Returns the moment from which a scope or nursery with this label is cancelled, for a task that has cancelled some labels itself in
-// this moment, where others see it cancelled from `from` on.
+// Returns the moment from which a scope or nursery with this label is cancelled, for a task that has cancelled some labels itself
+// in this moment, where others see it cancelled from `from` on.
 pub(crate) fn from_for(
     cancelled: &[Label],
     moment: u64,
@@ -36,8 +36,8 @@ fn is_among(label: &Label, labels: &[Label]) -> bool
     labels.iter().any(|other| *label == *other)
 }
 
-// Returns the moment in which a sleep of `ticks` ticks ends in which a cancellation is seen at once. A checkpoint that is cancelled
-// takes two rounds.
+// Returns the moment in which a sleep of `ticks` ticks ends in which a cancellation is seen at once. A checkpoint that is
+// cancelled takes two rounds.
 pub(crate) fn gives_up_at(clock: Clock, ticks: u64, moment: u64) -> u64
     requires { moment ≤ 4611686018427387904 }
     ensures { result ≡ gives_up_at clock ticks moment }

@@ -2,7 +2,7 @@ ghost use Rattle.std.specs.Prelude.{◌≡◌, ◌≤◌, length, map, IfOk};
 ghost use Rattle.job_meaning.specs.declared.limits.TheConstants.{MAX_INPUT};
 ghost use Rattle.job_meaning.specs.Meaning.{root_label};
 ghost use Rattle.job_story.specs.Events.{events_of};
-ghost use Rattle.job_story.specs.Froms.{table_in};
+ghost use Rattle.job_story.specs.CancelledFrom.{table_in};
 ghost use Rattle.job_story.specs.Held.{event_of};
 ghost use Rattle.job_story.specs.Tell.{story_by};
 
@@ -10,15 +10,15 @@ use crate::here::Here;
 use crate::progress::Progress;
 use crate::stack::Stack;
 use crate::walk::tell_child;
-use crate::{Event, Froms};
+use crate::{CancelledFrom, Event};
 use exceptions::Label;
 use input_lines::Part;
 use job_meaning::Clock;
 use job_reader::Job;
 use std::alloc::{AllocError, Global};
 
-/// Returns the events of a job's run over an input, where `froms` maps each scope and nursery to the moment from which it is
-/// cancelled, and each event to the moment from which it is set. What is called a tick of an event is its moment.
+/// Returns the events of a job's run over an input, where `cancelled_from` maps each scope and nursery to the moment from which
+/// it is cancelled, and each event to the moment from which it is set. What is called a tick of an event is its moment.
 ///
 /// The events are in the order of the walk and not sorted by moment: all events of a started task, from its start to its end, are
 /// at the point where the task was started. The input has at most `MAX_INPUT` bytes. The only error is a failed allocation.
@@ -26,18 +26,18 @@ pub fn tell<'a>(
     alloc: Global,
     job: &'a Job,
     input: &'a [u8],
-    froms: &Froms,
+    cancelled_from: &CancelledFrom,
 ) -> Result<Vec<Event>, AllocError>
     requires { length input.now ≤ MAX_INPUT }
     ensures { IfOk result (λ events. map event_of events.items ≡ events_of (root_label job.now.name)
-        (story_by (table_in froms.now) job.now input.now)) }
+        (story_by (table_in cancelled_from.now) job.now input.now)) }
 {
     let outside = Label::new(alloc, job.name());
     let nothing = Stack::Empty;
     let here = Here {
         alloc,
         clock: Clock::of(job.text_format()),
-        froms,
+        cancelled_from,
         part: Part::whole(input),
         task: &outside,
         place: &outside,

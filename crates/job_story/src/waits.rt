@@ -13,7 +13,7 @@ use crate::leaves::sleep;
 use crate::notes::{note, note_cancelled};
 use crate::own::add_own;
 use crate::progress::Progress;
-use crate::told::Told;
+use crate::stretch::Stretch;
 use crate::{During, Event, Happening};
 use exceptions::{Exc, Label};
 use job_meaning::{Clock, FAR};
@@ -26,8 +26,8 @@ pub(crate) fn set<'a>(
     name: &Name,
     moment: u64,
     progress: &mut Progress,
-) -> Result<Told, AllocError>
-    ensures { IfOk result (λ told. Tells here.entry.task.now progress.old.events.items told progress.new
+) -> Result<Stretch, AllocError>
+    ensures { IfOk result (λ stretch. Tells here.entry.task.now progress.old.events.items stretch progress.new
         (tell_set here.entry.clock (label_on name.now (open_events here.entry)) (now_in moment progress.old))) }
 {
     let label = copy_label(here.alloc, here.events.label_on(name))?;
@@ -39,35 +39,36 @@ pub(crate) fn set<'a>(
     )?;
     let own = copy_label(here.alloc, here.events.label_on(name))?;
     add_own(here.clock, own, &mut progress.cancelled)?;
-    Ok(Told::at(here.alloc, moment))
+    Ok(Stretch::at(here.alloc, moment))
 }
 
-// Walks a `wait` for the innermost event of that name that encloses the task. Where that is set by the next round, it is a checkpoint.
+// Walks a `wait` for the innermost event of that name that encloses the task. Where that is set by the next round, it is a
+// checkpoint.
 pub(crate) fn wait_for<'a>(
     here: Here<'a, '_>,
     name: &Name,
     moment: u64,
     progress: &mut Progress,
-) -> Result<Told, AllocError>
+) -> Result<Stretch, AllocError>
     requires room { moment ≤ 4611686018427387904 }
-    ensures { IfOk result (λ told. Tells here.entry.task.now progress.old.events.items told progress.new
+    ensures { IfOk result (λ stretch. Tells here.entry.task.now progress.old.events.items stretch progress.new
         (tell_event_wait here.entry.clock (scopes_of here.entry) here.entry.in_cleanup (event_on name.now (open_events here.entry))
         (now_in moment progress.old))) }
 {
     let Some(event) = here.events.level_on(name) else {
-        return Ok(Told::at(here.alloc, moment));
+        return Ok(Stretch::at(here.alloc, moment));
     };
     let set = set_moment(here.clock, event.from, moment);
     if set <= here.clock.a_round_after(moment) {
-        let told = check_event(here, &event.label, moment, progress)?;
-        return Ok(told);
+        let stretch = check_event(here, &event.label, moment, progress)?;
+        return Ok(stretch);
     }
-    let told = await_event(here, &event.label, set, moment, progress)?;
-    Ok(told)
+    let stretch = await_event(here, &event.label, set, moment, progress)?;
+    Ok(stretch)
 }
 
-// Returns the moment in which a wait from `moment` on ends for an event that is set from the moment `from` on. No wait lasts longer
-// than `forever`.
+// Returns the moment in which a wait from `moment` on ends for an event that is set from the moment `from` on. No wait lasts
+// longer than `forever`.
 fn set_moment(clock: Clock, from: Option<u64>, moment: u64) -> u64
     requires { moment ≤ 4611686018427387904 }
     ensures { result ≡ set_moment clock from moment }
@@ -86,37 +87,37 @@ fn check_event<'a>(
     label: &Label,
     moment: u64,
     progress: &mut Progress,
-) -> Result<Told, AllocError>
+) -> Result<Stretch, AllocError>
     requires room { moment ≤ 4611686018427387904 }
-    ensures { IfOk result (λ told. Tells here.entry.task.now progress.old.events.items told progress.new
+    ensures { IfOk result (λ stretch. Tells here.entry.task.now progress.old.events.items stretch progress.new
         (with_set label.now (tell_sleep here.entry.clock (scopes_of here.entry) here.entry.in_cleanup (Some moment) 0 moment))) }
 {
-    let told = sleep(here, Some(moment), 0, moment, progress)?;
-    if told.has_failed() {
-        return Ok(told);
+    let stretch = sleep(here, Some(moment), 0, moment, progress)?;
+    if stretch.has_failed() {
+        return Ok(stretch);
     }
-    note_set(here, label, told.end(), &mut progress.events)?;
-    Ok(told)
+    note_set(here, label, stretch.end(), &mut progress.events)?;
+    Ok(stretch)
 }
 
-// Walks a wait from a moment on for an event that is set in the moment `set`, after the next round. The task has then cancelled nothing
-// itself in its moment.
+// Walks a wait from a moment on for an event that is set in the moment `set`, after the next round. The task has then cancelled
+// nothing itself in its moment.
 fn await_event<'a>(
     here: Here<'a, '_>,
     label: &Label,
     set: u64,
     moment: u64,
     progress: &mut Progress,
-) -> Result<Told, AllocError>
+) -> Result<Stretch, AllocError>
     requires room { moment ≤ 4611686018427387904 }
-    ensures { IfOk result (λ told. Tells here.entry.task.now progress.old.events.items told progress.new
+    ensures { IfOk result (λ stretch. Tells here.entry.task.now progress.old.events.items stretch progress.new
         (tell_waiting (sight (scopes_of here.entry)) moment (a_round_after here.entry.clock moment) set (scopes_of here.entry)
         here.entry.in_cleanup label.now)) }
 {
     progress.cancelled.clear();
     let Some(from) = here.scopes.sight() else {
         note_waited(here, label, moment, set, &mut progress.events)?;
-        return Ok(Told::at(here.alloc, set));
+        return Ok(Stretch::at(here.alloc, set));
     };
     let gives_up = here.clock.a_round_after(moment).max(from);
     if from <= moment {
@@ -127,14 +128,14 @@ fn await_event<'a>(
             gives_up,
             &mut progress.events,
         )?;
-        return Ok(Told::failure(here.alloc, Exc::Cancelled, gives_up));
+        return Ok(Stretch::failure(here.alloc, Exc::Cancelled, gives_up));
     }
     if from < set {
         note_given_up(here, label, from, moment, gives_up, &mut progress.events)?;
-        return Ok(Told::failure(here.alloc, Exc::Cancelled, gives_up));
+        return Ok(Stretch::failure(here.alloc, Exc::Cancelled, gives_up));
     }
     note_waited(here, label, moment, set, &mut progress.events)?;
-    Ok(Told::at(here.alloc, set))
+    Ok(Stretch::at(here.alloc, set))
 }
 
 // Appends the event that the task begins to wait for an event of the job.
@@ -181,8 +182,8 @@ fn note_waited<'a>(
     Ok(())
 }
 
-// Appends the events of a wait from a moment on that ends with `Cancelled` in the moment `gives_up`, because a cancellation from the
-// moment `from` on is seen.
+// Appends the events of a wait from a moment on that ends with `Cancelled` in the moment `gives_up`, because a cancellation from
+// the moment `from` on is seen.
 fn note_given_up<'a>(
     here: Here<'a, '_>,
     label: &Label,

@@ -16,7 +16,7 @@ use crate::leaves::tell_leaf;
 use crate::notes::{leave, note, note_end, note_handled, note_replaced, note_start, wait};
 use crate::progress::Progress;
 use crate::stack::{Level, Stack};
-use crate::told::Told;
+use crate::stretch::Stretch;
 use crate::{Happening, Kind};
 use exceptions::{Label, Match, split};
 use input_lines::Part;
@@ -31,21 +31,21 @@ fn tell_steps<'a>(
     here: Here<'a, '_>,
     moment: u64,
     progress: &mut Progress,
-) -> Result<Told, AllocError>
+) -> Result<Stretch, AllocError>
     requires in_range { AreInRange (steps_of steps.now) }
     requires room { HasRoom (size_of (steps_of steps.now)) here moment }
     ensures { IfOk result (λ w. Tells here.entry.task.now progress.old.events.items w progress.new
         (tell (table_of here.entry) (steps_of steps.now) (scene_of here.entry) (stack_of here.entry) (now_in moment progress.old))) }
 {
-    let mut told = Told::at(here.alloc, moment);
+    let mut stretch = Stretch::at(here.alloc, moment);
     'steps: for step in steps {
-        let next = tell_step(step, here, told.end(), progress)?;
-        told = told.join(next)?;
-        if told.has_failed() {
-            return Ok(told);
+        let next = tell_step(step, here, stretch.end(), progress)?;
+        stretch = stretch.join(next)?;
+        if stretch.has_failed() {
+            return Ok(stretch);
         }
     }
-    Ok(told)
+    Ok(stretch)
 }
 
 // Walks one step, from a moment on.
@@ -56,7 +56,7 @@ fn tell_step<'a>(
     here: Here<'a, '_>,
     moment: u64,
     progress: &mut Progress,
-) -> Result<Told, AllocError>
+) -> Result<Stretch, AllocError>
     requires in_range { IsInRangeStep (step_of step.now) }
     requires room { HasRoom (size_in (step_of step.now)) here moment }
     ensures { IfOk result (λ w. Tells here.entry.task.now progress.old.events.items w progress.new
@@ -108,7 +108,7 @@ fn tell_block<'a>(
     here: Here<'a, '_>,
     moment: u64,
     progress: &mut Progress,
-) -> Result<Told, AllocError>
+) -> Result<Stretch, AllocError>
     requires known { block.now.from ≡ table_of here block.now.label }
     requires in_range { AreInRange body.now }
     requires room { HasRoom (size_of body.now) here moment }
@@ -126,8 +126,8 @@ fn tell_block<'a>(
     };
     note(here, moment, what, &mut progress.events)?;
     let inner = tell_inside(block, body, here, moment, progress)?;
-    let told = leave(block, inner, here, progress)?;
-    Ok(told)
+    let stretch = leave(block, inner, here, progress)?;
+    Ok(stretch)
 }
 
 // Walks the inside of a scope or nursery. A nursery ends after the last of its children.
@@ -139,7 +139,7 @@ fn tell_inside<'a>(
     here: Here<'a, '_>,
     moment: u64,
     progress: &mut Progress,
-) -> Result<Told, AllocError>
+) -> Result<Stretch, AllocError>
     requires in_range { AreInRange body.now }
     requires room { HasRoom (size_of body.now) here moment }
     ensures { IfOk result (λ w. Tells here.entry.task.now progress.old.events.items w progress.new
@@ -156,17 +156,17 @@ fn tell_inside<'a>(
         scopes: &scopes,
         ..here
     };
-    let told = tell_steps(body.as_slice(), within, moment, progress)?;
+    let stretch = tell_steps(body.as_slice(), within, moment, progress)?;
     match block.kind {
-        Kind::Scope { .. } => Ok(told),
+        Kind::Scope { .. } => Ok(stretch),
         Kind::Nursery => {
-            let told = wait(&block.label, told, here, progress)?;
-            Ok(told)
+            let stretch = wait(&block.label, stretch, here, progress)?;
+            Ok(stretch)
         }
     }
 }
 
-// Walks an event that is entered in a moment. Nothing is told where its block ends.
+// Walks an event that is entered in a moment. Nothing is recorded where its block ends.
 #[cycle(telling)]
 #[inline(never)]
 fn tell_event<'a>(
@@ -175,7 +175,7 @@ fn tell_event<'a>(
     here: Here<'a, '_>,
     moment: u64,
     progress: &mut Progress,
-) -> Result<Told, AllocError>
+) -> Result<Stretch, AllocError>
     requires in_range { AreInRange body.now }
     requires room { HasRoom (size_of body.now) here moment }
     ensures { IfOk result (λ w. Tells here.entry.task.now progress.old.events.items w progress.new
@@ -191,8 +191,8 @@ fn tell_event<'a>(
         events: &events,
         ..here
     };
-    let told = tell_steps(body.as_slice(), within, moment, progress)?;
-    Ok(told)
+    let stretch = tell_steps(body.as_slice(), within, moment, progress)?;
+    Ok(stretch)
 }
 
 // Walks what a `start` starts: one task on the whole part, or one on each cut of it. They begin a round later.
@@ -205,7 +205,7 @@ fn tell_start<'a>(
     here: Here<'a, '_>,
     moment: u64,
     progress: &mut Progress,
-) -> Result<Told, AllocError>
+) -> Result<Stretch, AllocError>
     requires some { IsInRangeOver over }
     requires in_range { AreInRange body.now }
     requires room { HasRoom (copies_of over * (1 + size_of body.now)) here moment }
@@ -223,8 +223,8 @@ fn tell_start<'a>(
     }
 }
 
-// Walks a task on a part of the input, from the moment in which it begins to its end. The task that started it goes on in the moment
-// of the start, with what it has cancelled itself in it.
+// Walks a task on a part of the input, from the moment in which it begins to its end. The task that started it goes on in the
+// moment of the start, with what it has cancelled itself in it.
 #[cycle(telling)]
 pub(crate) fn tell_child<'a>(
     label: Label,
@@ -234,7 +234,7 @@ pub(crate) fn tell_child<'a>(
     begins: u64,
     moment: u64,
     progress: &mut Progress,
-) -> Result<Told, AllocError>
+) -> Result<Stretch, AllocError>
     requires in_range { AreInRange (steps_of steps.now) }
     requires room { HasRoom (size_of (steps_of steps.now)) here begins }
     requires same { buffer_of part ≡ input_of here }
@@ -249,11 +249,11 @@ pub(crate) fn tell_child<'a>(
         place: &label,
         ..here
     };
-    let told = tell_steps(steps, inside, begins, progress)?;
-    note_end(&label, &told, here, &mut progress.events)?;
+    let stretch = tell_steps(steps, inside, begins, progress)?;
+    note_end(&label, &stretch, here, &mut progress.events)?;
     progress.cancelled = own;
-    let told = told.into_child(here.alloc, moment)?;
-    Ok(told)
+    let stretch = stretch.into_child(here.alloc, moment)?;
+    Ok(stretch)
 }
 
 // Walks the tasks of a `start .. over`, one after the other. They all begin in the same moment.
@@ -266,7 +266,7 @@ fn tell_children<'a>(
     begins: u64,
     moment: u64,
     progress: &mut Progress,
-) -> Result<Told, AllocError>
+) -> Result<Stretch, AllocError>
     requires some { 1 ≤ copies }
     requires few { copies ≤ 64 }
     requires in_range { AreInRange body.now }
@@ -275,14 +275,14 @@ fn tell_children<'a>(
         (tell_each copies (started_over name.now copies body.now here.entry begins (now_in moment progress.old))
         (now_in moment progress.old))) }
 {
-    let mut told = Told::at(here.alloc, moment);
+    let mut stretch = Stretch::at(here.alloc, moment);
     'copies: for i in 0..copies {
         let part = here.part.cut(copies as usize, i as usize);
         let label = label_over(here, *name, i)?;
         let child = tell_child(label, part, body.as_slice(), here, begins, moment, progress)?;
-        told = told.join(child)?;
+        stretch = stretch.join(child)?;
     }
-    Ok(told)
+    Ok(stretch)
 }
 
 // Walks the passes of a `repeat`, each from where the one before it ended, up to the first that ends with an exception.
@@ -293,21 +293,21 @@ fn tell_passes<'a>(
     here: Here<'a, '_>,
     moment: u64,
     progress: &mut Progress,
-) -> Result<Told, AllocError>
+) -> Result<Stretch, AllocError>
     requires in_range { AreInRange body.now }
     requires room { HasRoom (count * (1 + size_of body.now)) here moment }
     ensures { IfOk result (λ w. Tells here.entry.task.now progress.old.events.items w progress.new
         (tell_passes 0 count (pass body.now here.entry) (now_in moment progress.old))) }
 {
-    let mut told = Told::at(here.alloc, moment);
+    let mut stretch = Stretch::at(here.alloc, moment);
     'passes: for i in 0..count {
-        let next = tell_pass(i, body, here, told.end(), progress)?;
-        told = told.join(next)?;
-        if told.has_failed() {
-            return Ok(told);
+        let next = tell_pass(i, body, here, stretch.end(), progress)?;
+        stretch = stretch.join(next)?;
+        if stretch.has_failed() {
+            return Ok(stretch);
         }
     }
-    Ok(told)
+    Ok(stretch)
 }
 
 // Walks one pass of a `repeat`. What it enters or starts has the number of the pass in its label.
@@ -319,7 +319,7 @@ fn tell_pass<'a>(
     here: Here<'a, '_>,
     moment: u64,
     progress: &mut Progress,
-) -> Result<Told, AllocError>
+) -> Result<Stretch, AllocError>
     requires in_range { AreInRange body.now }
     requires room { HasRoom (size_of body.now) here moment }
     ensures { IfOk result (λ w. Tells here.entry.task.now progress.old.events.items w progress.new
@@ -330,8 +330,8 @@ fn tell_pass<'a>(
         place: &place,
         ..here
     };
-    let told = tell_steps(body.as_slice(), inside, moment, progress)?;
-    Ok(told)
+    let stretch = tell_steps(body.as_slice(), inside, moment, progress)?;
+    Ok(stretch)
 }
 
 // Walks a `try`: its body, its handler if that matches, and its `finally` block.
@@ -344,7 +344,7 @@ fn tell_try<'a>(
     here: Here<'a, '_>,
     moment: u64,
     progress: &mut Progress,
-) -> Result<Told, AllocError>
+) -> Result<Stretch, AllocError>
     requires in_range { AreInRange body.now }
     requires in_range_handler { IsInRangeHandler (handled_of handler.now) }
     requires in_range_cleanup { IsInRangeCleanup (cleaned_of cleanup.now) }
@@ -354,10 +354,10 @@ fn tell_try<'a>(
         (tell_handler (table_of here.entry) (handled_of handler.now) (scene_of here.entry) (stack_of here.entry)
         (tell (table_of here.entry) body.now (scene_of here.entry) (stack_of here.entry) (now_in moment progress.old))))) }
 {
-    let told = tell_steps(body.as_slice(), here, moment, progress)?;
-    let told = tell_handler(handler, told, here, progress)?;
-    let told = tell_cleanup(cleanup, told, here, progress)?;
-    Ok(told)
+    let stretch = tell_steps(body.as_slice(), here, moment, progress)?;
+    let stretch = tell_handler(handler, stretch, here, progress)?;
+    let stretch = tell_cleanup(cleanup, stretch, here, progress)?;
+    Ok(stretch)
 }
 
 // Continues with the handler of a `try` whose body was walked, if there is one and its name matches what the body raised.
@@ -365,30 +365,30 @@ fn tell_try<'a>(
 #[inline(never)]
 fn tell_handler<'a>(
     handler: &'a Option<Handler>,
-    told: Told,
+    stretch: Stretch,
     here: Here<'a, '_>,
     progress: &mut Progress,
-) -> Result<Told, AllocError>
+) -> Result<Stretch, AllocError>
     requires in_range { IsInRangeHandler (handled_of handler.now) }
-    requires room { HasRoom (handled_size (handled_of handler.now)) here told.end }
-    ensures { IfOk result (λ w. (start : List HeldEvent) (a : Tale) → Tells here.entry.task.now start told progress.old a
+    requires room { HasRoom (handled_size (handled_of handler.now)) here stretch.end }
+    ensures { IfOk result (λ w. (start : List HeldEvent) (a : Tale) → Tells here.entry.task.now start stretch progress.old a
         → Tells here.entry.task.now start w progress.new
         (tell_handler (table_of here.entry) (handled_of handler.now) (scene_of here.entry) (stack_of here.entry) a)) }
 {
     let Some(handler) = handler else {
-        return Ok(told);
+        return Ok(stretch);
     };
-    let Some(exc) = told.copy_exc(here.alloc)? else {
-        return Ok(told);
+    let Some(exc) = stretch.copy_exc(here.alloc)? else {
+        return Ok(stretch);
     };
     let (kept, rest) = split(here.alloc, exc, &Match::Name(handler.name))?;
     let Some(matched) = kept else {
-        return Ok(told);
+        return Ok(stretch);
     };
-    note_handled(here, told.end(), matched, &rest, &mut progress.events)?;
-    let next = tell_steps(handler.body.as_slice(), here, told.end(), progress)?;
-    let told = told.join_handler(here.alloc, next, rest)?;
-    Ok(told)
+    note_handled(here, stretch.end(), matched, &rest, &mut progress.events)?;
+    let next = tell_steps(handler.body.as_slice(), here, stretch.end(), progress)?;
+    let stretch = stretch.join_handler(here.alloc, next, rest)?;
+    Ok(stretch)
 }
 
 // Continues with the `finally` block of a `try`, if there is one.
@@ -396,31 +396,31 @@ fn tell_handler<'a>(
 #[inline(never)]
 fn tell_cleanup<'a>(
     cleanup: &'a Option<Body>,
-    told: Told,
+    stretch: Stretch,
     here: Here<'a, '_>,
     progress: &mut Progress,
-) -> Result<Told, AllocError>
+) -> Result<Stretch, AllocError>
     requires in_range { IsInRangeCleanup (cleaned_of cleanup.now) }
-    requires room { HasRoom (cleaned_size (cleaned_of cleanup.now)) here told.end }
-    ensures { IfOk result (λ w. (start : List HeldEvent) (a : Tale) → Tells here.entry.task.now start told progress.old a
+    requires room { HasRoom (cleaned_size (cleaned_of cleanup.now)) here stretch.end }
+    ensures { IfOk result (λ w. (start : List HeldEvent) (a : Tale) → Tells here.entry.task.now start stretch progress.old a
         → Tells here.entry.task.now start w progress.new
         (tell_cleanup (table_of here.entry) (cleaned_of cleanup.now) (scene_of here.entry) (stack_of here.entry) a)) }
 {
     let Some(cleanup) = cleanup else {
-        return Ok(told);
+        return Ok(stretch);
     };
-    let exc = told.box_exc(here.alloc)?;
+    let exc = stretch.box_exc(here.alloc)?;
     let what = Happening::Cleans { exc };
-    note(here, told.end(), what, &mut progress.events)?;
+    note(here, stretch.end(), what, &mut progress.events)?;
     let inside = Here {
         in_cleanup: true,
         ..here
     };
-    let next = tell_steps(cleanup.as_slice(), inside, told.end(), progress)?;
+    let next = tell_steps(cleanup.as_slice(), inside, stretch.end(), progress)?;
     let events = &mut progress.events;
-    note_replaced(here, &told.exc, &next.exc, next.end(), events)?;
-    let told = told.join_cleanup(here.alloc, next)?;
-    Ok(told)
+    note_replaced(here, &stretch.exc, &next.exc, next.end(), events)?;
+    let stretch = stretch.join_cleanup(here.alloc, next)?;
+    Ok(stretch)
 }
 
 // The label of a task of a `start .. over`, with its index.

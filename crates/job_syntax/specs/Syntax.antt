@@ -106,7 +106,7 @@ LeavesAt format end ss tokens at = StopsAt format ss tokens at ⊎ (EndsEarly fo
 abbrev pub whole_job : List Nonterminal
 whole_job = nonterminal.Job ∷ []
 
--- ---- the same, computed token by token
+-- ---- where tokens leave the grammar, computed token by token
 
 abbrev pub or_stop : Rest → ℕ → (List Nonterminal → Option ℕ) → Option ℕ
 or_stop None at others = Some at

@@ -21,11 +21,11 @@ pub enum Nonterminal {
     Items,
     /// What follows the block of a `try`, and the rest of the enclosing block.
     StepsTail,
-    /// The same directly inside a nursery.
+    /// What follows the block of a `try` directly inside a nursery, and the rest of the nursery.
     ItemsTail,
     /// What follows a handler, and the rest of the enclosing block.
     StepsCleanup,
-    /// The same directly inside a nursery.
+    /// What follows a handler directly inside a nursery, and the rest of the nursery.
     ItemsCleanup,
     /// The rest of a scope after its name.
     Scope,
@@ -224,7 +224,7 @@ fn nursery_rest(format: Format, keyword: Keyword) -> Option<&'static [Nontermina
     }
 }
 
-// The same after the deadline of the nursery.
+// Returns what follows a word in the head of a nursery, after its deadline.
 fn nursery_shield_rest(format: Format, keyword: Keyword) -> Option<&'static [Nonterminal]>
     ensures { Gives (λ x. reverse x.now) result (nursery_shield_rest format keyword) }
 {

@@ -13,8 +13,8 @@ use job_tree::{Body, Deadline, Handler, Name, Step, Text};
 use std::alloc::{AllocError, Global};
 
 /// Returns the name and the steps of the job with these tokens, of any format, if its blocks are nested at most 32 deep.
-/// Otherwise returns `None`. Call it with tokens in which `check_grammar` finds no fault: it does not check where a `start` occurs,
-/// what follows a `try`, or which steps the format has. The only error is that memory runs out.
+/// Otherwise returns `None`. Call it with tokens in which `check_grammar` finds no fault: it does not check where a `start`
+/// occurs, what follows a `try`, or which steps the format has. The only error is that memory runs out.
 pub fn job_at(alloc: Global, tokens: &[Token]) -> Result<Option<(Name, Body)>, AllocError>
     ensures { (format : Format) → IfOk result (λ x. Gives (λ j. record { format = format; name = j.0; steps = j.1 }) x
         (job_at format (shapes_of tokens.now))) }

@@ -78,7 +78,7 @@ has_leading_zero (d ∷ ds) = (d == 48) && nat_lt 0 (length ds)
 abbrev pub value_within : List ℕ → Option ℕ
 value_within digits = if nat_le (value_after 0 digits) MAX_NUMBER then Some (value_after 0 digits) else None
 
--- the same, but `None` with a leading zero
+-- the value of these digits, or `None` if it is above the maximum or they have a leading zero
 abbrev pub number_of : List ℕ → Option ℕ
 number_of digits = if has_leading_zero digits then None else value_within digits
 

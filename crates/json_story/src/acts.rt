@@ -2,7 +2,7 @@ ghost use Rattle.std.specs.Prelude.{◌≡◌, Some, IfOk, codes};
 ghost use Rattle.serde_json.specs.View.{view};
 ghost use Rattle.story_index.specs.Found.{cause_in_code};
 ghost use Rattle.json_story.specs.Events.{act_json, cause_json, why_json};
-ghost use Rattle.json_story.specs.Known.{clock_in, events_in, froms_in};
+ghost use Rattle.json_story.specs.Known.{clock_in, events_in, cancelled_from_in};
 
 use crate::known::Known;
 use crate::label_value;
@@ -18,7 +18,7 @@ pub(crate) fn why_value(
     known: &Known<'_, '_>,
     label: &Option<Label>,
 ) -> Result<Value, AllocError>
-    ensures { IfOk result (λ value. view value ≡ why_json (clock_in known.now) (froms_in known.now) (events_in known.now) label.now) }
+    ensures { IfOk result (λ value. view value ≡ why_json (clock_in known.now) (cancelled_from_in known.now) (events_in known.now) label.now) }
 {
     let Some(label) = label else {
         return Ok(Value::Null);

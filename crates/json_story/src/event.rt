@@ -6,7 +6,7 @@ ghost use Rattle.job_story.specs.Held.{what_of, event_of};
 ghost use Rattle.story_index.specs.Seen.{event_in};
 ghost use Rattle.json_story.specs.Values.{list_of};
 ghost use Rattle.json_story.specs.Events.{what_word, with_what, event_head, event_json};
-ghost use Rattle.json_story.specs.Known.{clock_in, events_in, froms_in};
+ghost use Rattle.json_story.specs.Known.{clock_in, events_in, cancelled_from_in};
 
 use crate::found::push_found;
 use crate::happening::{happening_word, put_happening};
@@ -27,7 +27,7 @@ pub(crate) fn push_events(
 ) -> Result<(), AllocError>
     ensures { OnOk result (out.new.items
         ≡ out.old.items ++ compact_text (list_of
-        (map (event_json (clock_in known.now) (froms_in known.now) (events_in known.now)) (map event_in events.now)))) }
+        (map (event_json (clock_in known.now) (cancelled_from_in known.now) (events_in known.now)) (map event_in events.now)))) }
 {
     out.push(b'[')?;
     'events: for (i, event) in events.iter().enumerate() {
@@ -46,7 +46,7 @@ fn push_event(
     event: &Event,
 ) -> Result<(), AllocError>
     ensures { OnOk result (out.new.items
-        ≡ out.old.items ++ compact_text (event_json (clock_in known.now) (froms_in known.now) (events_in known.now) (event_of event.now))) }
+        ≡ out.old.items ++ compact_text (event_json (clock_in known.now) (cancelled_from_in known.now) (events_in known.now) (event_of event.now))) }
 {
     if let What::Happens(Happening::Finds { lines }) = &event.what {
         return push_found(
@@ -64,7 +64,7 @@ fn push_event(
 // Returns an event as a JSON object.
 fn event_value(alloc: Global, known: &Known<'_, '_>, event: &Event) -> Result<Value, AllocError>
     ensures { IfOk result (λ value. view value
-        ≡ event_json (clock_in known.now) (froms_in known.now) (events_in known.now) (event_of event.now)) }
+        ≡ event_json (clock_in known.now) (cancelled_from_in known.now) (events_in known.now) (event_of event.now)) }
 {
     let mut members = event_head(alloc, known.clock, event)?;
     put_what(&mut members, alloc, known, event.tick, &event.what)?;
@@ -105,7 +105,7 @@ fn put_what(
     what: &What,
 ) -> Result<(), AllocError>
     ensures { OnOk result (members_view members.new.entries
-        ≡ with_what (clock_in known.now) (froms_in known.now) (events_in known.now) moment
+        ≡ with_what (clock_in known.now) (cancelled_from_in known.now) (events_in known.now) moment
         (what_of what.now) (members_view members.old.entries)) }
 {
     match what {

@@ -18,8 +18,7 @@ fn whose_value(alloc: Global, whose: &Whose) -> Result<Value, AllocError>
     }
 }
 
-/// Returns an exception as a JSON object; a group contains its parts. The only error is that memory
-/// runs out.
+/// Returns an exception as a JSON object; a group contains its parts. The only error is that memory runs out.
 #[cycle(exc)]
 pub fn exc_value(alloc: Global, exc: &Exc) -> Result<Value, AllocError>
     ensures { IfOk result (λ value. view value ≡ exc_json (exc_of exc.now)) }

@@ -7,7 +7,7 @@ ghost use Rattle.job_story.specs.Held.{unboxed_exc, during_of, span_in, happenin
 ghost use Rattle.json_story.specs.Values.{integer, list_of, label_json, exc_json};
 ghost use Rattle.job_meaning.specs.Clocks.{tick_of};
 ghost use Rattle.json_story.specs.Events.{moment_json, label_or_null, exc_or_null, why_json, cancel_from, failure_from, kind_key, span_json, happening_word, with_during, with_happening};
-ghost use Rattle.json_story.specs.Known.{clock_in, events_in, froms_in};
+ghost use Rattle.json_story.specs.Known.{clock_in, events_in, cancelled_from_in};
 
 use crate::acts::why_value;
 use crate::known::Known;
@@ -52,7 +52,7 @@ pub(crate) fn put_happening(
     happening: &Happening,
 ) -> Result<(), AllocError>
     ensures { OnOk result (members_view members.new.entries
-        ≡ with_happening (clock_in known.now) (froms_in known.now) (events_in known.now) moment
+        ≡ with_happening (clock_in known.now) (cancelled_from_in known.now) (events_in known.now) moment
         (happening_of happening.now) (members_view members.old.entries)) }
 {
     match happening {
@@ -158,7 +158,7 @@ fn put_cancelled(
 ) -> Result<(), AllocError>
     ensures { OnOk result (members_view members.new.entries ≡ with_member (codes "in_cleanup") (boolean in_cleanup)
         (with_during (clock_in known.now) (during_of during.now)
-        (with_member (codes "why") (why_json (clock_in known.now) (froms_in known.now) (events_in known.now) by.now)
+        (with_member (codes "why") (why_json (clock_in known.now) (cancelled_from_in known.now) (events_in known.now) by.now)
         (with_member (codes "by") (label_or_null by.now) (members_view members.old.entries))))) }
 {
     let label = label_or_null(alloc, by)?;
@@ -269,7 +269,7 @@ fn put_cancels(
     moment: u64,
 ) -> Result<(), AllocError>
     ensures { OnOk result (members_view members.new.entries
-        ≡ with_member (codes "from") (moment_json (clock_in known.now) (cancel_from (froms_in known.now) label.now moment))
+        ≡ with_member (codes "from") (moment_json (clock_in known.now) (cancel_from (cancelled_from_in known.now) label.now moment))
         (with_member (codes "label") (label_or_null label.now) (members_view members.old.entries))) }
 {
     let text = label_or_null(alloc, label)?;
@@ -326,7 +326,7 @@ fn put_waits(
 ) -> Result<(), AllocError>
     ensures { OnOk result (members_view members.new.entries
         ≡ with_member (codes "from") (moment_json (clock_in known.now)
-        (failure_from (froms_in known.now) (Some nursery.now) (unboxed_exc exc.now) moment))
+        (failure_from (cancelled_from_in known.now) (Some nursery.now) (unboxed_exc exc.now) moment))
         (with_member (codes "exception") (exc_or_null (unboxed_exc exc.now))
         (with_member (codes "nursery") (label_json nursery.now) (members_view members.old.entries)))) }
 {

@@ -1,10 +1,10 @@
 ghost use Rattle.std.specs.Prelude.{map};
-ghost use Rattle.job_story.specs.Froms.{table_in};
+ghost use Rattle.job_story.specs.CancelledFrom.{table_in};
 ghost use Rattle.story_index.specs.Knows.{Knows};
 ghost use Rattle.story_index.specs.Seen.{event_in};
 
 use job_meaning::Clock;
-use job_story::{Event, Froms};
+use job_story::{CancelledFrom, Event};
 use story_index::Causes;
 
 // The clock of a story's moments, its events in order, the moment from which each scope and nursery is cancelled, or
@@ -13,7 +13,7 @@ use story_index::Causes;
 pub(crate) struct Known<'k, 'e> {
     pub clock: Clock,
     pub events: &'k [&'e Event],
-    pub froms: &'k Froms,
+    pub cancelled_from: &'k CancelledFrom,
     pub causes: &'k Causes<'e>,
-    ghost known: { Knows causes.now (table_in froms.now) (map event_in events.now) },
+    ghost known: { Knows causes.now (table_in cancelled_from.now) (map event_in events.now) },
 }

@@ -30,8 +30,8 @@ pub fn push_comma(out: &mut Vec<u8>, index: usize) -> Result<(), AllocError>
     Ok(())
 }
 
-/// Appends the opening brace of an object and its first member. The caller must ensure that the value has no floating-point number.
-/// Returns `AllocError` if memory runs out; a front part of the text may be appended then.
+/// Appends the opening brace of an object and its first member. The caller must ensure that the value has no floating-point
+/// number. Returns `AllocError` if memory runs out; a front part of the text may be appended then.
 pub fn push_first_member(
     alloc: Global,
     out: &mut Vec<u8>,
@@ -47,8 +47,8 @@ pub fn push_first_member(
     push_value(alloc, out, value)
 }
 
-/// Appends a further member of an object. The caller must ensure that the value has no floating-point number. Returns `AllocError`
-/// if memory runs out; a front part of the text may be appended then.
+/// Appends a further member of an object. The caller must ensure that the value has no floating-point number. Returns
+/// `AllocError` if memory runs out; a front part of the text may be appended then.
 pub fn push_member(
     alloc: Global,
     out: &mut Vec<u8>,

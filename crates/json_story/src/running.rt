@@ -3,7 +3,7 @@ ghost use Rattle.serde_json.specs.Data.{put as with_member};
 ghost use Rattle.serde_json.specs.View.{view, members_view};
 ghost use Rattle.exceptions.specs.Exceptions as tree;
 ghost use Rattle.job_story.specs.Held.{happening_of, what_of};
-ghost use Rattle.job_story.specs.Events as told;
+ghost use Rattle.job_story.specs.Events as story_events;
 ghost use Rattle.job_story.specs.Limit.{has_ended, start_if, is_start, running_in};
 ghost use Rattle.story_index.specs.Seen.{event_in};
 ghost use Rattle.json_story.specs.Values.{integer, word};
@@ -116,7 +116,7 @@ fn put_doing_in(
     happening: &Happening,
 ) -> Result<(), AllocError>
     ensures { OnOk result (members_view members.new.entries
-        ≡ with_doing clock moment (told.happens (happening_of happening.now)) (members_view members.old.entries)) }
+        ≡ with_doing clock moment (story_events.happens (happening_of happening.now)) (members_view members.old.entries)) }
 {
     match happening {
         Happening::Sleeps { until } => {

@@ -3,13 +3,13 @@ ghost use Rattle.serde_json.specs.Data.{Members, member, object};
 ghost use Rattle.serde_json.specs.View.{view};
 ghost use Rattle.serde_json.specs.Written.{compact_text, members_text};
 ghost use Rattle.job_story.specs.Focus.{concerned_tasks, of_tasks};
-ghost use Rattle.job_story.specs.Froms.{table_in};
+ghost use Rattle.job_story.specs.CancelledFrom.{table_in};
 ghost use Rattle.story_index.specs.Knows.{Knows};
 ghost use Rattle.story_index.specs.Seen.{event_in};
 ghost use Rattle.story_index.specs.Holds.{label_seen};
 ghost use Rattle.json_story.specs.Values.{document, list_of};
 ghost use Rattle.json_story.specs.Events.{event_json, tick_json};
-ghost use Rattle.json_story.specs.Known.{clock_in, events_in, froms_in};
+ghost use Rattle.json_story.specs.Known.{clock_in, events_in, cancelled_from_in};
 ghost use Rattle.json_story.specs.Stories.{running_json, kept_json, story_json};
 
 use crate::event::push_events;
@@ -19,16 +19,16 @@ use crate::running::running_values;
 use crate::{push_key, push_member, text_value};
 use exceptions::Label;
 use job_meaning::Clock;
-use job_story::{Event, Froms};
+use job_story::{CancelledFrom, Event};
 use job_tree::Name;
 use serde_json::Value;
 use std::alloc::{AllocError, Global};
 use story_index::{Causes, Tasks, concerned_tasks, of_tasks};
 use story_text::in_order;
 
-/// Returns the story of a job as one JSON document, in compact form and with a newline, given the clock of its moments, its events
-/// in the order of the walk and the table with the moment from which each scope and nursery is cancelled: of all tasks, or of
-/// what concerns `task`. With `until`, the tick of the limit, it is the story of a job that ends later, and includes what each
+/// Returns the story of a job as one JSON document, in compact form and with a newline, given the clock of its moments, its
+/// events in the order of the walk and the table with the moment from which each scope and nursery is cancelled: of all tasks, or
+/// of what concerns `task`. With `until`, the tick of the limit, it is the story of a job that ends later, and includes what each
 /// task that has not ended is doing. The only error is that memory runs out.
 pub fn story_json<'e>(
     alloc: Global,
@@ -36,7 +36,7 @@ pub fn story_json<'e>(
     job: Name,
     until: Option<u64>,
     walked: &[&'e Event],
-    table: &'e Froms,
+    table: &'e CancelledFrom,
     task: Option<&'e Label>,
 ) -> Result<Vec<u8>, AllocError>
     ensures { IfOk result (λ bytes. bytes.items
@@ -72,11 +72,11 @@ fn concerned_json<'e>(
     causes: &Causes<'e>,
     task: &'e Label,
 ) -> Result<Vec<u8>, AllocError>
-    requires { Knows causes.now (froms_in known.now) (map event_in all.now) }
+    requires { Knows causes.now (cancelled_from_in known.now) (map event_in all.now) }
     ensures { IfOk result (λ bytes. bytes.items
-        ≡ document (kept_json (clock_in known.now) job until (froms_in known.now) (events_in known.now)
-        (of_tasks (concerned_tasks (froms_in known.now) (map event_in all.now) task.entry.now) (map event_in all.now))
-        (of_tasks (concerned_tasks (froms_in known.now) (map event_in all.now) task.entry.now) (map event_in walked.now)))) }
+        ≡ document (kept_json (clock_in known.now) job until (cancelled_from_in known.now) (events_in known.now)
+        (of_tasks (concerned_tasks (cancelled_from_in known.now) (map event_in all.now) task.entry.now) (map event_in all.now))
+        (of_tasks (concerned_tasks (cancelled_from_in known.now) (map event_in all.now) task.entry.now) (map event_in walked.now)))) }
 {
     let tasks = concerned_tasks(alloc, all, causes, task)?;
     let sorted = of_tasks(alloc, all, &tasks)?;
@@ -102,7 +102,7 @@ fn kept_json(
     walked: &[&Event],
 ) -> Result<Vec<u8>, AllocError>
     ensures { IfOk result (λ bytes. bytes.items
-        ≡ document (kept_json (clock_in known.now) job until (froms_in known.now) (events_in known.now)
+        ≡ document (kept_json (clock_in known.now) job until (cancelled_from_in known.now) (events_in known.now)
         (map event_in sorted.now) (map event_in walked.now))) }
 {
     let mut out = Vec::new(alloc);
@@ -123,7 +123,7 @@ fn push_events_member(
 ) -> Result<(), AllocError>
     ensures { OnOk result ((later : Members) → out.new.items ++ members_text true later
         ≡ out.old.items ++ compact_text (object (member (codes "events")
-        (list_of (map (event_json (clock_in known.now) (froms_in known.now) (events_in known.now)) (map event_in sorted.now))) later))) }
+        (list_of (map (event_json (clock_in known.now) (cancelled_from_in known.now) (events_in known.now)) (map event_in sorted.now))) later))) }
 {
     out.push(b'{')?;
     push_key(alloc, out, "events")?;

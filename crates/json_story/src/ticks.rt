@@ -1,18 +1,18 @@
 ghost use Rattle.std.specs.Prelude.{◌≡◌, Some, map};
 ghost use Rattle.std.specs.Option.{option_map};
 ghost use Rattle.job_story.specs.Causes.{cause_of};
-ghost use Rattle.job_story.specs.Froms.{table_in};
+ghost use Rattle.job_story.specs.CancelledFrom.{table_in};
 ghost use Rattle.job_story.specs.Held.{unboxed_exc};
 ghost use Rattle.story_index.specs.Found.{cause_in_code};
 ghost use Rattle.story_index.specs.Knows.{Knows};
 ghost use Rattle.story_index.specs.Seen.{event_in};
 ghost use Rattle.json_story.specs.Events.{next_if, cancel_from, failure_from};
-ghost use Rattle.json_story.specs.Known.{clock_in, events_in, froms_in};
+ghost use Rattle.json_story.specs.Known.{clock_in, events_in, cancelled_from_in};
 
 use crate::known::Known;
 use exceptions::{Exc, Label};
 use job_meaning::Clock;
-use job_story::{Event, Froms};
+use job_story::{CancelledFrom, Event};
 use story_index::{Cause, Causes};
 
 impl<'k, 'e> Known<'k, 'e> {
@@ -20,35 +20,35 @@ impl<'k, 'e> Known<'k, 'e> {
     pub(crate) fn new(
         clock: Clock,
         events: &'k [&'e Event],
-        froms: &'k Froms,
+        cancelled_from: &'k CancelledFrom,
         causes: &'k Causes<'e>,
     ) -> Known<'k, 'e>
-        requires { Knows causes.now (table_in froms.now) (map event_in events.now) }
+        requires { Knows causes.now (table_in cancelled_from.now) (map event_in events.now) }
         ensures clock { clock_in result ≡ clock }
         ensures events { events_in result ≡ map event_in events.now }
-        ensures froms { froms_in result ≡ table_in froms.now }
+        ensures cancelled_from { cancelled_from_in result ≡ table_in cancelled_from.now }
     {
         Known {
             clock,
             events,
-            froms,
+            cancelled_from,
             causes,
         }
     }
 
     // Returns why a scope or nursery is cancelled, or an event of the job set, or `None` if it never is.
     pub(crate) fn cause(&self, label: &Label) -> Option<Cause<'e>>
-        ensures { option_map cause_in_code result ≡ cause_of (froms_in self.now) (events_in self.now) label.now }
+        ensures { option_map cause_in_code result ≡ cause_of (cancelled_from_in self.now) (events_in self.now) label.now }
     {
         self.causes.cause(label)
     }
 
     // Returns the moment after this one, if a scope or nursery is cancelled, or an event set, from then on.
     pub(crate) fn cancel_from(&self, label: &Option<Label>, moment: u64) -> Option<u64>
-        ensures { result ≡ cancel_from (froms_in self.now) label.now moment }
+        ensures { result ≡ cancel_from (cancelled_from_in self.now) label.now moment }
     {
         match label {
-            Some(label) => next_if(self.froms.of(label), moment),
+            Some(label) => next_if(self.cancelled_from.of(label), moment),
             None => None,
         }
     }
@@ -60,7 +60,7 @@ impl<'k, 'e> Known<'k, 'e> {
         exc: &Option<Box<Exc>>,
         moment: u64,
     ) -> Option<u64>
-        ensures { result ≡ failure_from (froms_in self.now) home.now (unboxed_exc exc.now) moment }
+        ensures { result ≡ failure_from (cancelled_from_in self.now) home.now (unboxed_exc exc.now) moment }
     {
         match exc {
             Some(_) => self.cancel_from(home, moment),
@@ -75,10 +75,10 @@ impl<'k, 'e> Known<'k, 'e> {
         exc: &Option<Box<Exc>>,
         moment: u64,
     ) -> Option<u64>
-        ensures { result ≡ failure_from (froms_in self.now) (Some nursery.now) (unboxed_exc exc.now) moment }
+        ensures { result ≡ failure_from (cancelled_from_in self.now) (Some nursery.now) (unboxed_exc exc.now) moment }
     {
         match exc {
-            Some(_) => next_if(self.froms.of(nursery), moment),
+            Some(_) => next_if(self.cancelled_from.of(nursery), moment),
             None => None,
         }
     }

@@ -13,7 +13,7 @@ use Rattle.outcomes.specs.declared.options.Untried.{Untried}
 use Rattle.outcomes.specs.Groups as sweeps
 use Rattle.race_text.specs.Differences.{Difference, otherwise, inside}
 use Rattle.race_text.specs.Lines as races
-use Rattle.race_text.specs.Lines.{finer, moved, copies, is_shown}
+use Rattle.race_text.specs.Lines.{in_finer_ticks, moved, copies, is_shown}
 use Rattle.race_text.specs.Table.{lines_that}
 use Rattle.job_lint.specs.declared.warning.Warning.{Warning}
 use Rattle.json_story.specs.Values.{label_json}
@@ -91,7 +91,7 @@ refusal_has_none (races.not_tried fault) = refl
 refusal_has_none (races.differs tasks) = refl
 
 race_line_has_none : (l : races.Line) → has_float (race_line_json l) ≡ false
-race_line_has_none (finer found) = rw (differences_have_none found, refusal_has_none found) refl
+race_line_has_none (in_finer_ticks found) = rw (differences_have_none found, refusal_has_none found) refl
 race_line_has_none (moved line column moment hair found) = rw (differences_have_none found, refusal_has_none found) refl
 race_line_has_none (copies line column name count one other tick) = refl
 

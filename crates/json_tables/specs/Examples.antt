@@ -58,7 +58,7 @@ sweep_is_written = refl
 -- a hair that changes nothing is left out, and one with which nothing was compared is not
 pub races_are_written :
     document (races_json 5
-    (races.finer (races.differs (inside (copy (codes "w") 1) ∷ []))
+    (races.in_finer_ticks (races.differs (inside (copy (codes "w") 1) ∷ []))
     ∷ races.moved 4 18 (Sleep (record { from = 0; to = 0; value = 5 })) Earlier
     (races.differs (otherwise (task (codes "a")) (codes "done") (codes "cancelled") ∷ []))
     ∷ races.moved 4 18 (Sleep (record { from = 0; to = 0; value = 5 })) Later (races.differs [])

@@ -4,7 +4,7 @@ use Rattle.serde_json.specs.Data.{Data, null, boolean, object, member, no_member
 use Rattle.exceptions.specs.Exceptions.{Label}
 use Rattle.job_edits.specs.declared.shift.Hair.{Hair}
 use Rattle.race_text.specs.Differences.{Difference, otherwise, inside}
-use Rattle.race_text.specs.Lines.{Found, not_tried, differs, Line, finer, moved, copies, is_shown, is_race, is_hair_not_tried}
+use Rattle.race_text.specs.Lines.{Found, not_tried, differs, Line, in_finer_ticks, moved, copies, is_shown, is_race, is_hair_not_tried}
 use Rattle.race_text.specs.Table.{hair_name, step_text, lines_that}
 use Rattle.json_story.specs.Values.{integer, word, list_of, text_json, label_json}
 use Rattle.json_tables.specs.Results.{not_tried_json}
@@ -27,9 +27,9 @@ abbrev pub refusal_or_null : Found → Data
 refusal_or_null (not_tried fault) = not_tried_json fault
 refusal_or_null (differs tasks) = null
 
--- the text in finer ticks: `{"differences":[..],"hair":"finer","not_tried":REFUSAL}`
-abbrev pub finer_json : Found → Data
-finer_json found =
+-- the text in finer ticks: `{"differences":[..],"hair":"in_finer_ticks","not_tried":REFUSAL}`
+abbrev pub finer_ticks_json : Found → Data
+finer_ticks_json found =
     object (member (codes "differences") (list_of (differences_json found)) (member (codes "hair") (word (codes "finer"))
     (member (codes "not_tried") (refusal_or_null found) no_members)))
 
@@ -49,7 +49,7 @@ copies_json line column one other tick step =
 
 -- a line, with the text of the step at its place
 abbrev pub race_line_json : Line → Data
-race_line_json (finer found) = finer_json found
+race_line_json (in_finer_ticks found) = finer_ticks_json found
 race_line_json (moved line column moment hair found) = moved_json line column hair found (step_text (moved line column moment hair found))
 race_line_json (copies line column name count one other tick) =
     copies_json line column one other tick (step_text (copies line column name count one other tick))

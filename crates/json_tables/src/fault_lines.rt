@@ -1,6 +1,6 @@
 ghost use Rattle.std.specs.Prelude.{◌≡◌, ◌++◌, [], ◌∷◌, ◌||◌, not, List, IfOk, OnOk, length, map, take, codes};
 ghost use Rattle.serde_json.specs.View.{view};
-ghost use Rattle.outcomes.specs.Table as told;
+ghost use Rattle.outcomes.specs.Table as table;
 ghost use Rattle.outcomes.specs.Table.{counts_of, fault_text, printed, step_text};
 ghost use Rattle.outcomes.specs.Views.{job_outcome_held, line_held};
 ghost use Rattle.json_story.specs.Values.{document, text_json};
@@ -17,8 +17,8 @@ use std::alloc::{AllocError, Global};
 
 /// Returns one JSON document with the outcome of a job as it is (`first`), its outcome with each fault, and how many faults are
 /// of each kind. With `brief` it has only the lines whose outcome differs from that of the job without the fault, but all are
-/// counted. The document is compact and ends with a newline. `limit` is the last tick at which the job may end, and `untried` says
-/// which faults in single copies and passes are not among `lines`. The only error is that memory runs out.
+/// counted. The document is compact and ends with a newline. `limit` is the last tick at which the job may end, and `untried`
+/// says which faults in single copies and passes are not among `lines`. The only error is that memory runs out.
 pub fn faults_json(
     alloc: Global,
     limit: u64,
@@ -72,8 +72,8 @@ fn line_values(
     Ok(values)
 }
 
-// Appends the outcome of a job with a fault, if it is printed. The clause has the lines that a loop appends later, `rest`, on both
-// sides.
+// Appends the outcome of a job with a fault, if it is printed. The clause has the lines that a loop appends later, `rest`, on
+// both sides.
 fn push_printed(
     alloc: Global,
     values: &mut Vec<Value>,
@@ -81,7 +81,7 @@ fn push_printed(
     brief: bool,
     line: &Line,
 ) -> Result<(), AllocError>
-    ensures { OnOk result ((rest : List told.Line) → map view values.new.items ++ map (fault_line_json limit) (printed brief rest)
+    ensures { OnOk result ((rest : List table.Line) → map view values.new.items ++ map (fault_line_json limit) (printed brief rest)
         ≡ map view values.old.items ++ map (fault_line_json limit) (printed brief (line_held line.now ∷ rest))) }
 {
     if is_printed(brief, line.differs) {

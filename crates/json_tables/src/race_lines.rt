@@ -1,12 +1,12 @@
 ghost use Rattle.std.specs.Prelude.{◌≡◌, ◌++◌, [], ◌∷◌, List, IfOk, OnOk, length, map, take, drop, codes, if◌then◌else◌};
 ghost use Rattle.serde_json.specs.View.{view};
 ghost use Rattle.race_text.specs.RowViews.{difference_held};
-ghost use Rattle.race_text.specs.Lines as told;
+ghost use Rattle.race_text.specs.Lines as race_lines;
 ghost use Rattle.race_text.specs.Lines.{is_shown};
 ghost use Rattle.race_text.specs.Table.{hair_name, lines_that};
 ghost use Rattle.race_text.specs.LineViews.{found_held, line_held};
 ghost use Rattle.json_story.specs.Values.{document, label_json, list_of};
-ghost use Rattle.json_tables.specs.Races.{difference_json, differences_json, refusal_or_null, finer_json, moved_json, copies_json, race_line_json, race_counts_json, races_json};
+ghost use Rattle.json_tables.specs.Races.{difference_json, differences_json, refusal_or_null, finer_ticks_json, moved_json, copies_json, race_line_json, race_counts_json, races_json};
 
 use crate::results::not_tried_value;
 use exceptions::Label;
@@ -17,8 +17,8 @@ use serde_json::{Value, json};
 use std::alloc::{AllocError, Global};
 
 /// Returns one JSON document with each line of the table of races that is shown, in their order and with all differences, and
-/// with how many hairs there are, with how many of them nothing was compared, and how many lines are races. The document is compact
-/// and ends with a newline. Returns `AllocError` if memory runs out.
+/// with how many hairs there are, with how many of them nothing was compared, and how many lines are races. The document is
+/// compact and ends with a newline. Returns `AllocError` if memory runs out.
 #[tactic(auto, using(crate::proofs::Integers::races_without_float))]
 pub fn races_json(alloc: Global, hairs: usize, lines: &[Line]) -> Result<Vec<u8>, AllocError>
     ensures { IfOk result (λ bytes. bytes.items ≡ document (races_json hairs (map line_held lines.now))) }
@@ -60,7 +60,7 @@ fn line_values(alloc: Global, lines: &[Line]) -> Result<Vec<Value>, AllocError>
 
 // Appends a line, if it is shown. The contract has the lines that a loop appends later, `others`, on both sides.
 fn push_if_shown(values: &mut Vec<Value>, alloc: Global, line: &Line) -> Result<(), AllocError>
-    ensures { OnOk result ((others : List told.Line) →
+    ensures { OnOk result ((others : List race_lines.Line) →
         map view values.new.items ++ map race_line_json others
         ≡ map view values.old.items ++ map race_line_json (if is_shown (line_held line.now) then line_held line.now ∷ others else others)) }
 {
@@ -79,7 +79,7 @@ fn line_value(alloc: Global, line: &Line) -> Result<Value, AllocError>
 {
     let step = step_of(alloc, line)?;
     match line {
-        Line::Finer(found) => finer_value(alloc, found),
+        Line::InFinerTicks(found) => finer_ticks_value(alloc, found),
         Line::Moved {
             line,
             column,
@@ -105,8 +105,8 @@ fn line_value(alloc: Global, line: &Line) -> Result<Value, AllocError>
 }
 
 // Returns the line of the text in finer ticks.
-fn finer_value(alloc: Global, found: &Found) -> Result<Value, AllocError>
-    ensures { IfOk result (λ value. view value ≡ finer_json (found_held found.now)) }
+fn finer_ticks_value(alloc: Global, found: &Found) -> Result<Value, AllocError>
+    ensures { IfOk result (λ value. view value ≡ finer_ticks_json (found_held found.now)) }
 {
     let differences = difference_values(alloc, found)?;
     let not_tried = refusal_value(alloc, found)?;

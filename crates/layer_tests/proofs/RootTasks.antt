@@ -44,8 +44,8 @@ use Rattle.task_machine.proofs.Stopping.{no_blocks_begun}
 abbrev no_numbers : Numbers
 no_numbers id = []
 
-abbrev no_froms : Table
-no_froms l = None
+abbrev none_cancelled_from : Table
+none_cancelled_from l = None
 
 module _ (job : Job) (root : Task) (home : root.home ≡ None) (own : root.own.items ≡ []) (task_state : root.task_state ≡ ToBegin 0)
     (frames : (numbers : ℕ → List ℕ) → frames_of numbers root.frames.items ≡ rest.steps_left job.steps ∷ []) where
@@ -74,8 +74,8 @@ module _ (job : Job) (root : Task) (home : root.home ≡ None) (own : root.own.i
           home = subst (λ (o : Option ℕ). ForSome o (IsOpen world.scopes)) (sym no_home) (λ x e. absurd (let f : None ≡ Some x = e in cc));
           scope = subst (λ (o : Option ℕ). ForSome o (IsOpen world.scopes)) (sym no_scope) (λ x e. absurd (let f : None ≡ Some x = e in cc));
           first = subst (OwnFirst world.scopes (home_scope root)) (sym own) refl;
-          froms = subst (λ (os : List Own). All (λ (o : Own). o.at < length root.froms.items) os) (sym own)
-              (All-nil (λ (o : Own). o.at < length root.froms.items));
+          cancelled_from = subst (λ (os : List Own). All (λ (o : Own). o.at < length root.cancelled_from.items) os) (sym own)
+              (All-nil (λ (o : Own). o.at < length root.cancelled_from.items));
           opened = subst (λ (bs : List Block). Opened (label_at world) world.book bs root.own.items (waits_of root.task_state)) (sym blocks)
               (subst (λ (os : List Own). Opened (label_at world) world.book [] os (waits_of root.task_state)) (sym own)
               (subst (λ (w : Option ℕ). Opened (label_at world) world.book [] [] w) (sym (ap waits_of task_state)) tt));
@@ -86,10 +86,10 @@ module _ (job : Job) (root : Task) (home : root.home ≡ None) (own : root.own.i
 
   -- and its state is that of the definitions
   root_stands : (world : World) → StartsInNurseries job → GivesNamesOnce job →
-      Stands (state_of root world) no_froms no_numbers (Some rest.to_begin) []
+      Stands (state_of root world) none_cancelled_from no_numbers (Some rest.to_begin) []
   root_stands world starting names =
       record {
-        places = subst (λ (st : Stack). AreAt (label_at world) (event_at world) no_froms st []) (sym (ap (outer_of world.scopes) no_scope)) tt;
+        places = subst (λ (st : Stack). AreAt (label_at world) (event_at world) none_cancelled_from st []) (sym (ap (outer_of world.scopes) no_scope)) tt;
         numbered = λ id i. absurd (let h : ⊥ = subst (λ (bs : List Block). HasBlock id bs) blocks i in h);
         placed = subst (λ (fs : List rest.Frame). Placed fs []) (sym (frames no_numbers)) (starting, tt);
         new = subst (λ (fs : List rest.Frame). NewIn fs []) (sym (frames no_numbers)) (new_job job names);
@@ -101,7 +101,7 @@ module _ (job : Job) (root : Task) (home : root.home ≡ None) (own : root.own.i
   pub root_sleeps : (world now : World) (after : Task) (stop : Stop) → StartsInNurseries job → GivesNamesOnce job →
       TurnsAs (state_of root world) (state_of after now) Begin stop → (due : ℕ) → stop ≡ Sleep due → (part : Part) → WakesFrom after.task_state part now.book Due
   root_sleeps world now after stop starting names turn due is part =
-      by_took _ (turn no_froms no_numbers [] 0 rest.to_begin
+      by_took _ (turn none_cancelled_from no_numbers [] 0 rest.to_begin
       (subst (λ (h : TaskState). IsTaskState no_numbers world.book h rest.to_begin) (sym task_state) tt) (root_stands world starting names)).took
     where
       by_task_state : (numbers : Numbers) (o : Option rest.Stopped) (h : TaskState) → StopsAs world.clock numbers now.book root.part (Sleep due) h o →
@@ -115,7 +115,7 @@ module _ (job : Job) (root : Task) (home : root.home ≡ None) (own : root.own.i
       by_task_state numbers (Some s) (Awaits id since) says = absurd says.1
       by_task_state numbers (Some s) Over says = absurd says.1
 
-      by_took : (o : Move) → TookTo (woken_at Begin (state_of root world)) (state_of after now) stop no_froms no_numbers o → WakesFrom after.task_state part now.book Due
+      by_took : (o : Move) → TookTo (woken_at Begin (state_of root world)) (state_of after now) stop none_cancelled_from no_numbers o → WakesFrom after.task_state part now.book Due
       by_took o took =
           by_task_state took.numbers_after o.stopped after.task_state
           (subst (λ (s : Stop). StopsAs world.clock took.numbers_after now.book root.part s after.task_state o.stopped) is took.moves.1)

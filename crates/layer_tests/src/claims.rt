@@ -1,7 +1,7 @@
 //! `workers`: each number of a batch is drawn once, by one thread or by two.
 
 ghost use Rattle.std.specs.Prelude.{◌≡◌, false, All};
-ghost use Rattle.workers.specs.Claims.{IsPassOf, was_told};
+ghost use Rattle.workers.specs.Claims.{IsPassOf, is_spent};
 
 use std::alloc::Global;
 use std::test::Fail;
@@ -56,14 +56,14 @@ struct Worker {
 
 // Lets each of two threads draw a number with its worker's ticket.
 fn claim_in_two_threads<R: Threads + Sync>(rt: &R, claims: &Claims, workers: &mut [Worker])
-    requires { All (λ worker. IsPassOf claims.now worker.pass × (was_told worker.pass ≡ false)) workers.old }
+    requires { All (λ worker. IsPassOf claims.now worker.pass × (is_spent worker.pass ≡ false)) workers.old }
 {
     thread::for_each_mut(
         rt,
         workers,
         2,
         &|_: usize, worker: &mut Worker|
-            requires { IsPassOf claims.now worker.old.pass × (was_told worker.old.pass ≡ false) }
+            requires { IsPassOf claims.now worker.old.pass × (is_spent worker.old.pass ≡ false) }
         { worker.number = claims.claim(&mut worker.pass) },
     );
 }

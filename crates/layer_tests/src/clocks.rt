@@ -1,7 +1,6 @@
 //! `clock`: timers and cancellations move the clock, and ids of tasks keep their keys.
 //!
-//! What the calls require of ticks is tested when they run, so that a proof carries only the tasks'
-//! timers.
+//! What the calls require of ticks is tested when they run, so that a proof carries only the tasks' timers.
 
 ghost use Rattle.std.specs.Prelude.{◌≡◌, ℕ, None, Some, OnOk, IfOk};
 ghost use Rattle.clock.specs.Clock.{due_of, HasTimer, Updates};

@@ -23,7 +23,7 @@ fn three_sleepers(alloc: Global, outer: ScopeId, inner: ScopeId) -> Result<Sleep
 }
 
 // The first effective deadline (`sight`), which sleeper sees a cancellation by 3, which one by 4 when the second sleeper is
-// gone, and the first effective deadline then.
+// removed, and the first effective deadline then.
 fn take_seen_in_order(
     sleepers: &mut Sleepers,
 ) -> (Option<u64>, Option<TaskId>, Option<TaskId>, Option<u64>) {

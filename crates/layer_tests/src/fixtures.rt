@@ -66,8 +66,7 @@ pub(crate) fn same(found: &[u8], expected: &[u8]) -> Result<(), Fail> {
     }
 }
 
-// Appends bytes. Its contract says nothing of the text then, so that a proof carries no facts
-// about it.
+// Appends bytes. Its contract says nothing of the text then, so that a proof carries no facts about it.
 pub(crate) fn push_bytes(text: &mut Vec<u8>, bytes: &[u8]) -> Result<(), AllocError> {
     text.extend_from_slice(bytes)
 }

@@ -131,7 +131,7 @@ fn text_with_copy(alloc: Global, exc: &Exc) -> Result<Vec<u8>, AllocError> {
     text_of_two(alloc, exc, &copy)
 }
 
-// The same for a group.
+// The texts of a group and of its copy.
 fn text_of_copies(alloc: Global) -> Result<Vec<u8>, Fail> {
     let exc = group_with_cancelled(alloc)?;
     let text = text_with_copy(alloc, &exc)?;
@@ -184,7 +184,7 @@ fn text_with_others(alloc: Global, first: &Label) -> Result<Vec<u8>, Fail> {
     Ok(text)
 }
 
-// The same for a label with an index.
+// The texts of a label with an index, of its copy, and of one of another name.
 fn text_of_labels(alloc: Global) -> Result<Vec<u8>, Fail> {
     let first = label_with_index(alloc, b"p", 1)?;
     text_with_others(alloc, &first)

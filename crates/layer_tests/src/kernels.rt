@@ -1,5 +1,4 @@
-//! `input_lines`: the lines, the count or the missing line that each kernel answers on a whole
-//! buffer.
+//! `input_lines`: the lines, the count or the missing line that each kernel answers on a whole buffer.
 
 use crate::fixtures::{push_bytes, push_number, wrong};
 use input_lines::{Answer, Kernel, Part, answer};

@@ -68,7 +68,7 @@ fn exc_of_nursery(
     Ok(book.close(id)?)
 }
 
-// The same for two exceptions.
+// What a nursery with two children raises if each of them ends with an exception, the second child first.
 fn exc_of_two_children(alloc: Global) -> Result<Option<Exc>, Fail> {
     let scope = scope(alloc)?;
     let first = raised_exc(alloc, b"A", b"a")?;
@@ -103,7 +103,8 @@ fn raises_nothing(alloc: Global, scope: ScopeId, label: Label) -> Result<bool, F
     Ok(book.close(id)?.is_none())
 }
 
-// The same for a nursery of some scope and label.
+// Whether a nursery of some scope and label, whose body ended without an exception, and which has no child, is settled and raises
+// nothing.
 fn some_raises_nothing(alloc: Global) -> Result<bool, Fail> {
     let scope = scope(alloc)?;
     raises_nothing(alloc, scope, label(alloc, b"n")?)

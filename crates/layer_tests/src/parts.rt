@@ -16,7 +16,7 @@ fn place(part: Part<'_>) -> Place {
     (part.at(), part.text().len())
 }
 
-// The same, and how many bytes its buffer has.
+// Where a part starts, how many bytes it has, and how many its buffer has.
 fn place_and_buffer(part: Part<'_>) -> (usize, usize, usize) {
     (part.at(), part.text().len(), part.buffer().len())
 }

@@ -27,7 +27,7 @@ fn firsts(queue: &mut TickQueue) -> Result<[Option<(u64, usize)>; 4], AllocError
     Ok([first, second, third, queue.first()])
 }
 
-// The same for three keys.
+// The first key of a new queue of three keys with its tick, at the start and after each change.
 fn firsts_of_three(alloc: Global) -> Result<[Option<(u64, usize)>; 4], AllocError> {
     let mut queue = three_keys(alloc)?;
     firsts(&mut queue)

@@ -1,5 +1,4 @@
-//! `job_syntax`: a job is followed to its end, and tokens leave the grammar where no job continues with
-//! them.
+//! `job_syntax`: a job is followed to its end, and tokens leave the grammar where no job continues with them.
 
 use crate::fixtures::wrong;
 use job_syntax::{check_grammar, depth_fault, job_at, number_fault};

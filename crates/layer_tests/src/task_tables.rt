@@ -1,5 +1,4 @@
-//! `task_table`: tasks come and go under their ids, and the rows of a run that is over are listed depth
-//! first.
+//! `task_table`: tasks come and go under their ids, and the rows of a run that is over are listed depth first.
 
 ghost use Rattle.std.specs.Prelude.{◌≡◌, ◌≢◌, ◌<◌, ◌++◌, [], ◌∷◌, All, IsSome, IfOk, OnOk};
 ghost use Rattle.task_table.specs.TaskTable.{task_count, parent_of, running_at, IsTaskTable};
@@ -34,7 +33,7 @@ fn ended_row<'a>(
         tick: start + 10,
         exc: None,
         entries: Vec::new(alloc),
-        froms: Vec::new(alloc),
+        cancelled_from: Vec::new(alloc),
     };
     Ok(TaskRow {
         parent: 0,
@@ -78,8 +77,8 @@ fn four_rows<'a>(alloc: Global, name: Name) -> Result<Vec<TaskRow<'a>>, AllocErr
 // The records of four rows.
 fn records_of_four(alloc: Global) -> Result<(Vec<Record<'static>>, Vec<ScopeFrom>), Fail> {
     let rows = four_rows(alloc, word(b"main")?)?;
-    let told = records_of(alloc, rows)?;
-    Ok(told)
+    let both = records_of(alloc, rows)?;
+    Ok(both)
 }
 
 // When the tasks of records were started, each tick with a space after it.
@@ -92,11 +91,11 @@ fn starts(alloc: Global, records: &[Record<'_>]) -> Result<Vec<u8>, AllocError> 
     Ok(text)
 }
 
-// When the tasks of those records were started, and whether no scope is among their froms.
+// When the tasks of those records were started, and whether no scope is among their moments of cancellation.
 fn starts_of_four(alloc: Global) -> Result<(Vec<u8>, bool), Fail> {
-    let (records, froms) = records_of_four(alloc)?;
+    let (records, cancelled_from) = records_of_four(alloc)?;
     let text = starts(alloc, records.as_slice())?;
-    Ok((text, froms.is_empty()))
+    Ok((text, cancelled_from.is_empty()))
 }
 
 #[test]
@@ -175,7 +174,7 @@ fn over_by_turns(
     Ok((before, task_table.is_over()))
 }
 
-// The same for a job, and its number of rows then.
+// Whether a run of a job is over after the child of its root has ended and after its root has, and its number of rows then.
 fn ends(alloc: Global, job: &Job) -> Result<(bool, bool, usize), Fail> {
     let begun = table_of_root(alloc, job)?;
     let (mut task_table, id) = begun;

@@ -86,8 +86,8 @@ fn push_entries(text: &mut Vec<u8>, entries: &[Entry<'_>]) -> Result<(), AllocEr
 }
 
 // Appends the tick from which each scope was cancelled, as `a=1;b=-;`.
-fn push_froms(text: &mut Vec<u8>, froms: &[ScopeFrom]) -> Result<(), AllocError> {
-    for from in froms {
+fn push_cancelled_from(text: &mut Vec<u8>, cancelled_from: &[ScopeFrom]) -> Result<(), AllocError> {
+    for from in cancelled_from {
         push_label(text, &from.label)?;
         push_bytes(text, b"=")?;
         match from.seen {
@@ -116,7 +116,7 @@ fn push_stop(text: &mut Vec<u8>, stop: &Stop<'_>) -> Result<(), AllocError> {
 fn push_turned(text: &mut Vec<u8>, turned: &Turned<'_>) -> Result<(), AllocError> {
     push_entries(text, turned.task.entries())?;
     push_bytes(text, b"|")?;
-    push_froms(text, turned.task.froms())?;
+    push_cancelled_from(text, turned.task.cancelled_from())?;
     push_bytes(text, b"|")?;
     push_stop(text, &turned.stop)
 }
@@ -204,7 +204,7 @@ fn is_bare(task: &Task<'_>, name: &[u8]) -> bool {
         && task.scope().is_none()
         && task.home().is_none()
         && task.entries().is_empty()
-        && task.froms().is_empty()
+        && task.cancelled_from().is_empty()
 }
 
 // Whether the root of a job has nothing but a label of that name.

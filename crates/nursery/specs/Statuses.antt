@@ -37,7 +37,7 @@ abbrev pub stop_of : ServeFault → Stop
 stop_of (faults.Send sent) = Write
 stop_of faults.NoMemory = NoMemory
 
--- the same if tests stopped
+-- why there is no verdict if tests stopped
 abbrev pub test_stop_of : TestStop → Stop
 test_stop_of tests.Write = Write
 test_stop_of tests.NoMemory = NoMemory
@@ -46,7 +46,7 @@ test_stop_of tests.NoMemory = NoMemory
 abbrev pub Tells : {V : Type 0} → (V → ℕ) → (V → List ℕ → Type 0) → ℕ → Type 0
 Tells {V} status_of HasBytes status = (verdict : V) × (bytes : List ℕ) × HasBytes verdict bytes × (status ≡ status_of verdict)
 
--- the same of the job text and the input that were read
+-- the status is that of a verdict on a job text and an input that were read
 abbrev pub TellsRead : {V : Type 0} → (V → ℕ) → ((text input : List ℕ) → V → List ℕ → Type 0) → ℕ → Type 0
 TellsRead status_of HasBytes status = (text : List ℕ) × (input : List ℕ) × Tells status_of (HasBytes text input) status
 

@@ -200,9 +200,9 @@ pub(crate) fn conclude_run<R: Eprint + Threads + Sync + AllocGlobal>(
     verdict.status()
 }
 
-// Prints to standard error which tasks have not ended at the limit, and what each is doing: a line for each of the first `MAX_RUNNING`
-// tasks, and then how many there are beyond them. The limit's line is on standard output already, so if memory or a write fails here
-// nothing more is printed.
+// Prints to standard error which tasks have not ended at the limit, and what each is doing: a line for each of the first
+// `MAX_RUNNING` tasks, and then how many there are beyond them. The limit's line is on standard output already, so if memory or a
+// write fails here nothing more is printed.
 pub(crate) fn tell_running<R: Eprint + Threads + Sync + AllocGlobal>(
     rt: &R,
     question: &Question<'_>,

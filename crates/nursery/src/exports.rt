@@ -8,8 +8,7 @@ use std::io;
 use std::rt::Files;
 use trio_text::program;
 
-// Writes a job file as a Python program on Trio, or the line of its refusal, and returns the
-// status.
+// Writes a job file as a Python program on Trio, or the line of its refusal, and returns the status.
 pub(crate) fn trio_job<R: Files + Input + Print + Eprint + AllocGlobal>(
     rt: &R,
     job: &str,

@@ -40,8 +40,8 @@ pub(crate) fn format_job_file<R: Files + Input + Print + Eprint + AllocGlobal>(
     }
 }
 
-// Looks at a job file before it is read. What is not a regular file is refused here, since a FIFO would be waited for until it has a
-// writer. Another reason why the file may not be replaced counts only if its text is not formatted.
+// Looks at a job file before it is read. What is not a regular file is refused here, since a FIFO would be waited for until it
+// has a writer. Another reason why the file may not be replaced counts only if its text is not formatted.
 fn target_of<R: Files + AllocGlobal>(
     rt: &R,
     job: &str,
@@ -87,8 +87,8 @@ fn compare<R: Eprint + AllocGlobal>(rt: &R, job: &str, text: &[u8]) -> Result<u8
     Ok(check.status())
 }
 
-// Replaces the job text of a job file by its formatted text if they differ, and returns the status. A text that is refused, or whose
-// formatted text is too long, stays as it is. The target is the file as it was before it was read.
+// Replaces the job text of a job file by its formatted text if they differ, and returns the status. A text that is refused, or
+// whose formatted text is too long, stays as it is. The target is the file as it was before it was read.
 fn write_formatted<R: Files + Eprint + AllocGlobal>(
     rt: &R,
     job: &str,

@@ -1,9 +1,9 @@
 //! The program `nursery`: `run` runs a job file over an input file, `explain` writes the story of such a run, `chart` draws it,
 //! `faults` writes the outcome of the job if any one of its waiting steps fails or hangs, `races` the places where a hair changes
 //! its outcome, `sweep` the outcome for each value of one of its numbers, `fmt` formats a job text, `check` writes a job's
-//! canonical text, `upgrade` that of the same job in a newer format. Without arguments it serves standard input: a job text, a line
-//! that is exactly `%input`, and the input. Its output goes to standard output, and what went wrong to standard error. The work
-//! is in `job_answers`, `commands`.
+//! canonical text, `upgrade` that of the same job in a newer format. Without arguments it serves standard input: a job text, a
+//! line that is exactly `%input`, and the input. Its output goes to standard output, and what went wrong to standard error. The
+//! work is in `job_answers`, `commands`.
 #![tactic(auto)]
 
 mod answers;

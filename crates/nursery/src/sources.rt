@@ -72,8 +72,8 @@ pub(crate) struct JobFile {
     pub held: Option<Vec<u8>>,
 }
 
-// Returns the job file of that name, or that on standard input if the name is `-`. An input that it holds has at most `MAX_INPUT` bytes;
-// a longer one is refused. More bytes than a feed may have are cut off after the first of them.
+// Returns the job file of that name, or that on standard input if the name is `-`. An input that it holds has at most `MAX_INPUT`
+// bytes; a longer one is refused. More bytes than a feed may have are cut off after the first of them.
 pub(crate) fn read_job_file<R: Files + Input + AllocGlobal>(
     rt: &R,
     name: &str,
@@ -147,8 +147,8 @@ pub(crate) fn with_held(text: Vec<u8>, file: &JobFile) -> Result<Vec<u8>, AllocE
     Ok(bytes)
 }
 
-// Writes the line `%input` and the input that a job file holds, after a text of its job was written. Nothing is written if the status is
-// not 0, or if the file holds no input. Returns the status.
+// Writes the line `%input` and the input that a job file holds, after a text of its job was written. Nothing is written if the
+// status is not 0, or if the file holds no input. Returns the status.
 pub(crate) fn print_held<R: Print>(rt: &R, status: u8, file: &JobFile) -> Result<u8, Stop> {
     if status != 0 {
         return Ok(status);
@@ -185,9 +185,9 @@ impl Given {
     }
 }
 
-// Reads a job file and its input: the file that is named, or what the job file holds, or no bytes. That a file is named for a job file
-// which holds its input is refused. Both are read before anything is reported: first a too long input, then a job file that cannot be
-// read, then such an input.
+// Reads a job file and its input: the file that is named, or what the job file holds, or no bytes. That a file is named for a job
+// file which holds its input is refused. Both are read before anything is reported: first a too long input, then a job file that
+// cannot be read, then such an input.
 pub(crate) fn read_both<R: Files + Input + AllocGlobal>(
     rt: &R,
     job: &str,

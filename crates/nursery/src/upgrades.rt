@@ -21,8 +21,8 @@ use std::io;
 use std::rt::Files;
 use std::thread::Threads;
 
-// Writes the formatted or the canonical text of the same job in a newer format, and returns the status. Standard error says whether its
-// report changes. The input that a feed holds follows as it is.
+// Writes the formatted or the canonical text of the same job in a newer format, and returns the status. Standard error says
+// whether its report changes. The input that a feed holds follows as it is.
 pub(crate) fn upgrade_job<R: Files + Input + Print + Eprint + Threads + Sync + AllocGlobal>(
     rt: &R,
     job: &str,
@@ -58,8 +58,8 @@ fn print_upgraded<R: Print + Eprint + AllocGlobal>(
     }
 }
 
-// Returns a text of the same job in a newer format: the text itself, with its comments, if it is in that format or in a newer one, and
-// otherwise the canonical text.
+// Returns a text of the same job in a newer format: the text itself, with its comments, if it is in that format or in a newer
+// one, and otherwise the canonical text.
 fn upgraded_text(alloc: Global, text: &[u8], format: Format) -> Result<Vec<u8>, JobFault>
     ensures { MatchResult result (λ upgraded. IsUpgrade format text.now upgraded.items) (IsFair text.now) }
 {

@@ -46,13 +46,13 @@ running_more (Running ∷ es) = omega (arith, running_more es)
 running_more (Ended exc ∷ es) = running_more es
 
 -- one that ran ended
-pub running_fewer : (es : List MemberEnd) (place : ℕ) (exc : Option held.Exc) → slice_get (map end_of es) place ≡ Some None →
-    running_in (slice_set es place (Ended exc)) + 1 ≡ running_in es
-running_fewer [] place exc at = absurd (cc)
+pub running_fewer : (es : List MemberEnd) (index : ℕ) (exc : Option held.Exc) → slice_get (map end_of es) index ≡ Some None →
+    running_in (slice_set es index (Ended exc)) + 1 ≡ running_in es
+running_fewer [] index exc at = absurd (cc)
 running_fewer (Running ∷ es) zero exc at = omega arith
 running_fewer (Ended other ∷ es) zero exc at = absurd (cc)
-running_fewer (Running ∷ es) (suc place) exc at = omega (arith, running_fewer es place exc at)
-running_fewer (Ended other ∷ es) (suc place) exc at = running_fewer es place exc at
+running_fewer (Running ∷ es) (suc index) exc at = omega (arith, running_fewer es index exc at)
+running_fewer (Ended other ∷ es) (suc index) exc at = running_fewer es index exc at
 
 -- none runs where all ended
 pub none_runs : (es : List MemberEnd) → nat_eq (running_in es) 0 ≡ list_all is_some (map end_of es)

@@ -25,9 +25,9 @@ new_nursery scope waiter label = record { scope = scope; waiter = waiter; label 
 abbrev pub with_start : Nursery → Nursery
 with_start n = record n { children = n.children ++ None ∷ [] }
 
--- the child at a place ended in this moment
+-- the child at an index ended in this moment
 abbrev pub with_child : ℕ → Option Exc → ℕ → Nursery → Nursery
-with_child place exc moment n = record n { children = slice_set n.children place (Some exc); last = moment }
+with_child index exc moment n = record n { children = slice_set n.children index (Some exc); last = moment }
 
 -- the body ended in this moment
 abbrev pub with_body : Option Exc → ℕ → Nursery → Nursery

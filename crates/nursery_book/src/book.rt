@@ -4,7 +4,7 @@ ghost use Rattle.exceptions.specs.Held.{exc_of};
 
 use crate::children::Children;
 use crate::ending::{MemberEnd, member_excs};
-use crate::nursery_id::{NurseryId, Place};
+use crate::nursery_id::{ChildIndex, NurseryId};
 use cancel_scopes::ScopeId;
 use clock::TaskId;
 use exceptions::{Exc, Label, Whose, group};
@@ -69,26 +69,26 @@ impl NurseryBook {
         Ok(NurseryId { key })
     }
 
-    /// Starts a child and returns its place, which is the number of children started before it. The caller must ensure that
+    /// Starts a child and returns its index, which is the number of children started before it. The caller must ensure that
     /// the nursery is open and its body runs. Returns `AllocError` if memory runs out; every nursery then stays as it is.
-    pub fn start(&mut self, id: NurseryId) -> Result<Place, AllocError>
+    pub fn start(&mut self, id: NurseryId) -> Result<ChildIndex, AllocError>
         requires { HasNursery self.old id (λ n. n.body ≡ None) }
-        ensures place { IfOk result (λ place. HasNursery self.old id (λ n. place ≡ length n.children)) }
+        ensures index { IfOk result (λ index. HasNursery self.old id (λ n. index ≡ length n.children)) }
         ensures started { OnOk result (Changes self.old self.new id with_start) }
         ensures err { OnErr result (SameNurseries self.old self.new) }
     {
-        let place = self.nurseries[id.key].children.start()?;
-        Ok(place)
+        let index = self.nurseries[id.key].children.start()?;
+        Ok(index)
     }
 
-    /// Records that the child at `place` ended in `moment` with the exception `exc`, or without one if `exc` is `None`. The
+    /// Records that the child at `index` ended in `moment` with the exception `exc`, or without one if `exc` is `None`. The
     /// caller must ensure that the nursery is open, and that the child was started and has not ended. Does not allocate.
-    pub fn child_ended(&mut self, id: NurseryId, place: Place, exc: Option<Exc>, moment: u64)
-        requires { HasNursery self.old id (λ n. slice_get n.children place ≡ Some None) }
-        ensures { Changes self.old self.new id (with_child place (option_map exc_of exc) moment) }
+    pub fn child_ended(&mut self, id: NurseryId, index: ChildIndex, exc: Option<Exc>, moment: u64)
+        requires { HasNursery self.old id (λ n. slice_get n.children index ≡ Some None) }
+        ensures { Changes self.old self.new id (with_child index (option_map exc_of exc) moment) }
     {
         let members = &mut self.nurseries[id.key];
-        members.children.end(place, exc);
+        members.children.end(index, exc);
         members.last = moment;
     }
 

@@ -5,7 +5,7 @@ ghost use Rattle.exceptions.specs.Held.{exc_of};
 ghost use Rattle.nursery_book.specs.Ends.{end_of};
 
 use crate::ending::MemberEnd;
-use crate::nursery_id::Place;
+use crate::nursery_id::ChildIndex;
 use exceptions::Exc;
 use std::alloc::{AllocError, Global};
 use std::marker::Model;
@@ -51,24 +51,24 @@ impl Children {
         Vec::with_capacity(alloc, self.ends.len() + 1)
     }
 
-    // Adds a running child and returns its place. If memory runs out, nothing changes.
-    pub(crate) fn start(&mut self) -> Result<Place, AllocError>
+    // Adds a running child and returns its index. If memory runs out, nothing changes.
+    pub(crate) fn start(&mut self) -> Result<ChildIndex, AllocError>
         ensures started { OnOk result (self.new ≡ self.old ++ None ∷ []) }
-        ensures place { IfOk result (λ place. place ≡ length self.old) }
+        ensures index { IfOk result (λ index. index ≡ length self.old) }
         ensures err { OnErr result (self.new ≡ self.old) }
     {
-        let place = self.ends.len();
+        let index = self.ends.len();
         self.ends.push(MemberEnd::Running)?;
         self.running += 1;
-        Ok(place)
+        Ok(index)
     }
 
-    // Records that the child at `place` ended, with this exception or without one.
-    pub(crate) fn end(&mut self, place: Place, exc: Option<Exc>)
-        requires { slice_get self.old place ≡ Some None }
-        ensures { self.new ≡ slice_set self.old place (Some (option_map exc_of exc)) }
+    // Records that the child at `index` ended, with this exception or without one.
+    pub(crate) fn end(&mut self, index: ChildIndex, exc: Option<Exc>)
+        requires { slice_get self.old index ≡ Some None }
+        ensures { self.new ≡ slice_set self.old index (Some (option_map exc_of exc)) }
     {
-        self.ends[place] = MemberEnd::Ended(exc);
+        self.ends[index] = MemberEnd::Ended(exc);
         self.running -= 1;
     }
 

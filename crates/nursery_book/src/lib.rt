@@ -15,4 +15,4 @@ mod ending;
 mod nursery_id;
 
 pub use book::NurseryBook;
-pub use nursery_id::{NurseryId, Place};
+pub use nursery_id::{ChildIndex, NurseryId};

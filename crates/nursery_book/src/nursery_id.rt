@@ -1,7 +1,7 @@
 use std::marker::Model;
 
-/// The place of a child in its nursery: the number of children that were started before it.
-pub type Place = usize;
+/// The index of a child in its nursery: the number of children that were started before it.
+pub type ChildIndex = usize;
 
 /// The id of an open nursery of a book, as `NurseryBook::open` returns it. A contract sees an id as a key. Once the nursery
 /// is closed, the book may use the id again.

@@ -1,10 +1,10 @@
 //! `chart`: bars whose scope is cancelled by a limit or after it, and the ticks at which something happens.
 
 use crate::fixtures::wrong;
-use crate::story_events::{froms_of, push_entry, push_start, walk};
+use crate::story_events::{cancelled_from_of, push_entry, push_start, walk};
 use chart::{StoryIndex, all_ticks};
 use job_meaning::{Clock, ROUNDS_IN_A_TICK};
-use job_story::{Event, Froms};
+use job_story::{CancelledFrom, Event};
 use std::alloc::Global;
 use std::test::Fail;
 
@@ -23,23 +23,24 @@ fn start_and_entry(alloc: Global, started: u64, entered: u64) -> Result<Vec<Even
 fn cancelled_of_last(
     alloc: Global,
     clock: Clock,
-    froms: &Froms,
+    cancelled_from: &CancelledFrom,
     walked: &[&Event],
 ) -> Result<Option<u64>, Fail> {
     let index = StoryIndex::of(alloc, walked)?;
-    let bars = index.bars(alloc, clock, froms, Some(LIMIT))?;
+    let bars = index.bars(alloc, clock, cancelled_from, Some(LIMIT))?;
     match bars.last() {
         Some(bar) => Ok(bar.cancelled),
         None => Err("no bar")?,
     }
 }
 
-// The same for a scope that is entered in the first moment of the story, and not left by the limit, if the table has this moment.
-fn cancelled_from(alloc: Global, clock: Clock, from: u64) -> Result<Option<u64>, Fail> {
+// From which moment the bar of a scope says that it is cancelled, if the scope is entered in the first moment of the story and
+// not left by the limit, and the table has this moment.
+fn cancelled_of_open(alloc: Global, clock: Clock, from: u64) -> Result<Option<u64>, Fail> {
     let events = start_and_entry(alloc, 0, 0)?;
     let walked = walk(alloc, events.as_slice())?;
-    let froms = froms_of(alloc, from)?;
-    cancelled_of_last(alloc, clock, &froms, walked.as_slice())
+    let cancelled_from = cancelled_from_of(alloc, from)?;
+    cancelled_of_last(alloc, clock, &cancelled_from, walked.as_slice())
 }
 
 // The first round of tick 2.
@@ -60,7 +61,7 @@ const CANCELLATIONS: &[(Clock, u64, Option<u64>)] = &[
 fn cancellations_are_shown(alloc: Global) -> Result<(), Fail> {
     for i in 0..CANCELLATIONS.len() {
         let (clock, from, expected) = CANCELLATIONS[i];
-        if cancelled_from(alloc, clock, from)? != expected {
+        if cancelled_of_open(alloc, clock, from)? != expected {
             return Err(wrong(i));
         }
     }

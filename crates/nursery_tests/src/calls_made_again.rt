@@ -13,7 +13,7 @@ use cancel_scopes::{ScopeId, ScopeTree};
 use clock::TaskId;
 use exceptions::{Exc, Label};
 use job_reader::Name;
-use nursery_book::{NurseryBook, NurseryId, Place};
+use nursery_book::{ChildIndex, NurseryBook, NurseryId};
 use std::alloc::{AllocError, Global};
 use std::test::Fail;
 use task_table::{Call, Forward, Live, ReadyBatch};
@@ -131,12 +131,12 @@ fn open_nursery(
 }
 
 // Starts a child in a nursery, again if memory runs out.
-fn start_again(book: &mut NurseryBook, id: NurseryId) -> Result<Place, AllocError>
+fn start_again(book: &mut NurseryBook, id: NurseryId) -> Result<ChildIndex, AllocError>
     requires { HasNursery book.old id (λ n. n.body ≡ None) }
     ensures { OnOk result (Changes book.old book.new id with_start) }
 {
-    if let Ok(place) = book.start(id) {
-        return Ok(place);
+    if let Ok(index) = book.start(id) {
+        return Ok(index);
     }
     book.start(id)
 }

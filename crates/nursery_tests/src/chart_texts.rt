@@ -2,10 +2,12 @@
 //! expected charts are drawn by hand.
 
 use crate::fixtures::same;
-use crate::story_events::{froms_of, label, push_entry, push_event, push_start, walk, word};
+use crate::story_events::{
+    cancelled_from_of, label, push_entry, push_event, push_start, walk, word,
+};
 use chart::{StoryIndex, chart_text};
 use job_meaning::{Clock, ROUNDS_IN_A_TICK};
-use job_story::{During, Event, Froms, Happening, Kind, What};
+use job_story::{CancelledFrom, During, Event, Happening, Kind, What};
 use std::alloc::Global;
 use std::test::Fail;
 
@@ -57,10 +59,14 @@ fn story_by_rounds(alloc: Global) -> Result<Vec<Event>, Fail> {
 }
 
 // The chart of these events by rounds.
-fn chart_with(alloc: Global, froms: &Froms, walked: &[&Event]) -> Result<Vec<u8>, Fail> {
+fn chart_with(
+    alloc: Global,
+    cancelled_from: &CancelledFrom,
+    walked: &[&Event],
+) -> Result<Vec<u8>, Fail> {
     let clock = Clock::ByRounds;
     let index = StoryIndex::of(alloc, walked)?;
-    let bars = index.bars(alloc, clock, froms, None)?;
+    let bars = index.bars(alloc, clock, cancelled_from, None)?;
     let text = chart_text(alloc, clock, 80, None, walked, bars.as_slice())?;
     Ok(text)
 }
@@ -69,8 +75,8 @@ fn chart_with(alloc: Global, froms: &Froms, walked: &[&Event]) -> Result<Vec<u8>
 fn chart_by_rounds(alloc: Global) -> Result<Vec<u8>, Fail> {
     let events = story_by_rounds(alloc)?;
     let walked = walk(alloc, events.as_slice())?;
-    let froms = froms_of(alloc, TWO + 1)?;
-    chart_with(alloc, &froms, walked.as_slice())
+    let cancelled_from = cancelled_from_of(alloc, TWO + 1)?;
+    chart_with(alloc, &cancelled_from, walked.as_slice())
 }
 
 const CHART: &[u8] = b"           0  2
@@ -103,8 +109,8 @@ fn story_of_a_set(alloc: Global) -> Result<Vec<Event>, Fail> {
 // The chart of a story in which nothing is cancelled before tick 9.
 fn chart_of(alloc: Global, events: &[Event]) -> Result<Vec<u8>, Fail> {
     let walked = walk(alloc, events)?;
-    let froms = froms_of(alloc, 9 * ROUNDS_IN_A_TICK)?;
-    chart_with(alloc, &froms, walked.as_slice())
+    let cancelled_from = cancelled_from_of(alloc, 9 * ROUNDS_IN_A_TICK)?;
+    chart_with(alloc, &cancelled_from, walked.as_slice())
 }
 
 const SET: &[u8] = b"   0  2 3

@@ -319,9 +319,9 @@ fn has_part(line: &str, text: &str, part: &str) -> Result<(), Fail> {
 #[test]
 fn a_refusal_says_what_is_wrong(rt: HostRuntime) -> Result<(), Fail> {
     for i in 0..REFUSED.len() {
-        let (line, told) = REFUSED[i];
+        let (line, expected) = REFUSED[i];
         let text = refusal_of(rt.alloc(), line)?;
-        has_part(line, text.as_str(), told)?;
+        has_part(line, text.as_str(), expected)?;
         if !text.as_str().ends_with("\n") {
             Err(line)?;
         }
@@ -332,9 +332,9 @@ fn a_refusal_says_what_is_wrong(rt: HostRuntime) -> Result<(), Fail> {
 #[test]
 fn help_shows_a_whole_example(rt: HostRuntime) -> Result<(), Fail> {
     for i in 0..HELP.len() {
-        let (line, told) = HELP[i];
+        let (line, expected) = HELP[i];
         let text = help_of(rt.alloc(), line)?;
-        has_part(line, text.as_str(), told)?;
+        has_part(line, text.as_str(), expected)?;
     }
     Ok(())
 }

@@ -1,5 +1,5 @@
-//! Jobs of format 3 with events, and with tasks that a loop starts, with their whole reports. The reports were worked out by hand from
-//! docs/RULES.md, never copied from a run. Where Trio has one outcome, the report is that outcome.
+//! Jobs of format 3 with events, and with tasks that a loop starts, with their whole reports. The reports were worked out by hand
+//! from docs/RULES.md, never copied from a run. Where Trio has one outcome, the report is that outcome.
 
 use crate::fixtures::{FORMAT_3, Row, assert_rows};
 use std::test::Fail;

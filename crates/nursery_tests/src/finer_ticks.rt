@@ -3,7 +3,7 @@
 
 use crate::fixtures::{same, wrong};
 use job_edits::{
-    Change, CopiedStart, Finer, Site, changed_text, copied_starts, finer_changes, hair_scope,
+    Change, CopiedStart, FinerTicks, Site, changed_text, copied_starts, finer_changes, hair_scope,
     shifted_changes, shifts, sites,
 };
 use job_meaning::Clock;
@@ -26,23 +26,23 @@ fn sites_of(alloc: Global, text: &[u8]) -> Result<Vec<Site>, AllocError> {
     sites(alloc, tokens.as_slice())
 }
 
-const THOUSAND: Option<Finer> = Some(Finer {
+const THOUSAND: Option<FinerTicks> = Some(FinerTicks {
     factor: 1_000,
     hair: 100,
 });
 
-const HUNDRED: Option<Finer> = Some(Finer {
+const HUNDRED: Option<FinerTicks> = Some(FinerTicks {
     factor: 100,
     hair: 10,
 });
 
-const TEN: Option<Finer> = Some(Finer {
+const TEN: Option<FinerTicks> = Some(FinerTicks {
     factor: 10,
     hair: 1,
 });
 
 // A text, a limit, and how much finer its ticks are where time is counted by ticks and by rounds.
-const FACTORS: &[(&[u8], u64, Option<Finer>, Option<Finer>)] = &[
+const FACTORS: &[(&[u8], u64, Option<FinerTicks>, Option<FinerTicks>)] = &[
     (b"trio-job 3\njob m { sleep 5; }", 100, THOUSAND, TEN),
     (b"trio-job 3\njob m { checkpoint; }", 100, THOUSAND, TEN),
     (b"trio-job 3\njob m { sleep 1000000; }", 100, HUNDRED, TEN),
@@ -62,10 +62,10 @@ fn factors_are_right(alloc: Global) -> Result<(), Fail> {
     for i in 0..FACTORS.len() {
         let (text, limit, by_ticks, by_rounds) = FACTORS[i];
         let sites = sites_of(alloc, text)?;
-        if Finer::of(Clock::ByTicks, sites.as_slice(), limit) != by_ticks {
+        if FinerTicks::of(Clock::ByTicks, sites.as_slice(), limit) != by_ticks {
             return Err(wrong(i));
         }
-        if Finer::of(Clock::ByRounds, sites.as_slice(), limit) != by_rounds {
+        if FinerTicks::of(Clock::ByRounds, sites.as_slice(), limit) != by_rounds {
             return Err(wrong(i));
         }
     }
@@ -78,9 +78,9 @@ fn by_rounds_ticks_are_ten_times_finer(rt: HostRuntime) -> Result<(), Fail> {
 }
 
 // How much finer the ticks of these sites are up to tick 100.
-fn finer_of(clock: Clock, sites: &[Site]) -> Result<Finer, Fail> {
-    match Finer::of(clock, sites, 100) {
-        Some(finer) => Ok(finer),
+fn finer_ticks_of(clock: Clock, sites: &[Site]) -> Result<FinerTicks, Fail> {
+    match FinerTicks::of(clock, sites, 100) {
+        Some(finer_ticks) => Ok(finer_ticks),
         None => Err("no finer ticks")?,
     }
 }
@@ -88,8 +88,8 @@ fn finer_of(clock: Clock, sites: &[Site]) -> Result<Finer, Fail> {
 // The text in finer ticks.
 fn finer_text(alloc: Global, clock: Clock, text: &[u8]) -> Result<Vec<u8>, Fail> {
     let sites = sites_of(alloc, text)?;
-    let finer = finer_of(clock, sites.as_slice())?;
-    let changes = finer_changes(alloc, clock, finer, sites.as_slice())?;
+    let finer_ticks = finer_ticks_of(clock, sites.as_slice())?;
+    let changes = finer_changes(alloc, clock, finer_ticks, sites.as_slice())?;
     let changed = changed_text(alloc, text, changes.as_slice())?;
     Ok(changed)
 }
@@ -114,16 +114,16 @@ fn push_moved(
     scope: Name,
     sites: &[Site],
 ) -> Result<(), Fail> {
-    let finer = finer_of(clock, sites)?;
+    let finer_ticks = finer_ticks_of(clock, sites)?;
     let shifts = shifts(alloc, sites)?;
     for shift in shifts.as_slice() {
-        let changes = shifted_changes(alloc, clock, finer, scope, shift, sites)?;
+        let changes = shifted_changes(alloc, clock, finer_ticks, scope, shift, sites)?;
         push_changed(alloc, texts, text, changes.as_slice())?;
     }
     Ok(())
 }
 
-// The same as one text.
+// The texts in finer ticks with one place moved by a hair, one after the other, as one text.
 fn moved_texts(alloc: Global, clock: Clock, text: &[u8]) -> Result<Vec<u8>, Fail> {
     let sites = sites_of(alloc, text)?;
     let scope = scope_of(alloc, text)?;
@@ -141,10 +141,10 @@ fn scope_of(alloc: Global, text: &[u8]) -> Result<Name, AllocError> {
 #[test]
 fn by_ticks_a_text_in_finer_ticks_is_in_format_2(rt: HostRuntime) -> Result<(), Fail> {
     let text = b"trio-job 1\njob m { checkpoint; pace 4; }\n";
-    let finer = finer_text(rt.alloc(), Clock::ByTicks, text)?;
+    let finer_ticks = finer_text(rt.alloc(), Clock::ByTicks, text)?;
     same(
         "the text in finer ticks",
-        finer.as_slice(),
+        finer_ticks.as_slice(),
         b"trio-job 2\njob m { checkpoint; repeat 1000 { pace 4; } }\n",
     )?;
     let moved = moved_texts(rt.alloc(), Clock::ByTicks, text)?;
@@ -159,10 +159,10 @@ trio-job 2\njob m { checkpoint; repeat 1000 { pace 4; } sleep 100; }\n",
 #[test]
 fn by_rounds_the_first_line_stays_as_it_is(rt: HostRuntime) -> Result<(), Fail> {
     let text = b"trio-job 3\njob m { sleep 2; checkpoint; pace 4; }\n";
-    let finer = finer_text(rt.alloc(), Clock::ByRounds, text)?;
+    let finer_ticks = finer_text(rt.alloc(), Clock::ByRounds, text)?;
     same(
         "the text in finer ticks",
-        finer.as_slice(),
+        finer_ticks.as_slice(),
         b"trio-job 3\njob m { sleep 20; checkpoint; repeat 10 { pace 4; } }\n",
     )?;
     let moved = moved_texts(rt.alloc(), Clock::ByRounds, text)?;

@@ -53,10 +53,10 @@ pub(crate) fn same_answer(
     status: u8,
     expected: &[u8],
 ) -> Result<(), Fail> {
-    let (told, out) = answer;
+    let (given, out) = answer;
     same(name, out.taken(), expected)?;
-    if *told != status {
-        Err((name, *told))?;
+    if *given != status {
+        Err((name, *given))?;
     }
     Ok(())
 }

@@ -218,8 +218,8 @@ fn refusal_of(alloc: Global, fault: ScaleFault) -> (JobKind, Vec<u8>) {
     }
 }
 
-// Returns the text with its ticks multiplied, and the kind of its refusal, or `None` if it is not refused. The only error is that memory
-// runs out.
+// Returns the text with its ticks multiplied, and the kind of its refusal, or `None` if it is not refused. The only error is that
+// memory runs out.
 fn scaled_or_refused(
     alloc: Global,
     text: &str,
@@ -248,7 +248,8 @@ fn ticks_are_multiplied(rt: HostRuntime) -> Result<(), Fail> {
     Ok(())
 }
 
-// Fails if the ticks of a text can be multiplied by a factor, or cannot for another reason than this. A refused text has no scaled text.
+// Fails if the ticks of a text can be multiplied by a factor, or cannot for another reason than this. A refused text has no
+// scaled text.
 fn is_not_scaled(
     alloc: Global,
     text: &str,

@@ -2,9 +2,9 @@
 //! `commands`, `expect_text`, `refusal_text` and `cli`, and of what charts and races are made of (`chart`,
 //! `chart`, `job_edits`, `race_text`), through what these make public.
 //!
-//! They show what no clause says: that the reports of worked jobs, worked out by hand, are those of the definitions; the results for
-//! command lines and refused texts; the results when readers and writers fail; and, for the layers below too, that a call that was
-//! refused memory returns its result when it is made again.
+//! They show what no clause says: that the reports of worked jobs, worked out by hand, are those of the definitions; the results
+//! for command lines and refused texts; the results when readers and writers fail; and, for the layers below too, that a call
+//! that was refused memory returns its result when it is made again.
 #![tactic(auto)]
 
 #[cfg(test)]

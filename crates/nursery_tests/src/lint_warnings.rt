@@ -86,7 +86,8 @@ const SCOPES: &[Row] = &[
         b"trio-job 1\njob m{scope s after 9{scope t fail{raise A;}}}",
         b"33 nothing cancels the scope t: it has no deadline, and no `cancel t` is in it\n",
     ),
-    // The tick in which a scope is left says something if it may be left early: by an exception in it, or a cancellation around it.
+    // The tick in which a scope is left says something if it may be left early: by an exception in it, or a cancellation around
+    // it.
     (b"trio-job 1\njob m{scope s{need \"x\" A;}}", b""),
     (b"trio-job 1\njob m{scope s{try{raise A;}except A{}}}", b""),
     (

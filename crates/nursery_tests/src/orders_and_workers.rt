@@ -160,7 +160,7 @@ fn settings_have_their_ranges() -> Result<(), Fail> {
 }
 
 // The tick from which each of a job's scopes and nurseries was cancelled, by its name.
-const FROMS: &[(&[u8], &[(&[u8], Option<u64>)])] = &[
+const CANCELLED_FROM: &[(&[u8], &[(&[u8], Option<u64>)])] = &[
     (SIBLING_FAILS, &[(b"n", Some(3))]),
     (
         b"trio-job 1\njob main { scope s after 4 { try { forever; } finally { scope g shield { sleep 3; } sleep 1; } } }",
@@ -169,13 +169,16 @@ const FROMS: &[(&[u8], &[(&[u8], Option<u64>)])] = &[
 ];
 
 // Checks from which ticks scopes were cancelled.
-fn assert_froms(froms: &[ScopeFrom], wanted: &[(&[u8], Option<u64>)]) -> Result<(), Fail> {
-    if froms.len() != wanted.len() {
-        Err(("scopes", froms.len()))?;
+fn assert_cancelled_from(
+    cancelled_from: &[ScopeFrom],
+    wanted: &[(&[u8], Option<u64>)],
+) -> Result<(), Fail> {
+    if cancelled_from.len() != wanted.len() {
+        Err(("scopes", cancelled_from.len()))?;
     }
     for i in 0..wanted.len() {
         let (name, seen) = wanted[i];
-        if !is_from(froms.get(i), name, seen) {
+        if !is_from(cancelled_from.get(i), name, seen) {
             return Err(wrong(i));
         }
     }
@@ -183,14 +186,14 @@ fn assert_froms(froms: &[ScopeFrom], wanted: &[(&[u8], Option<u64>)]) -> Result<
 }
 
 // Checks from which ticks the scopes of a job were cancelled.
-fn assert_froms_of<R: Abort + Threads + Sync + AllocGlobal>(
+fn assert_cancelled_from_of<R: Abort + Threads + Sync + AllocGlobal>(
     rt: &R,
     text: &[u8],
     wanted: &[(&[u8], Option<u64>)],
 ) -> Result<(), Fail> {
     let job = read_job(rt.alloc(), text)?;
     let done = run_of(rt, &job, b"", 1, &mut Forward, &NoGate)?;
-    assert_froms(done.froms(), wanted)
+    assert_cancelled_from(done.cancelled_from(), wanted)
 }
 
 // Returns whether a scope of that name was cancelled from that tick.
@@ -203,9 +206,9 @@ fn is_from(from: Option<&ScopeFrom>, name: &[u8], seen: Option<u64>) -> bool {
 
 #[test]
 fn a_run_has_the_ticks_from_which_its_scopes_were_cancelled(rt: HostRuntime) -> Result<(), Fail> {
-    for i in 0..FROMS.len() {
-        let (text, froms) = FROMS[i];
-        assert_froms_of(&rt, text, froms)?;
+    for i in 0..CANCELLED_FROM.len() {
+        let (text, cancelled_from) = CANCELLED_FROM[i];
+        assert_cancelled_from_of(&rt, text, cancelled_from)?;
     }
     Ok(())
 }

@@ -28,7 +28,7 @@ fn races_into<R: Abort + Threads + Sync + AllocGlobal>(
     Ok(verdict)
 }
 
-// The same, again if memory runs out.
+// Calls `races` over three lines with a writer that has not failed, and calls it again if memory runs out.
 fn races_again<R: Abort + Threads + Sync + AllocGlobal>(
     rt: &R,
     text: &[u8],

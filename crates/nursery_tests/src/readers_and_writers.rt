@@ -94,7 +94,8 @@ impl Write for Fake {
     }
 }
 
-// How many bytes a writer takes for each write, after how many writes it fails, where it stops a sending, and how often it failed.
+// How many bytes a writer takes for each write, after how many writes it fails, where it stops a sending, and how often it
+// failed.
 const INTO_WRITER: &[(usize, u64, Option<usize>, u64)] = &[
     (0, 100, Some(0), 1),
     (4, 1, Some(4), 1),

@@ -136,7 +136,7 @@ const OF_EACH_FORMAT: &[&str] = &[
     "trio-job 3\njob main { }",
 ];
 
-// The same job in format 3.
+// The job of these texts in format 3.
 const IN_FORMAT_3: &[u8] = b"trio-job 3\njob main{}\n";
 
 #[test]
@@ -197,8 +197,8 @@ fn message_of(alloc: Global, text: &[u8]) -> Result<String, Fail> {
 fn assert_messages(alloc: Global, rows: &[Row]) -> Result<(), Fail> {
     for i in 0..rows.len() {
         let (text, expected) = rows[i];
-        let told = message_of(alloc, text.as_bytes())?;
-        same(text, told.as_bytes(), expected.as_bytes())?;
+        let printed = message_of(alloc, text.as_bytes())?;
+        same(text, printed.as_bytes(), expected.as_bytes())?;
     }
     Ok(())
 }
@@ -225,8 +225,8 @@ fn same_end(name: &str, message: &str, last: &str) -> Result<(), Fail> {
 fn a_refusal_ends_with_a_hint(rt: HostRuntime) -> Result<(), Fail> {
     for i in 0..HELPED.len() {
         let (text, last) = HELPED[i];
-        let told = message_of(rt.alloc(), text.as_bytes())?;
-        same_end(text, told.as_str(), last)?;
+        let printed = message_of(rt.alloc(), text.as_bytes())?;
+        same_end(text, printed.as_str(), last)?;
     }
     Ok(())
 }

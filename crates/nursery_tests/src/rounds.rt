@@ -163,8 +163,8 @@ task b 0 1 raised Y(b@1)
     ),
 ];
 
-// A supervisor that starts two tasks up to three times. Each restart ends in the tick in which the failure is seen, so the budget of
-// 22 ticks is enough.
+// A supervisor that starts two tasks up to three times. Each restart ends in the tick in which the failure is seen, so the budget
+// of 22 ticks is enough.
 const SUPERVISOR: &[Row] = &[(
     "scope budget after 22 fail { try { repeat 3 { try { nursery child { start worker { sleep 4; raise Crash; } start metrics { try { forever; } finally { scope flush after 3 shield { sleep 1; } } } } } except Crash { sleep 2; } } raise GaveUp; } except GaveUp { } }",
     b"",

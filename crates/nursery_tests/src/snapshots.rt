@@ -1,4 +1,5 @@
-//! What `nursery test` compares: the outputs of a feed, texts that differ, and expectations. The expected values are worked out by hand.
+//! What `nursery test` compares: the outputs of a feed, texts that differ, and expectations. The expected values are worked out
+//! by hand.
 
 ghost use Rattle.std.specs.Prelude.{◌≡◌, []};
 

@@ -4,7 +4,7 @@
 //! kept side by side.
 
 use exceptions::Label;
-use job_story::{Event, Froms, Happening, Kind, Range, What};
+use job_story::{CancelledFrom, Event, Happening, Kind, Range, What};
 use job_tree::Name;
 use std::alloc::{AllocError, Global};
 use std::test::Fail;
@@ -66,9 +66,9 @@ pub(crate) fn walk<'e>(alloc: Global, events: &'e [Event]) -> Result<Vec<&'e Eve
 }
 
 // A table in which the scope `s` is cancelled from this moment on.
-pub(crate) fn froms_of(alloc: Global, from: u64) -> Result<Froms, Fail> {
+pub(crate) fn cancelled_from_of(alloc: Global, from: u64) -> Result<CancelledFrom, Fail> {
     let label = label(alloc, b"s")?;
-    let mut froms = Froms::new(alloc);
-    froms.set(label, Some(from))?;
-    Ok(froms)
+    let mut cancelled_from = CancelledFrom::new(alloc);
+    cancelled_from.set(label, Some(from))?;
+    Ok(cancelled_from)
 }

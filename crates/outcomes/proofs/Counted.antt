@@ -2,7 +2,7 @@
 use Rattle.std.proofs.Common.{◌≡◌, ℕ, List, ◌+◌, arith, refl, cond}
 use Rattle.std.proofs.lemmas.List.Recursion.{is_count_by}
 use Rattle.std.specs.Prelude.{Bool, true, false, count_by, map, if◌then◌else◌}
-use Rattle.outcomes.specs.Table as told
+use Rattle.outcomes.specs.Table as table
 use Rattle.outcomes.specs.Views.{line_held}
 use Rattle.outcomes.specs.declared.line.Line.{Line}
 
@@ -10,7 +10,7 @@ one_more : (b : Bool) (n : ℕ) → (if b then 1 else 0) + n ≡ cond b (1 + n) 
 one_more true n = refl
 one_more false n = omega arith
 
-pub counted : (test : told.Line → Bool) (ls : List Line) → told.count test (map line_held ls) ≡ count_by (λ l. test (line_held l)) ls
+pub counted : (test : table.Line → Bool) (ls : List Line) → table.count test (map line_held ls) ≡ count_by (λ l. test (line_held l)) ls
 counted test ls =
-    is_count_by (λ xs. told.count test (map line_held xs)) (λ l. test (line_held l)) refl
-    (λ x xs. one_more (test (line_held x)) (told.count test (map line_held xs))) ls
+    is_count_by (λ xs. table.count test (map line_held xs)) (λ l. test (line_held l)) refl
+    (λ x xs. one_more (test (line_held x)) (table.count test (map line_held xs))) ls

@@ -31,7 +31,7 @@ line_in first only line column wait fault reached job_outcome =
       cuts = cuts_more first job_outcome;
     }
 
--- the same wherever the step runs, where the name of the exception is not printed
+-- such a line for a fault wherever the step runs, where the name of the exception is not printed
 abbrev pub line_with : JobOutcome → ℕ → ℕ → Wait → Fault → Bool → JobOutcome → Line
 line_with first line column wait fault reached job_outcome =
     record (line_in first None line column wait fault reached job_outcome) { is_named = false }
@@ -65,7 +65,7 @@ cleanup_lines =
     ∷ line_with cleanup_first 21 11 (Sleep 3) Cancelled true (ended 8 None (task (codes "journal") ∷ task (codes "cache") ∷ []) (task (codes "cache") ∷ []) false)
     ∷ []
 
-pub cleanup_is_told :
+pub cleanup_is_shown :
     table_text 1000000 false cleanup_first cleanup_lines all_tried
     ≡ codes "                as it is    8 done; cancelled: journal, cache; cleanup cut: cache\n"
     ++ codes " 7:11  forever  fails       4 raised writers[Fault(journal@0)]; cancelled: cache; cleanup cut: cache\n"
@@ -82,7 +82,7 @@ pub cleanup_is_told :
     ++ codes "21:11  sleep 3  cancelled   8 done; cancelled: journal, cache; cleanup cut: cache\n"
     ++ codes "12 faults: 1 stuck, 0 cut a cleanup, 0 lost, 1 not reached\n"
 unfolding digits
-cleanup_is_told = refl
+cleanup_is_shown = refl
 
 -- in brief: the lines whose outcome is that of the job as it is are left out
 pub cleanup_in_brief :
@@ -116,7 +116,7 @@ shards_lines =
     ∷ []
 
 -- the second copy, the second pass, and which others were not tried
-pub shards_are_told :
+pub shards_are_shown :
     table_text 9 false shards_first shards_lines some_untried
     ≡ codes "              as it is               2 done\n"
     ++ codes "4:7  sleep 2  fails Late in shard.1  2 done; cleanup cut: log\n"
@@ -125,7 +125,7 @@ pub shards_are_told :
     ++ codes "only the first 1000 faults in single copies and passes were tried\n"
     ++ codes "copies that pace or need lines were not tried singly: each has its own part of the input\n"
 unfolding digits
-shards_are_told = refl
+shards_are_shown = refl
 
 -- a cleanup that is cut with the fault alone is denied
 pub cut_is_denied :
@@ -150,7 +150,7 @@ other_lines =
     ∷ line_with other_first 100 2 (Need (codes "k b") (codes "Gone")) (Misses (codes "X")) false (stuck (task (codes "a") ∷ task (codes "b") ∷ task (codes "c") ∷ []) [] false)
     ∷ []
 
-pub other_is_told :
+pub other_is_shown :
     table_text 1000000 false other_first other_lines all_tried
     ≡ codes "                        as it is    3 cancelled\n"
     ++ codes "  1:7  sleep 3          fails       not tried: J11 at 0\n"
@@ -159,7 +159,7 @@ pub other_is_told :
     ++ codes "100:2  need \"k b\" Gone  misses      stuck at 1000000; not reached; sleeping forever: a, b, c\n"
     ++ codes "4 faults: 2 stuck, 0 cut a cleanup, 2 lost, 1 not reached, 1 not tried\n"
 unfolding digits
-other_is_told = refl
+other_is_shown = refl
 
 -- a job that does not end is denied
 pub stuck_is_denied :

@@ -81,7 +81,7 @@ some_event test [] = false
 some_event test (e ∷ es) = test e.what || some_event test es
 
 -- An exception with this name is raised, no handler handles one with this name, and the outcome of the root task
--- contains none. Exceptions are told apart only by their names.
+-- contains none. Exceptions are distinguished only by their names.
 abbrev pub is_lost : List ℕ → List Event → Bool
 is_lost name es =
     some_event (raises_it name) es && (not (some_event (handles_it name) es) && not (some_event (escapes name) es))
@@ -91,7 +91,8 @@ abbrev pub replaces_it : List ℕ → What → Bool
 replaces_it name (happens (replaces lost fresh)) = has_leaf name lost && not (has_leaf name fresh)
 replaces_it name _ = false
 
--- The same for a job that has not ended, by the events until then: an exception that a nursery or a task still holds is not lost.
+-- Whether an exception with this name is lost in a job that has not ended, by the events until then: one that a nursery or a task
+-- still holds is not lost.
 abbrev pub is_lost_so_far : List ℕ → List Event → Bool
 is_lost_so_far name es =
     some_event (raises_it name) es && (not (some_event (handles_it name) es) && some_event (replaces_it name) es)

@@ -43,7 +43,7 @@ cleanup_values =
     ∷ value_with 10 (cut_at 8)
     ∷ []
 
-pub cleanup_is_told :
+pub cleanup_is_shown :
     sweep_text 1000000 (cut_at 8) cleanup_values
     ≡ codes "as it is  done, ends 8; cleanup cut: cache\n"
     ++ codes "1..2      raised writers[Fault(journal)], ends 4..5\n"
@@ -55,7 +55,7 @@ pub cleanup_is_told :
     ++ codes "10        done, ends 8; cleanup cut: cache\n"
     ++ codes "10 values: 2 stuck, 5 cut a cleanup, 1 refused\n"
 unfolding digits
-cleanup_is_told = refl
+cleanup_is_shown = refl
 
 -- a group of several exceptions, and a range that is longer than `as it is`
 abbrev pub late_at : ℕ → JobOutcome
@@ -64,19 +64,19 @@ late_at tick =
     (Some (group by_handler (part (too_slow (record { name = codes "s"; indices = 1 ∷ [] }) tick) (part (raised (codes "E") (task (codes "a")) tick) (part cancelled no_parts)))))
     (task (codes "a") ∷ []) [] false
 
-pub late_is_told :
+pub late_is_shown :
     sweep_text 50 (ended 3 (Some cancelled) [] [] false) (value_with 100000 (late_at 100) ∷ value_with 200000 (late_at 20) ∷ [])
     ≡ codes "as it is        cancelled, ends 3\n"
     ++ codes "100000..200000  raised *[TooSlow(s.1), E(a), Cancelled], ends 20..100; cancelled: a\n"
     ++ codes "2 values: 0 stuck, 0 cut a cleanup\n"
 unfolding digits
-late_is_told = refl
+late_is_shown = refl
 
 -- one value
-pub one_is_told :
+pub one_is_shown :
     sweep_text 50 (refused out_of_range) (value_with 7 (stuck [] [] false) ∷ [])
     ≡ codes "as it is  refused\n"
     ++ codes "7         stuck at 50\n"
     ++ codes "1 value: 1 stuck, 0 cut a cleanup\n"
 unfolding digits
-one_is_told = refl
+one_is_shown = refl

@@ -17,8 +17,8 @@ ends_text None = []
 ends_text (Some e) = codes ", ends " ++ span_text e.least e.greatest
 
 -- the text of a group
-abbrev pub told_text : Group → List ℕ
-told_text g = g.head ++ ends_text g.ends ++ g.notes ++ codes "\n"
+abbrev pub ending_text : Group → List ℕ
+ending_text g = g.head ++ ends_text g.ends ++ g.notes ++ codes "\n"
 
 -- the length of the longest range, or that of `as it is` if that is more
 abbrev pub width_of : List Group → ℕ
@@ -26,7 +26,7 @@ width_of [] = 8
 width_of (g ∷ gs) = max (length (range_text g)) (width_of gs)
 
 abbrev pub group_text : ℕ → Group → List ℕ
-group_text width g = left_text width (range_text g) ++ codes "  " ++ told_text g
+group_text width g = left_text width (range_text g) ++ codes "  " ++ ending_text g
 
 abbrev pub groups_text : ℕ → List Group → List ℕ
 groups_text width [] = []
@@ -52,5 +52,5 @@ counts_text vs =
 abbrev pub sweep_text : ℕ → JobOutcome → List Value → List ℕ
 sweep_text limit first vs =
     let gs = groups_of limit vs in
-    left_text (width_of gs) (codes "as it is") ++ codes "  " ++ told_text (group_of_one limit 0 first)
+    left_text (width_of gs) (codes "as it is") ++ codes "  " ++ ending_text (group_of_one limit 0 first)
     ++ groups_text (width_of gs) gs ++ counts_text vs

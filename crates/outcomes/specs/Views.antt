@@ -1,19 +1,19 @@
 -- The values of the code, as the definitions see them.
 use Rattle.std.specs.Option.{option_map}
 use Rattle.exceptions.specs.Held.{exc_of}
-use Rattle.outcomes.specs.JobOutcomes as told
-use Rattle.outcomes.specs.Table as told_lines
+use Rattle.outcomes.specs.JobOutcomes as job_outcomes
+use Rattle.outcomes.specs.Table as table
 use Rattle.outcomes.specs.declared.job_outcome.JobOutcome.{JobOutcome}
 use Rattle.outcomes.specs.declared.job_outcome.JobOutcome.TheVariants.{Refused, Stuck, Ended}
 use Rattle.outcomes.specs.declared.line.Line.{Line}
 use Rattle.outcomes.specs.declared.options.Options.{Options}
 
-abbrev pub job_outcome_held : JobOutcome → told.JobOutcome
-job_outcome_held (Refused fault) = told.refused fault
-job_outcome_held (Stuck sleeping cut lost) = told.stuck sleeping.items cut.items lost
-job_outcome_held (Ended end exc cancelled cut lost) = told.ended end (option_map exc_of exc) cancelled.items cut.items lost
+abbrev pub job_outcome_held : JobOutcome → job_outcomes.JobOutcome
+job_outcome_held (Refused fault) = job_outcomes.refused fault
+job_outcome_held (Stuck sleeping cut lost) = job_outcomes.stuck sleeping.items cut.items lost
+job_outcome_held (Ended end exc cancelled cut lost) = job_outcomes.ended end (option_map exc_of exc) cancelled.items cut.items lost
 
-abbrev pub line_held : Line → told_lines.Line
+abbrev pub line_held : Line → table.Line
 line_held l =
     record {
       line = l.line;
@@ -26,5 +26,5 @@ line_held l =
       cuts = l.cuts;
     }
 
-abbrev pub options_held : Options → told_lines.Options
+abbrev pub options_held : Options → table.Options
 options_held o = record { names = o.names.items; each = o.each; brief = o.brief; deny = o.deny }

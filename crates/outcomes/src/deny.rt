@@ -17,8 +17,8 @@ pub struct Deny {
 }
 
 impl Deny {
-    /// Returns whether a job should not have its outcome with this fault: it is one of these kinds; or nothing is known of the job,
-    /// since its text was refused, and some kind is denied.
+    /// Returns whether a job should not have its outcome with this fault: it is one of these kinds; or nothing is known of the
+    /// job, since its text was refused, and some kind is denied.
     pub fn denies(self, line: &Line) -> bool
         ensures { result ≡ denies self (line_held line.now) }
     {

@@ -5,7 +5,7 @@ ghost use Rattle.outcomes.specs.Groups.{group_of_one, shares, joined_group, ends
 ghost use Rattle.outcomes.specs.SweepViews.{ends_held, group_held};
 
 use crate::JobOutcome;
-use crate::told::{push_head, push_notes};
+use crate::outcome_text::{push_head, push_notes};
 use std::alloc::{AllocError, Global};
 
 // The earliest and the latest of some ends, in ticks.

@@ -12,9 +12,10 @@ use job_story::{Event, Happening, What};
 use std::alloc::{AllocError, Global};
 use story_index::LastEvents;
 
-/// Returns the tasks that sleep forever after these events. The events are those of a story in the order of the walk, and may
-/// end at some moment. A task sleeps forever if it was started, and its last event is that it fell asleep without a moment at which
-/// it is due, or that it began to wait for an event of the job, which is not set in the time of these events. The tasks are in the order in which the walk starts them. The only error is that memory runs out.
+/// Returns the tasks that sleep forever after these events. The events are those of a story in the order of the walk, and may end
+/// at some moment. A task sleeps forever if it was started, and its last event is that it fell asleep without a moment at which
+/// it is due, or that it began to wait for an event of the job, which is not set in the time of these events. The tasks are in
+/// the order in which the walk starts them. The only error is that memory runs out.
 pub fn sleeping_forever<'e>(
     alloc: Global,
     walked: &[&'e Event],

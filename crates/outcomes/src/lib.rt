@@ -34,10 +34,10 @@ mod lines;
 mod lost;
 mod notes;
 mod options;
+mod outcome_text;
 mod pieces;
 mod sweep_counts;
 mod sweep_lines;
-mod told;
 mod value;
 
 pub use columns::{printed_name, push_part};

@@ -19,7 +19,8 @@ pub struct Line {
     /// Whether the fault is reached by the limit: the step begins by then or, for a fault that fails late, ends by
     /// then.
     pub reached: bool,
-    /// Whether the name of the exception that a step raises is printed. It is where steps raise several exceptions, one at a time.
+    /// Whether the name of the exception that a step raises is printed. It is where steps raise several exceptions, one at a
+    /// time.
     pub is_named: bool,
     /// Whether the outcome, as it is printed of a fault that is reached, differs from that of the same job without the fault.
     pub differs: bool,

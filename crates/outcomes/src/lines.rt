@@ -13,9 +13,9 @@ use crate::pieces::{push_left, push_right, push_spaces};
 use std::alloc::{AllocError, Global};
 
 /// Returns the text of the table: the outcome of the job without a fault (`first`), the outcome with each fault, and how many
-/// faults there are of each kind. With `brief` it has only the lines whose outcome differs from that of the job without the fault,
-/// but all are counted. `limit` is the last tick at which the job may end, and `untried` says which faults in single copies and
-/// passes are not among `lines`. The only error is that memory runs out.
+/// faults there are of each kind. With `brief` it has only the lines whose outcome differs from that of the job without the
+/// fault, but all are counted. `limit` is the last tick at which the job may end, and `untried` says which faults in single
+/// copies and passes are not among `lines`. The only error is that memory runs out.
 pub fn table(
     alloc: Global,
     limit: u64,

@@ -9,7 +9,7 @@ use job_story::{Event, Happening, What};
 use job_tree::Name;
 
 /// Returns whether an exception with this name is lost in a story with these events: a `raise` step with this name is among
-/// them, no handler handles an exception with this name, and the root task does not end with one. Exceptions are told apart
+/// them, no handler handles an exception with this name, and the root task does not end with one. Exceptions are distinguished
 /// only by their names. So if several exceptions have this name, the result is `false` as soon as one of them is handled or is
 /// part of the outcome of the root task, even if another one is lost.
 pub fn is_lost(events: &[&Event], name: Name) -> bool
@@ -18,9 +18,9 @@ pub fn is_lost(events: &[&Event], name: Name) -> bool
     is_raised(events, name) && !is_handled(events, name) && !has_escaped(events, name)
 }
 
-/// Returns whether an exception with this name is lost by the events of a job that has not ended: a `raise` step with this name is
-/// among them, no handler handles an exception with this name, and the exception of a cleanup replaced one that contains it, and
-/// does not contain it. An exception that a task or a nursery still holds is not lost.
+/// Returns whether an exception with this name is lost by the events of a job that has not ended: a `raise` step with this name
+/// is among them, no handler handles an exception with this name, and the exception of a cleanup replaced one that contains it,
+/// and does not contain it. An exception that a task or a nursery still holds is not lost.
 pub fn is_lost_so_far(events: &[&Event], name: Name) -> bool
     ensures { result ≡ is_lost_so_far name (map event_in events.now) }
 {

@@ -51,8 +51,8 @@ pub fn push_job_outcome(
     }
 }
 
-/// Returns whether the outcome of a job with a fault, as it is printed of a fault that is reached, is another text than its outcome
-/// without the fault. `limit` is the last tick at which the job may end. The only error is that memory runs out.
+/// Returns whether the outcome of a job with a fault, as it is printed of a fault that is reached, is another text than its
+/// outcome without the fault. `limit` is the last tick at which the job may end. The only error is that memory runs out.
 pub fn differs(
     alloc: Global,
     limit: u64,

@@ -3,7 +3,7 @@ ghost use Rattle.std.specs.Option.{option_map};
 ghost use Rattle.outcomes.specs.Table.{left_text};
 ghost use Rattle.outcomes.specs.Views.{job_outcome_held};
 ghost use Rattle.outcomes.specs.Groups.{group_of_one};
-ghost use Rattle.outcomes.specs.Sweeps.{span_text, range_text, ends_text, told_text, width_of, group_text, groups_text, sweep_text};
+ghost use Rattle.outcomes.specs.Sweeps.{span_text, range_text, ends_text, ending_text, width_of, group_text, groups_text, sweep_text};
 ghost use Rattle.outcomes.specs.SweepViews.{ends_held, group_held, value_held};
 
 use crate::group::{Ends, Group};
@@ -57,11 +57,11 @@ fn range_of(alloc: Global, group: &Group) -> Result<Vec<u8>, AllocError>
 // Appends the outcome of the job with its own value.
 fn push_first(out: &mut Vec<u8>, width: usize, first: &Group) -> Result<(), AllocError>
     ensures { OnOk result (out.new.items
-        ≡ out.old.items ++ (left_text width (codes "as it is") ++ codes "  " ++ told_text (group_held first.now))) }
+        ≡ out.old.items ++ (left_text width (codes "as it is") ++ codes "  " ++ ending_text (group_held first.now))) }
 {
     push_left(out, width, b"as it is")?;
     out.extend_from_slice(b"  ")?;
-    push_told(out, first)
+    push_ending(out, first)
 }
 
 // Appends a line for each group.
@@ -90,12 +90,12 @@ fn push_group(
 {
     push_left(out, width, range_of(alloc, group)?.as_slice())?;
     out.extend_from_slice(b"  ")?;
-    push_told(out, group)
+    push_ending(out, group)
 }
 
 // Appends the text of a group.
-fn push_told(out: &mut Vec<u8>, group: &Group) -> Result<(), AllocError>
-    ensures { OnOk result (out.new.items ≡ out.old.items ++ told_text (group_held group.now)) }
+fn push_ending(out: &mut Vec<u8>, group: &Group) -> Result<(), AllocError>
+    ensures { OnOk result (out.new.items ≡ out.old.items ++ ending_text (group_held group.now)) }
 {
     out.extend_from_slice(group.head.as_slice())?;
     push_ends(out, group.ends)?;

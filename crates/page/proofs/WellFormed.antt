@@ -12,12 +12,12 @@ use Rattle.page.specs.Markup.{element_text, classed, link, IsContent}
 use Rattle.page.specs.Cuts.{hidden_if, hidden_count, hidden_text, shown_lines}
 use Rattle.page.specs.Fronts.{front, after_front}
 use Rattle.page.specs.Links.{Row, has_row, line_of_sentence}
-use Rattle.page.specs.Lines.{row_id, line_id, is_place, placed_if, placed_after, placed_line, label_text, sentence_at, told_after, told_rest, told_line, table_row, shown_line, line_text, last_line, lines_from, Warned, warning_text, warning_at, warnings_at, numbered, job_line, last_job_line, job_lines}
-use Rattle.page.specs.Pages.{Shown, head, headed, section, folded, lines, pre, table_head, table, row_anchor, row_anchors, chart_part, job_section, chart_section, contents, front_part, told_part, fault_table, tried_part, body, page_element}
+use Rattle.page.specs.Lines.{row_id, line_id, is_place, placed_if, placed_after, placed_line, label_text, sentence_at, story_after, story_rest, story_line, table_row, shown_line, line_text, last_line, lines_from, Warned, warning_text, warning_at, warnings_at, numbered, job_line, last_job_line, job_lines}
+use Rattle.page.specs.Pages.{Shown, head, headed, section, folded, lines, pre, table_head, table, row_anchor, row_anchors, chart_part, job_section, chart_section, contents, front_part, story_part, fault_table, tried_part, body, page_element}
 use Rattle.page.specs.declared.places.Place.{Place}
 use Rattle.page.specs.declared.front.ByteKind.TheVariants.{Blank, Digit, Dark}
 use Rattle.page.specs.declared.kind.LineKind.{LineKind}
-use Rattle.page.specs.declared.kind.LineKind.TheVariants.{Plain, Placed, Told}
+use Rattle.page.specs.declared.kind.LineKind.TheVariants.{Plain, Placed, Story}
 use Rattle.page.specs.declared.style.TheConstants.{STYLE}
 
 -- ---- content in general
@@ -134,17 +134,17 @@ told_parts_are_content rows at label blanks sentence =
     (joined_is_content (label_text rows label) (escaped_text blanks) (label_is_content rows label) (text_is_content blanks))
     (sentence_is_content at sentence)
 
-told_after_is_content : (places : List Place) (rows : List Row) (label rest : List ℕ) → IsContent (told_after places rows label rest)
+told_after_is_content : (places : List Place) (rows : List Row) (label rest : List ℕ) → IsContent (story_after places rows label rest)
 told_after_is_content places rows label rest =
     told_parts_are_content rows (line_of_sentence places label (after_front Blank rest)) label (front Blank rest) (after_front Blank rest)
 
-told_rest_is_content : (places : List Place) (rows : List Row) (blanks rest : List ℕ) → IsContent (told_rest places rows blanks rest)
+told_rest_is_content : (places : List Place) (rows : List Row) (blanks rest : List ℕ) → IsContent (story_rest places rows blanks rest)
 told_rest_is_content places rows [] rest = text_is_content rest
 told_rest_is_content places rows (b ∷ blanks) rest = told_after_is_content places rows (front Dark rest) (after_front Dark rest)
 
-told_line_is_content : (places : List Place) (rows : List Row) (line : List ℕ) → IsContent (told_line places rows line)
+told_line_is_content : (places : List Place) (rows : List Row) (line : List ℕ) → IsContent (story_line places rows line)
 told_line_is_content places rows line =
-    joined_is_content (escaped_text (front Blank line)) (told_rest places rows (front Blank line) (after_front Blank line))
+    joined_is_content (escaped_text (front Blank line)) (story_rest places rows (front Blank line) (after_front Blank line))
     (text_is_content (front Blank line))
     (told_rest_is_content places rows (front Blank line) (after_front Blank line))
 
@@ -160,7 +160,7 @@ shown_line_is_content : (kind : LineKind) (places : List Place) (rows : List Row
     IsContent (shown_line kind places rows line)
 shown_line_is_content Plain places rows line = text_is_content line
 shown_line_is_content Placed places rows line = row_is_content tags.Td [] (placed_line line) refl (placed_line_is_content line)
-shown_line_is_content Told places rows line = told_line_is_content places rows line
+shown_line_is_content Story places rows line = told_line_is_content places rows line
 
 line_is_content : (kind : LineKind) (places : List Place) (rows : List Row) (line : List ℕ) → IsContent (line_text kind places rows line)
 line_is_content kind places rows line =
@@ -367,12 +367,12 @@ front_part_is_content shown drawn =
     (classed_is_content tags.P (codes "outcome") (escaped_text shown.outcome) (text_is_content shown.outcome))
     contents_are_content (job_section_is_content shown) (chart_section_is_content shown drawn)
 
-told_part_is_content : (shown : Shown) → IsContent (told_part shown)
+told_part_is_content : (shown : Shown) → IsContent (story_part shown)
 told_part_is_content shown =
-    let story = pre Told shown shown.story in
+    let story = pre Story shown shown.story in
     let report = pre Plain shown shown.report in
     joined_is_content (folded (codes "story") (codes "Story") story) (folded (codes "report") (codes "Report") report)
-    (folded_is_content (codes "story") (codes "Story") story (pre_is_content Told shown shown.story))
+    (folded_is_content (codes "story") (codes "Story") story (pre_is_content Story shown shown.story))
     (folded_is_content (codes "report") (codes "Report") report (pre_is_content Plain shown shown.report))
 
 fault_table_is_content : (shown : Shown) (bytes : List ℕ) → IsContent (fault_table shown bytes)
@@ -406,16 +406,16 @@ tried_part_is_content shown =
     (changing_is_content shown) (faults_are_content shown) (races_are_content shown)
 
 main_is_content : (shown : Shown) → IsContent shown.chart →
-    IsContent (element_text tags.Main [] (front_part shown ++ told_part shown ++ tried_part shown))
+    IsContent (element_text tags.Main [] (front_part shown ++ story_part shown ++ tried_part shown))
 main_is_content shown drawn =
-    element_is_content tags.Main [] (front_part shown ++ told_part shown ++ tried_part shown) refl
-    (three_are_content (front_part shown) (told_part shown) (tried_part shown) (front_part_is_content shown drawn)
+    element_is_content tags.Main [] (front_part shown ++ story_part shown ++ tried_part shown) refl
+    (three_are_content (front_part shown) (story_part shown) (tried_part shown) (front_part_is_content shown drawn)
     (told_part_is_content shown)
     (tried_part_is_content shown))
 
 body_is_content : (shown : Shown) → IsContent shown.chart → IsContent (body shown)
 body_is_content shown drawn =
-    let main = element_text tags.Main [] (front_part shown ++ told_part shown ++ tried_part shown) in
+    let main = element_text tags.Main [] (front_part shown ++ story_part shown ++ tried_part shown) in
     let footer = element_text tags.Footer [] (escaped_text shown.made) in
     element_is_content tags.Body [] (main ++ footer) refl
     (joined_is_content main footer (main_is_content shown drawn)

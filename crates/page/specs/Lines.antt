@@ -11,7 +11,7 @@ use Rattle.page.specs.Links.{Row, has_row, line_of_sentence}
 use Rattle.page.specs.declared.places.Place.{Place}
 use Rattle.page.specs.declared.front.ByteKind.TheVariants.{Blank, Digit, Dark}
 use Rattle.page.specs.declared.kind.LineKind.{LineKind}
-use Rattle.page.specs.declared.kind.LineKind.TheVariants.{Plain, Placed, Told}
+use Rattle.page.specs.declared.kind.LineKind.TheVariants.{Plain, Placed, Story}
 
 abbrev pub line_id : ℕ → List ℕ
 line_id n = codes "line-" ++ decimal n
@@ -49,19 +49,19 @@ abbrev pub sentence_at : Option ℕ → List ℕ → List ℕ
 sentence_at None sentence = escaped_text sentence
 sentence_at (Some n) sentence = link (line_id n) sentence
 
-abbrev pub told_after : List Place → List Row → (label rest : List ℕ) → List ℕ
-told_after places rows label rest =
+abbrev pub story_after : List Place → List Row → (label rest : List ℕ) → List ℕ
+story_after places rows label rest =
     label_text rows label ++ escaped_text (front Blank rest)
     ++ sentence_at (line_of_sentence places label (after_front Blank rest)) (after_front Blank rest)
 
 -- the rest of a line, which speaks of a task if the line begins with blanks
-abbrev pub told_rest : List Place → List Row → (blanks rest : List ℕ) → List ℕ
-told_rest places rows [] rest = escaped_text rest
-told_rest places rows (b ∷ blanks) rest = told_after places rows (front Dark rest) (after_front Dark rest)
+abbrev pub story_rest : List Place → List Row → (blanks rest : List ℕ) → List ℕ
+story_rest places rows [] rest = escaped_text rest
+story_rest places rows (b ∷ blanks) rest = story_after places rows (front Dark rest) (after_front Dark rest)
 
-abbrev pub told_line : List Place → List Row → List ℕ → List ℕ
-told_line places rows line =
-    escaped_text (front Blank line) ++ told_rest places rows (front Blank line) (after_front Blank line)
+abbrev pub story_line : List Place → List Row → List ℕ → List ℕ
+story_line places rows line =
+    escaped_text (front Blank line) ++ story_rest places rows (front Blank line) (after_front Blank line)
 
 -- ---- lines
 
@@ -72,7 +72,7 @@ table_row tag attributes inside = element_text tags.Tr [] (element_text tag attr
 abbrev pub shown_line : LineKind → List Place → List Row → List ℕ → List ℕ
 shown_line Plain places rows line = escaped_text line
 shown_line Placed places rows line = table_row tags.Td [] (placed_line line)
-shown_line Told places rows line = told_line places rows line
+shown_line Story places rows line = story_line places rows line
 
 abbrev pub line_text : LineKind → List Place → List Row → List ℕ → List ℕ
 line_text kind places rows line = shown_line kind places rows line ++ codes "\n"

@@ -12,7 +12,7 @@ use Rattle.page.specs.Links.{Row}
 use Rattle.page.specs.declared.places.Place.{Place}
 use Rattle.page.specs.Lines.{Warned, row_id, table_row, lines_from, job_lines}
 use Rattle.page.specs.declared.kind.LineKind.{LineKind}
-use Rattle.page.specs.declared.kind.LineKind.TheVariants.{Plain, Placed, Told}
+use Rattle.page.specs.declared.kind.LineKind.TheVariants.{Plain, Placed, Story}
 use Rattle.page.specs.declared.style.TheConstants.{STYLE}
 
 -- What a page shows of a job: its name, how it ends, its text with the warnings about it, the names in the text, the chart and its rows, the
@@ -109,13 +109,13 @@ front_part shown =
 -- ---- what happens in it
 
 abbrev pub story_section : Shown → List ℕ
-story_section shown = folded (codes "story") (codes "Story") (pre Told shown shown.story)
+story_section shown = folded (codes "story") (codes "Story") (pre Story shown shown.story)
 
 abbrev pub report_section : Shown → List ℕ
 report_section shown = folded (codes "report") (codes "Report") (pre Plain shown shown.report)
 
-abbrev pub told_part : Shown → List ℕ
-told_part shown = story_section shown ++ report_section shown
+abbrev pub story_part : Shown → List ℕ
+story_part shown = story_section shown ++ report_section shown
 
 -- ---- what changes with a fault or a hair
 
@@ -140,7 +140,7 @@ tried_part shown = changing_section shown ++ faults_section shown ++ races_secti
 -- ---- the page
 
 abbrev pub main_element : Shown → List ℕ
-main_element shown = element_text tags.Main [] (front_part shown ++ told_part shown ++ tried_part shown)
+main_element shown = element_text tags.Main [] (front_part shown ++ story_part shown ++ tried_part shown)
 
 abbrev pub body : Shown → List ℕ
 body shown = element_text tags.Body [] (main_element shown ++ element_text tags.Footer [] (escaped_text shown.made))

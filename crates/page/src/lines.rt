@@ -3,7 +3,7 @@ ghost use Rattle.svg.specs.Escaping.{escaped_text};
 ghost use Rattle.svg.specs.declared.names.Tag.TheVariants as tags;
 ghost use Rattle.page.specs.Fronts.{front, after_front};
 ghost use Rattle.page.specs.Markup.{link};
-ghost use Rattle.page.specs.Lines.{line_id, row_id, is_place, placed_line, label_text, sentence_at, told_line, told_rest, told_after, table_row, shown_line, line_text, lines_from};
+ghost use Rattle.page.specs.Lines.{line_id, row_id, is_place, placed_line, label_text, sentence_at, story_line, story_rest, story_after, table_row, shown_line, line_text, lines_from};
 ghost use Rattle.page.specs.declared.front.ByteKind.TheVariants.{Dark};
 ghost use Rattle.page.specs.Views.{row_held};
 
@@ -77,7 +77,7 @@ fn push_shown(
     match kind {
         LineKind::Plain => text(out, line),
         LineKind::Placed => push_placed_row(alloc, out, line),
-        LineKind::Told => push_told(alloc, out, links, line),
+        LineKind::Story => push_story(alloc, out, links, line),
     }
 }
 
@@ -130,47 +130,47 @@ fn push_place(
 }
 
 // Appends a line of a story: a task, with a link to its row, and a sentence, with a link to a line of the job.
-fn push_told(
+fn push_story(
     alloc: Global,
     out: &mut Vec<u8>,
     links: Links<'_>,
     line: &[u8],
 ) -> Result<(), AllocError>
-    ensures { OnOk result (out.new.items ≡ out.old.items ++ told_line links.entry.places.now (map row_held links.entry.rows.now) line.now) }
+    ensures { OnOk result (out.new.items ≡ out.old.items ++ story_line links.entry.places.now (map row_held links.entry.rows.now) line.now) }
 {
     let (blanks, rest) = split_front(ByteKind::Blank, line);
     text(out, blanks)?;
-    push_told_rest(alloc, out, links, blanks, rest)
+    push_story_rest(alloc, out, links, blanks, rest)
 }
 
 // Appends the rest of a line of a story, which speaks of a task if the line begins with blanks.
-fn push_told_rest(
+fn push_story_rest(
     alloc: Global,
     out: &mut Vec<u8>,
     links: Links<'_>,
     blanks: &[u8],
     rest: &[u8],
 ) -> Result<(), AllocError>
-    ensures { OnOk result (out.new.items ≡ out.old.items ++ told_rest links.entry.places.now (map row_held links.entry.rows.now) blanks.now rest.now) }
+    ensures { OnOk result (out.new.items ≡ out.old.items ++ story_rest links.entry.places.now (map row_held links.entry.rows.now) blanks.now rest.now) }
 {
     match blanks.first() {
         Some(_) => {
             let (label, after) = split_front(ByteKind::Dark, rest);
-            push_told_of(alloc, out, links, label, after)
+            push_story_of(alloc, out, links, label, after)
         }
         None => text(out, rest),
     }
 }
 
 // Appends what a story says of a task.
-fn push_told_of(
+fn push_story_of(
     alloc: Global,
     out: &mut Vec<u8>,
     links: Links<'_>,
     label: &[u8],
     rest: &[u8],
 ) -> Result<(), AllocError>
-    ensures { OnOk result (out.new.items ≡ out.old.items ++ told_after links.entry.places.now (map row_held links.entry.rows.now) label.now rest.now) }
+    ensures { OnOk result (out.new.items ≡ out.old.items ++ story_after links.entry.places.now (map row_held links.entry.rows.now) label.now rest.now) }
 {
     let (blanks, sentence) = split_front(ByteKind::Blank, rest);
     push_label(alloc, out, links.rows, label)?;

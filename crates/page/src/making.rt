@@ -16,13 +16,14 @@ use job_runner::Gate;
 use std::alloc::{AllocError, Global};
 use std::thread::Threads;
 
-/// Returns a page about a job over an input: its formatted text with the warnings about it, how it ends, its chart, its story, its
-/// faults and its races, as the other commands show them, and its report. Lines of the tables and sentences of the story are
+/// Returns a page about a job over an input: its formatted text with the warnings about it, how it ends, its chart, its story,
+/// its faults and its races, as the other commands show them, and its report. Lines of the tables and sentences of the story are
 /// links to lines of the job, and the tasks in the story are links to their rows in the chart. If the job text is refused, the
 /// bytes are the refusal. The verdict is that of `serve` of `job_answers`.
 ///
-/// `made` says how the page was made. The number of workers and the gate, which is called as by `faults` and `races`, change no byte.
-/// The caller must ensure that the input has at most 16,777,216 bytes (`MAX_INPUT`). The only error is that memory runs out.
+/// `made` says how the page was made. The number of workers and the gate, which is called as by `faults` and `races`, change no
+/// byte. The caller must ensure that the input has at most 16,777,216 bytes (`MAX_INPUT`). The only error is that memory runs
+/// out.
 pub fn page<R: Threads + Sync, G: Gate + Sync>(
     rt: &R,
     alloc: Global,

@@ -1,7 +1,7 @@
 ghost use Rattle.std.specs.Prelude.{◌≡◌, ◌++◌, map, codes, IfOk, OnOk};
 ghost use Rattle.svg.specs.Content.{end_tag};
 ghost use Rattle.svg.specs.declared.names.Tag.TheVariants as tags;
-ghost use Rattle.page.specs.Pages.{head, headed, lines, pre, table_head, table_body, table_element, table, row_anchor, row_anchors, chart_part, job_section, chart_section, contents, front_part, story_section, report_section, told_part, fault_table, changing_section, faults_section, race_table, races_section, tried_part, main_element, body, page_element, page_text};
+ghost use Rattle.page.specs.Pages.{head, headed, lines, pre, table_head, table_body, table_element, table, row_anchor, row_anchors, chart_part, job_section, chart_section, contents, front_part, story_section, report_section, story_part, fault_table, changing_section, faults_section, race_table, races_section, tried_part, main_element, body, page_element, page_text};
 ghost use Rattle.page.specs.Markup.{link};
 ghost use Rattle.page.specs.Views.{row_held, shown_held};
 
@@ -95,7 +95,7 @@ fn push_main(alloc: Global, out: &mut Vec<u8>, shown: &Shown<'_>) -> Result<(), 
 {
     begin_plain(out, Tag::Main)?;
     push_front(alloc, out, shown)?;
-    push_told(alloc, out, shown)?;
+    push_story(alloc, out, shown)?;
     push_tried(alloc, out, shown)?;
     end(out, Tag::Main)
 }
@@ -200,8 +200,8 @@ fn push_row_anchor(alloc: Global, out: &mut Vec<u8>, row: &Row) -> Result<(), Al
 }
 
 // Appends what happens in the job: the story and the report.
-fn push_told(alloc: Global, out: &mut Vec<u8>, shown: &Shown<'_>) -> Result<(), AllocError>
-    ensures { OnOk result (out.new.items ≡ out.old.items ++ told_part (shown_held shown.now)) }
+fn push_story(alloc: Global, out: &mut Vec<u8>, shown: &Shown<'_>) -> Result<(), AllocError>
+    ensures { OnOk result (out.new.items ≡ out.old.items ++ story_part (shown_held shown.now)) }
 {
     push_story_section(alloc, out, shown)?;
     push_report_section(alloc, out, shown)
@@ -212,7 +212,7 @@ fn push_story_section(alloc: Global, out: &mut Vec<u8>, shown: &Shown<'_>) -> Re
     ensures { OnOk result (out.new.items ≡ out.old.items ++ story_section (shown_held shown.now)) }
 {
     begin_folded(out, b"story", b"Story")?;
-    push_pre(alloc, out, LineKind::Told, shown, shown.story)?;
+    push_pre(alloc, out, LineKind::Story, shown, shown.story)?;
     end_folded(out)
 }
 

@@ -4,7 +4,7 @@ use Rattle.std.specs.Prelude.{codes}
 use Rattle.outcomes.specs.Table.{left_text, right_text}
 use Rattle.outcomes.proofs.Joined.{two}
 use Rattle.race_text.specs.Lines.{Line}
-use Rattle.race_text.specs.Table.{place_text, step_text, hair_text, told_text, line_text}
+use Rattle.race_text.specs.Table.{place_text, step_text, hair_text, finding_text, line_text}
 use Rattle.race_text.specs.declared.columns.Widths.{Widths}
 
 -- the columns of a line
@@ -26,5 +26,5 @@ pub lined : (w : Widths) (l : Line) (old f g new : List ℕ) →
     f ≡ old
     ++ (right_text w.place (place_text l) ++ codes "  " ++ left_text w.step (step_text l) ++ codes "  " ++ left_text w.hair (hair_text l)
     ++ codes "  ") →
-    g ≡ f ++ told_text l → new ≡ g ++ codes "\n" → new ≡ old ++ line_text w l
+    g ≡ f ++ finding_text l → new ≡ g ++ codes "\n" → new ≡ old ++ line_text w l
 lined w l old f g new pf pg pn = two _ _ _ _ _ (two _ _ _ _ _ pf pg) pn

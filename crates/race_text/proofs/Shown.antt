@@ -12,8 +12,8 @@ use Rattle.race_text.specs.declared.line.Line.{Line}
 pub denied_by : (ls : List Line) (n : ℕ) (w : Widths) (out : List ℕ) → length ls ≤ n → w ≡ widths_of (lines_that is_shown (map line_held ls)) →
     out ++ lines_text w (lines_that is_shown (map line_held (drop n ls))) ≡ lines_text w (lines_that is_shown (map line_held ls)) →
     out ≡ denied_text (map line_held ls)
-denied_by ls n w out over same told =
+denied_by ls n w out over same shown =
     let none : drop n ls ≡ [] = drop_all n ls over in
     let all : out ++ [] ≡ lines_text w (lines_that is_shown (map line_held ls))
-    = ap (λ xs. out ++ lines_text w (lines_that is_shown (map line_held xs))) (sym none) ∙ told in
+    = ap (λ xs. out ++ lines_text w (lines_that is_shown (map line_held xs))) (sym none) ∙ shown in
     sym (append-nil out) ∙ all ∙ ap (λ v. lines_text v (lines_that is_shown (map line_held ls))) same

@@ -17,7 +17,7 @@ pub data Found : Type 0 where
 -- or two copies of one `start` that meet in a tick, which cannot be moved apart in the text; `count` is that of its `over`. Places
 -- are those of the author's text.
 pub data Line : Type 0 where
-  finer : (found : Found) → Line
+  in_finer_ticks : (found : Found) → Line
   moved : (line : ℕ) → (column : ℕ) → (moment : Moment) → (hair : Hair) → (found : Found) → Line
   copies : (line : ℕ) → (column : ℕ) → (name : List ℕ) → (count : Option ℕ) → (one : Label) → (other : Label) → (tick : ℕ) → Line
 
@@ -30,7 +30,7 @@ is_some_found (differs (d ∷ ds)) = true
 
 -- a line is shown if something differs, nothing was compared, or copies meet
 abbrev pub is_shown : Line → Bool
-is_shown (finer found) = is_some_found found
+is_shown (in_finer_ticks found) = is_some_found found
 is_shown (moved line column moment hair found) = is_some_found found
 is_shown (copies line column name count one other tick) = true
 
@@ -41,7 +41,7 @@ is_race_found (differs (d ∷ ds)) = true
 
 -- a race: something differs, or copies meet
 abbrev pub is_race : Line → Bool
-is_race (finer found) = is_race_found found
+is_race (in_finer_ticks found) = is_race_found found
 is_race (moved line column moment hair found) = is_race_found found
 is_race (copies line column name count one other tick) = true
 
@@ -51,13 +51,13 @@ is_not_tried_found (differs tasks) = false
 
 -- nothing was compared
 abbrev pub is_not_tried : Line → Bool
-is_not_tried (finer found) = is_not_tried_found found
+is_not_tried (in_finer_ticks found) = is_not_tried_found found
 is_not_tried (moved line column moment hair found) = is_not_tried_found found
 is_not_tried (copies line column name count one other tick) = false
 
 -- a hair with which nothing was compared
 abbrev pub is_hair_not_tried : Line → Bool
-is_hair_not_tried (finer found) = false
+is_hair_not_tried (in_finer_ticks found) = false
 is_hair_not_tried (moved line column moment hair found) = is_not_tried_found found
 is_hair_not_tried (copies line column name count one other tick) = false
 

@@ -21,7 +21,7 @@ same_entry (nursery_shown l t caught) (nursery_shown l' t' caught') = same_label
 same_entry (wait_shown l t) (wait_shown l' t') = same_label l l'
 same_entry _ _ = false
 
--- the same entries in the same order
+-- two lists have equal entries in one order
 abbrev pub same_entries : List Shown → List Shown → Bool
 same_entries [] [] = true
 same_entries (x ∷ xs) (y ∷ ys) = same_entry x y && same_entries xs ys

@@ -6,7 +6,7 @@ use Rattle.job_edits.specs.declared.shift.Hair.TheVariants.{Earlier, Later}
 use Rattle.job_edits.specs.Sites.{moment_text}
 use Rattle.outcomes.specs.Table.{left_text, right_text, more_text}
 use Rattle.race_text.specs.declared.columns.Widths.{Widths}
-use Rattle.race_text.specs.Lines.{Line, finer, moved, copies, is_shown, is_race, is_not_tried, is_hair_not_tried, found_text}
+use Rattle.race_text.specs.Lines.{Line, in_finer_ticks, moved, copies, is_shown, is_race, is_not_tried, is_hair_not_tried, found_text}
 
 -- ---- columns
 
@@ -14,7 +14,7 @@ abbrev pub at_text : ℕ → ℕ → List ℕ
 at_text line column = decimal line ++ codes ":" ++ decimal column
 
 abbrev pub place_text : Line → List ℕ
-place_text (finer found) = []
+place_text (in_finer_ticks found) = []
 place_text (moved line column moment hair found) = at_text line column
 place_text (copies line column name count one other tick) = at_text line column
 
@@ -24,7 +24,7 @@ over_text None = []
 over_text (Some count) = codes " over " ++ decimal count
 
 abbrev pub step_text : Line → List ℕ
-step_text (finer found) = []
+step_text (in_finer_ticks found) = []
 step_text (moved line column moment hair found) = moment_text moment
 step_text (copies line column name count one other tick) = codes "start " ++ name ++ over_text count
 
@@ -33,14 +33,14 @@ hair_name Earlier = codes "earlier"
 hair_name Later = codes "later"
 
 abbrev pub hair_text : Line → List ℕ
-hair_text (finer found) = codes "finer"
+hair_text (in_finer_ticks found) = codes "finer"
 hair_text (moved line column moment hair found) = hair_name hair
 hair_text (copies line column name count one other tick) = codes "copies"
 
-abbrev pub told_text : Line → List ℕ
-told_text (finer found) = found_text found
-told_text (moved line column moment hair found) = found_text found
-told_text (copies line column name count one other tick) = label_text one ++ codes " and " ++ label_text other ++ codes " meet at " ++ decimal tick
+abbrev pub finding_text : Line → List ℕ
+finding_text (in_finer_ticks found) = found_text found
+finding_text (moved line column moment hair found) = found_text found
+finding_text (copies line column name count one other tick) = label_text one ++ codes " and " ++ label_text other ++ codes " meet at " ++ decimal tick
 
 -- the longest text of a column
 abbrev pub width_of : (Line → List ℕ) → List Line → ℕ
@@ -56,7 +56,7 @@ widths_of ls = record { place = width_of place_text ls; step = width_of step_tex
 abbrev pub line_text : Widths → Line → List ℕ
 line_text w l =
     right_text w.place (place_text l) ++ codes "  " ++ left_text w.step (step_text l) ++ codes "  " ++ left_text w.hair (hair_text l) ++ codes "  "
-    ++ told_text l ++ codes "\n"
+    ++ finding_text l ++ codes "\n"
 
 abbrev pub lines_text : Widths → List Line → List ℕ
 lines_text w [] = []

@@ -30,7 +30,7 @@ pub(crate) fn place_of(alloc: Global, line: &Line) -> Result<Vec<u8>, AllocError
 {
     let mut text = Vec::new(alloc);
     match line {
-        Line::Finer(_) => {}
+        Line::InFinerTicks(_) => {}
         Line::Moved { line, column, .. } | Line::Copies { line, column, .. } => {
             push_at(&mut text, *line, *column)?;
         }
@@ -45,7 +45,7 @@ pub fn step_of(alloc: Global, line: &Line) -> Result<Vec<u8>, AllocError>
 {
     let mut text = Vec::new(alloc);
     match line {
-        Line::Finer(_) => {}
+        Line::InFinerTicks(_) => {}
         Line::Moved { moment, .. } => {
             let moment = *moment;
             push_moment(&mut text, moment)?;
@@ -75,7 +75,7 @@ pub(crate) fn hair_of(line: &Line) -> &'static [u8]
     ensures { result.now ≡ hair_text (line_held line.now) }
 {
     match line {
-        Line::Finer(_) => b"finer",
+        Line::InFinerTicks(_) => b"finer",
         Line::Moved { hair, .. } => match hair {
             Hair::Earlier => b"earlier",
             Hair::Later => b"later",

@@ -23,6 +23,7 @@
 
 mod acts;
 mod columns;
+mod finding;
 mod line;
 mod meeting;
 mod outcome;
@@ -31,7 +32,6 @@ mod same;
 mod sights;
 mod table;
 mod tasks;
-mod told;
 
 pub use columns::step_of;
 pub use line::{Found, Line};

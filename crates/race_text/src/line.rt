@@ -51,7 +51,7 @@ impl Found {
 #[derive(Drop)]
 pub enum Line {
     /// The job in finer ticks, compared with the job as it is.
-    Finer(Found),
+    InFinerTicks(Found),
     /// One place moved by a hair, compared with the job in finer ticks.
     Moved {
         /// The line of the place.
@@ -90,7 +90,7 @@ impl Line {
         ensures { result ≡ is_shown (line_held self.now) }
     {
         match self {
-            Line::Finer(found) | Line::Moved { found, .. } => found.is_some(),
+            Line::InFinerTicks(found) | Line::Moved { found, .. } => found.is_some(),
             Line::Copies { .. } => true,
         }
     }
@@ -100,7 +100,7 @@ impl Line {
         ensures { result ≡ is_race (line_held self.now) }
     {
         match self {
-            Line::Finer(found) | Line::Moved { found, .. } => found.is_race(),
+            Line::InFinerTicks(found) | Line::Moved { found, .. } => found.is_race(),
             Line::Copies { .. } => true,
         }
     }
@@ -110,7 +110,7 @@ impl Line {
         ensures { result ≡ is_not_tried (line_held self.now) }
     {
         match self {
-            Line::Finer(found) | Line::Moved { found, .. } => found.is_not_tried(),
+            Line::InFinerTicks(found) | Line::Moved { found, .. } => found.is_not_tried(),
             Line::Copies { .. } => false,
         }
     }
@@ -121,7 +121,7 @@ impl Line {
     {
         match self {
             Line::Moved { found, .. } => found.is_not_tried(),
-            Line::Finer(_) | Line::Copies { .. } => false,
+            Line::InFinerTicks(_) | Line::Copies { .. } => false,
         }
     }
 }

@@ -23,7 +23,7 @@ pub struct Meeting {
     pub tick: u64,
 }
 
-// The same with borrowed labels.
+// Two copies of a task that meet, with borrowed labels.
 #[derive(Clone, Copy)]
 struct Met<'e> {
     one: &'e Label,
@@ -31,12 +31,13 @@ struct Met<'e> {
     tick: u64,
 }
 
-/// Returns the earliest meeting of two tasks with this name that one `start .. over` started together, or that a `start` started in
-/// two passes of the `repeat` that it is in, or `None` if there is none: their indices differ only in the last one. They meet if one of them, or a descendant of it, cancels something, and the other, or a descendant of it, has an event
-/// at most a hair earlier or later that is neither a start nor a cancellation. In which rounds of their ticks the events are does
-/// not matter. If several meetings are in the same tick, the first in the order of the walk is returned. `walked` are the events
-/// of a story in the order of the walk, `clock` is how their time is counted, and `hair` is a number of ticks. The only error is
-/// that memory runs out.
+/// Returns the earliest meeting of two tasks with this name that one `start .. over` started together, or that a `start` started
+/// in two passes of the `repeat` that it is in, or `None` if there is none: their indices differ only in the last one. They meet
+/// if one of them, or a descendant of it, cancels something, and the other, or a descendant of it, has an event at most a hair
+/// earlier or later that is neither a start nor a cancellation. In which rounds of their ticks the events are does not matter. If
+/// several meetings are in the same tick, the first in the order of the walk is returned. `walked` are the events of a story in
+/// the order of the walk, `clock` is how their time is counted, and `hair` is a number of ticks. The only error is that memory
+/// runs out.
 pub fn meeting_of(
     alloc: Global,
     clock: Clock,

@@ -10,8 +10,8 @@ use exceptions::Label;
 use job_tree::Name;
 use task_machine::Entry;
 
-// Returns whether two entries are the same line, or exits of the same scope or nursery that both caught or
-// both did not, or waits for the same event.
+// Returns whether two entries are the same line, or exits of the same scope or nursery that both caught or both did not, or waits
+// for the same event.
 fn is_same_entry(a: &Entry<'_>, b: &Entry<'_>) -> bool
     ensures { result ≡ same_entry (entry_of a.now) (entry_of b.now) }
 {
@@ -59,8 +59,8 @@ pub(crate) fn are_same_entries(scope: Name, a: &[Entry<'_>], b: &[Entry<'_>]) ->
     next_kept(scope, b, next) >= b.len()
 }
 
-// Returns the index after the entry that is the same as `entry` and is the first one from `from` on that is no exit of a scope with
-// this name; or `from` itself if `entry` is such an exit. Returns `None` if that one is another entry, or if there is none.
+// Returns the index after the entry that is the same as `entry` and is the first one from `from` on that is no exit of a scope
+// with this name; or `from` itself if `entry` is such an exit. Returns `None` if that one is another entry, or if there is none.
 fn after_same(scope: Name, entry: &Entry<'_>, entries: &[Entry<'_>], from: usize) -> Option<usize>
     requires { from ≤ length entries.now }
     ensures { (xs : List Shown) → MatchOption result

@@ -3,7 +3,7 @@ ghost use Rattle.std.specs.Str.{bytes_eq};
 ghost use Rattle.job_meaning.specs.Log.{same_label};
 ghost use Rattle.job_story.specs.Held.{event_of};
 ghost use Rattle.story_index.specs.Seen.{event_in};
-ghost use Rattle.race_text.specs.Copies as told;
+ghost use Rattle.race_text.specs.Copies as copies;
 ghost use Rattle.race_text.specs.Copies.{starts_copy, ends_copy, copy_at, open_copy, with_sight, sights_of};
 ghost use Rattle.race_text.specs.CopyViews.{label_seen, sight_held};
 
@@ -48,7 +48,7 @@ fn push_sight<'e>(
     copy: Option<&'e Label>,
     event: &'e Event,
 ) -> Result<(), AllocError>
-    ensures { OnOk result ((later : List told.Sight) → map sight_held sights.new.items ++ later
+    ensures { OnOk result ((later : List copies.Sight) → map sight_held sights.new.items ++ later
         ≡ map sight_held sights.old.items ++ with_sight clock (label_seen copy.entry) (event_of event.entry.now) later) }
 {
     let Some(copy) = copy else {

@@ -4,13 +4,13 @@ ghost use Rattle.race_text.specs.Table.{lines_that, widths_of, line_text, lines_
 ghost use Rattle.race_text.specs.LineViews.{line_held};
 
 use crate::columns::{Widths, hair_of, place_of, step_of};
+use crate::finding::push_finding;
 use crate::line::Line;
-use crate::told::push_told;
 use outcomes::{push_count, push_left, push_more, push_right};
 use std::alloc::{AllocError, Global};
 
-/// Returns the text of the table: each line that is shown, in their order, how many hairs there are, how many lines are races, and
-/// with how many hairs nothing was compared. The only error is that memory runs out.
+/// Returns the text of the table: each line that is shown, in their order, how many hairs there are, how many lines are races,
+/// and with how many hairs nothing was compared. The only error is that memory runs out.
 pub fn race_table(alloc: Global, hairs: usize, lines: &[Line]) -> Result<Vec<u8>, AllocError>
     ensures { IfOk result (λ text. text.items ≡ table_text hairs (map line_held lines.now)) }
 {
@@ -25,8 +25,8 @@ pub fn race_table(alloc: Global, hairs: usize, lines: &[Line]) -> Result<Vec<u8>
     Ok(out)
 }
 
-/// Returns the lines of the table as they are in the text of `race_table`, without the counts: each is a race, or says that nothing
-/// was compared, so that there may be one. The text is empty if there are none. The only error is that memory runs out.
+/// Returns the lines of the table as they are in the text of `race_table`, without the counts: each is a race, or says that
+/// nothing was compared, so that there may be one. The text is empty if there are none. The only error is that memory runs out.
 pub fn race_denied(alloc: Global, lines: &[Line]) -> Result<Vec<u8>, AllocError>
     ensures { IfOk result (λ text. text.items ≡ denied_text (map line_held lines.now)) }
 {
@@ -76,7 +76,7 @@ fn push_line(
     out.extend_from_slice(b"  ")?;
     push_left(out, widths.hair, hair_of(line))?;
     out.extend_from_slice(b"  ")?;
-    push_told(out, line)?;
+    push_finding(out, line)?;
     out.extend_from_slice(b"\n")
 }
 

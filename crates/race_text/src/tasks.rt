@@ -23,17 +23,17 @@ pub enum Difference {
         /// How it ends in the second run, without ticks, or `not started` if it does not exist there.
         after: Vec<u8>,
     },
-    /// The task ends in the same way, and has other lines, or left other scopes or nurseries, or did so in another way, or waited for
-    /// other events.
+    /// The task ends in the same way, and has other lines, or left other scopes or nurseries, or did so in another way, or waited
+    /// for other events.
     Inside {
         /// The task.
         task: Label,
     },
 }
 
-/// Returns each task for which the records of two runs do not show the same, apart from ticks and from the exits of scopes with the
-/// name `scope`: those of the first run, in the order of its records, and then those that only the second has. The only error is
-/// that memory runs out.
+/// Returns each task for which the records of two runs do not show the same, apart from ticks and from the exits of scopes with
+/// the name `scope`: those of the first run, in the order of its records, and then those that only the second has. The only error
+/// is that memory runs out.
 pub fn differences(
     alloc: Global,
     scope: Name,

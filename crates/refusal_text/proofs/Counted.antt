@@ -2,7 +2,7 @@
 use Rattle.std.proofs.Common.{◌≡◌, ℕ, suc, ◌+◌, ◌-◌, ◌≤◌, ◌==◌, if◌then◌else◌, Bool, true, false, List, [], ◌∷◌, ◌++◌, length, take, drop, min, refl, ap, sym, ◌∙◌, take-add, length-take, arith}
 use Rattle.basics.specs.Places.{line_from, column_from, line_of, column_of}
 use Rattle.refusal_text.specs.Explaining.{most_before}
-use Rattle.refusal_text.proofs.Told.{cut_front, cut_back}
+use Rattle.refusal_text.proofs.Messages.{cut_front, cut_back}
 
 line_after : (n : ℕ) (xs ys : List ℕ) → line_from n (xs ++ ys) ≡ line_from (line_from n xs) ys
 line_after n [] ys = refl

@@ -1,3 +1,3 @@
-pub mod Told
+pub mod Messages
 pub mod Read
 pub mod Counted

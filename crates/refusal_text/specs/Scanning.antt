@@ -29,7 +29,7 @@ open_blocks_after places at (Some mark.Open) = at ∷ places
 open_blocks_after places at (Some mark.Close) = drop 1 places
 open_blocks_after places at (Some mark.Semicolon) = places
 
--- the same after tokens
+-- the places of the open blocks, innermost first, after these tokens
 abbrev pub open_blocks : List ℕ → List Token → List ℕ
 open_blocks places [] = places
 open_blocks places (t ∷ ts) = open_blocks (open_blocks_after places t.at (mark_in t.shape)) ts

@@ -22,12 +22,12 @@ abbrev pub around_stray : List Use → Option (List (List ℕ))
 around_stray [] = None
 around_stray (u ∷ us) = if is_among u.around u.name then around_stray us else Some u.around
 
--- the same in a job, where there is one
+-- the names of what encloses the first such use in a job, where there is one
 abbrev pub enclosing_names : Option Tree → Option (List (List ℕ))
 enclosing_names None = None
 enclosing_names (Some job) = around_stray (uses_of [] [] job.steps)
 
--- the same in the job that the tokens of a text spell
+-- these are the names of what encloses the first such use in the job that the tokens of a text spell
 abbrev pub IsEnclosing : List ℕ → Option (List (List ℕ)) → Type 0
 IsEnclosing text names = (tokens : List Token) × (fault : Option ℕ) × HasTokens text tokens fault
     × (names ≡ enclosing_names (job_at (format_of text) (shapes_of tokens)))

@@ -95,8 +95,8 @@ fn syntax_findings(alloc: Global, text: &[u8], at: usize) -> Result<Findings, Al
     })
 }
 
-// Returns what could be named at a place whose name nothing of its kind around it has, and that the name in a `cancel` is that of a
-// task.
+// Returns what could be named at a place whose name nothing of its kind around it has, and that the name in a `cancel` is that of
+// a task.
 fn stray_findings(alloc: Global, text: &[u8], at: usize) -> Result<Findings, AllocError>
     ensures asked { IfOk result (λ found. found.asked ≡ None) }
     ensures hint { IfOk result (λ found. IsStrayHint text.now at found.hint) }

@@ -4,8 +4,8 @@ ghost use Rattle.refusal_text.specs.Positions.{IsPosition};
 
 use basics::{column_of, line_of};
 
-/// A place in a job text, with its line and its column. The line and the column of a later place are counted on from here, so that
-/// the places of many messages, in the order of the text, are found in one pass over the text.
+/// A place in a job text, with its line and its column. The line and the column of a later place are counted on from here, so
+/// that the places of many messages, in the order of the text, are found in one pass over the text.
 #[derive(Clone, Copy)]
 pub struct Position {
     pub(crate) at: usize,
@@ -26,8 +26,8 @@ impl Position {
         }
     }
 
-    /// Returns the position of another place of the text. Bytes are counted on from this position, or from the start of the text if
-    /// the place is before it. Requires that this is a position of the text.
+    /// Returns the position of another place of the text. Bytes are counted on from this position, or from the start of the text
+    /// if the place is before it. Requires that this is a position of the text.
     #[tactic(auto, using(crate::proofs::Counted::line_most, crate::proofs::Counted::column_most))]
     pub fn moved_to(self, text: &[u8], at: usize) -> Position
         requires { IsPosition text.now self }

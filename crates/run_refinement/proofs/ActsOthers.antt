@@ -1,4 +1,5 @@
--- What a task does to scopes leaves the froms of other tasks' scopes to the table, and a label to no scope that is not open.
+-- What a task does to scopes leaves the moments of cancellation of other tasks' scopes to the table, and a label to no scope that
+-- is not open.
 use Rattle.std.proofs.Common.{◌≡◌, ◌≢◌, ◌⊎◌, inl, inr, ℕ, Bool, Some, List, ap, sym, ◌∙◌, subst, Option}
 use Rattle.std.specs.Prelude.{IsSome}
 use Rattle.std.specs.Option.{option_map}
@@ -7,14 +8,14 @@ use Rattle.cancel_scopes.specs.Sight.{Tick}
 use Rattle.cancel_scopes.specs.Tree.{Stack, Tree, stack_of, IsOpen, after_cancel}
 use Rattle.job_meaning.specs.Log.{Table}
 use Rattle.job_meaning.specs.Rest.{Event}
-use Rattle.turn_semantics.specs.Steps.{froms_after_sign, froms_after_entry, froms_after}
+use Rattle.turn_semantics.specs.Steps.{cancelled_from_after_sign, cancelled_from_after_entry, cancelled_from_after}
 use Rattle.task_machine.specs.declared.task.Own.{Own}
 use Rattle.task_machine.specs.Acts.{Scoping, Signs, Sets, kept_from, Enters, Leaves, Acts, no_act, act_noted, act_starts, act_signs, act_sets, act_enters, act_leaves}
 use Rattle.task_machine.specs.Fitting.{AreOthers}
 use Rattle.task_machine.specs.Labels.{Labels}
 use Rattle.run_refinement.specs.Turn.{AreNew}
 use Rattle.run_refinement.proofs.ActsKeep.{Sound, Apart, HasKnown, is_open, all_last, open_differs, open_else, mapped_is, labelled_before, labelled_left, apart_signs, apart_sets, apart_enters, apart_leaves, sound_signs, sound_sets, sound_enters, sound_leaves}
-use Rattle.run_refinement.proofs.ActsFroms.{opened_other}
+use Rattle.run_refinement.proofs.ActsCancelledFrom.{opened_other}
 use Rattle.run_refinement.proofs.ActsStay.{stays_signs, stays_sets, keeps_enters, keeps_leaves}
 use Rattle.run_refinement.proofs.ActsTracks.{kept_signed, kept_set}
 
@@ -25,7 +26,7 @@ abbrev pub IsKept : Table → Scoping → ℕ → Label → Type 0
 IsKept f s key l = (st : Stack) × (stack_of s.tree key ≡ Some st) × (s.labels key ≡ Some l) × (kept_from (s.events key) st ≡ f l)
 
 kept_signs : {t : ℕ} {label : Label} {s m : Scoping} → (f : Table) (key : ℕ) (l : Label) → Signs t label s m → Sound s → Apart s →
-    IsKept f s key l → IsKept (froms_after_sign f label t) m key l
+    IsKept f s key l → IsKept (cancelled_from_after_sign f label t) m key l
 kept_signs {t} {label} {s} {m} f key l g sound apart k = (
   after_cancel g.key t k.0,
   g.cancels.stacks key ∙ ap (option_map (after_cancel g.key t)) k.1,
@@ -34,7 +35,7 @@ kept_signs {t} {label} {s} {m} f key l g sound apart k = (
 )
 
 kept_sets : {t : ℕ} {label : Label} {s m : Scoping} → (f : Table) (key : ℕ) (l : Label) → Sets t label s m → Apart s →
-    IsKept f s key l → IsKept (froms_after_sign f label t) m key l
+    IsKept f s key l → IsKept (cancelled_from_after_sign f label t) m key l
 kept_sets {t} {label} {s} {m} f key l g apart k = (
   k.0,
   ap (λ (tree : Tree). stack_of tree key) g.tree ∙ k.1,
@@ -44,7 +45,7 @@ kept_sets {t} {label} {s} {m} f key l g apart k = (
 
 kept_enters : {parent : Option ℕ} {label : Label} {is_event : Bool} {d : Tick} {s m : Scoping} → (known : Label → Type 0) (f : Table) (key : ℕ) (l : Label) → Enters parent label is_event d s m →
     HasKnown known s → (known label → ⊥) →
-    IsKept f s key l → IsKept (froms_after_entry f label d) m key l
+    IsKept f s key l → IsKept (cancelled_from_after_entry f label d) m key l
 kept_enters {label} {d} {s} {m} known f key l g has new k = (
   k.0,
   g.others key differs ∙ k.1,
@@ -70,21 +71,21 @@ kept_leaves {s} {m} f key l g others k = (
 -- whatever a task does, an open scope that is none of its own keeps its label, and its from is the label's
 pub kept_acts : {t : ℕ} → (known : Label → Type 0) (f : Table) (key : ℕ) (l : Label) → {s u : Scoping} {es : List Event} → Acts t s es u →
     Sound s → Apart s → HasKnown known s → AreNew known es →
-    AreOthers key s.own → IsKept f s key l → IsKept (froms_after f es) u key l
+    AreOthers key s.own → IsKept f s key l → IsKept (cancelled_from_after f es) u key l
 kept_acts known f key l (no_act s) sound apart has new others k = k
 kept_acts known f key l (act_noted s u t e es a) sound apart has new others k = kept_acts known f key l a sound apart has new others k
 kept_acts known f key l (act_starts s u i x t es a) sound apart has new others k = kept_acts known f key l a sound apart has new others k
 kept_acts {t} known f key l (act_signs s m u x es g a) sound apart has new others k =
     let n = apart_signs known g apart has in
-    kept_acts known (froms_after_sign f x t) key l a (sound_signs g sound) n.0 n.1 new (stays_signs g k.1 others).others
+    kept_acts known (cancelled_from_after_sign f x t) key l a (sound_signs g sound) n.0 n.1 new (stays_signs g k.1 others).others
     (kept_signs f key l g sound apart k)
 kept_acts {t} known f key l (act_sets s m u x es g a) sound apart has new others k =
     let n = apart_sets known g apart has in
-    kept_acts known (froms_after_sign f x t) key l a (sound_sets g sound) n.0 n.1 new (stays_sets g k.1 others).others
+    kept_acts known (cancelled_from_after_sign f x t) key l a (sound_sets g sound) n.0 n.1 new (stays_sets g k.1 others).others
     (kept_sets f key l g apart k)
 kept_acts known f key l (act_enters s m u x t d es g a) sound apart has new others k =
     let n = apart_enters known g new.0 apart has in
-    kept_acts (λ y. (y ≡ x) ⊎ known y) (froms_after_entry f x d) key l a (sound_enters g sound) n.0 n.1 new.1 (keeps_enters g sound k.1 others).others
+    kept_acts (λ y. (y ≡ x) ⊎ known y) (cancelled_from_after_entry f x d) key l a (sound_enters g sound) n.0 n.1 new.1 (keeps_enters g sound k.1 others).others
     (kept_enters known f key l g has new.0 k)
 kept_acts known f key l (act_leaves s m u es g a) sound apart has new others k =
     let n = apart_leaves known g apart has in

@@ -16,7 +16,7 @@ use Rattle.task_machine.specs.Labels.{Labels}
 use Rattle.run_refinement.specs.Sights.{Shows}
 use Rattle.run_refinement.specs.Turn.{AreNew}
 use Rattle.run_refinement.proofs.ActsKeep.{Apart, HasKnown, NoneHas, is_open, same_or, open_differs, labelled_left, apart_signs, apart_sets, apart_enters, apart_leaves}
-use Rattle.run_refinement.proofs.ActsFroms.{unmoved}
+use Rattle.run_refinement.proofs.ActsCancelledFrom.{unmoved}
 
 -- ---- effective deadlines
 

@@ -1,4 +1,5 @@
--- A scope that has its label before and after a turn keeps its stack but for froms, and an event stays as it is or is set.
+-- A scope that has its label before and after a turn keeps its stack but for moments of cancellation, and an event stays as it is
+-- or is set.
 use Rattle.std.proofs.Common.{◌≡◌, ◌≢◌, ◌⊎◌, inl, inr, ℕ, Some, List, refl, ap, sym, ◌∙◌, subst}
 use Rattle.std.specs.Option.{option_map}
 use Rattle.exceptions.specs.Exceptions.{Label}

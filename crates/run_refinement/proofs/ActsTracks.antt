@@ -1,4 +1,4 @@
--- The froms that a task keeps of the scopes that it opened are those of the world, whatever it does to scopes.
+-- The moments of cancellation that a task keeps of the scopes that it opened are those of the world, whatever it does to scopes.
 use Rattle.std.proofs.Common.{◌≡◌, ◌≢◌, ◌⊎◌, inl, inr, ℕ, zero, suc, Bool, true, false, Some, None, List, [], ◌∷◌, ◌++◌, length, map, append_assoc, append-nil, refl, ap, sym, ◌∙◌, subst, Option}
 use Rattle.std.proofs.lemmas.List.{map-append}
 use Rattle.std.proofs.lemmas.List.Elements.{All-nil, All-cons, All-head, All-tail, All-append}
@@ -11,7 +11,7 @@ use Rattle.cancel_scopes.specs.Tree.{Stack, Tree, stack_of, own_from, own_label,
 use Rattle.job_meaning.specs.Log.{Table, same_label}
 use Rattle.job_meaning.specs.Rest.{Event}
 use Rattle.job_meaning.proofs.Distinct.{same_label_itself}
-use Rattle.turn_semantics.specs.Steps.{froms_after_sign, from_lowered_if, froms_after_entry, from_entered_if, froms_after}
+use Rattle.turn_semantics.specs.Steps.{cancelled_from_after_sign, from_lowered_if, cancelled_from_after_entry, from_entered_if, cancelled_from_after}
 use Rattle.task_machine.specs.declared.entry.ScopeFrom.{ScopeFrom}
 use Rattle.task_machine.specs.declared.task.Own.{Own}
 use Rattle.task_machine.specs.Acts.{Scoping, Signs, Sets, set_at_entry, kept_from, Enters, Leaves, Acts, no_act, act_noted, act_starts, act_signs, act_sets, act_enters, act_leaves}
@@ -21,7 +21,7 @@ use Rattle.interleavings.specs.Rows.{entered_made}
 use Rattle.run_refinement.specs.RunState.{Differ, IsPast, Tracks}
 use Rattle.run_refinement.specs.Turn.{AreNew}
 use Rattle.run_refinement.proofs.ActsKeep.{Sound, Apart, HasKnown, NoneHas, KnownWith, is_open, not_both, all_first, all_last, open_differs, labelled_left, known_one, same_or, apart_signs, apart_sets, apart_enters, apart_leaves, sound_signs, sound_sets, sound_enters, sound_leaves}
-use Rattle.run_refinement.proofs.ActsFroms.{alone_of, lowered_other, opened_other, signed_has, set_has, none_signs, none_sets, none_enters, none_leaves}
+use Rattle.run_refinement.proofs.ActsCancelledFrom.{alone_of, lowered_other, opened_other, signed_has, set_has, none_signs, none_sets, none_enters, none_leaves}
 use Rattle.task_machine.proofs.Others.{others_but}
 use Rattle.task_machine.proofs.Stacked.{one_of, signed_at}
 use Rattle.run_refinement.proofs.Found.{got_first}
@@ -120,7 +120,7 @@ differ_first (y ∷ own) o d =
 -- the from of a scope after a cancellation, which is perhaps its own
 pub own_from_signed : {t : ℕ} {label : Label} {s m : Scoping} (f : Table) (st : Stack) (id : ℕ) (l : Label) → (g : Signs t label s m) →
     Apart s → own_label st ≡ Some id → s.labels id ≡ Some l →
-    own_from st ≡ f l → own_from (after_cancel g.key t st) ≡ froms_after_sign f label t l
+    own_from st ≡ f l → own_from (after_cancel g.key t st) ≡ cancelled_from_after_sign f label t l
 own_from_signed f [] id l g h first e from = absurd (not_both refl first)
 own_from_signed {t} {label} {s} {m} f (x ∷ xs) id l g h first e from =
     (signed_at s.labels (λ key. None) f (x ∷ []) (record { label = l; shield = x.shield; is_event = false } ∷ []) g.key t label g.labelled refl
@@ -136,21 +136,21 @@ label_apart {t} {label} {s} {m} id l g h e differs same =
 -- the kept from of a scope, or of an event, after a cancellation
 pub kept_signed : {t : ℕ} {label : Label} {s m : Scoping} (f : Table) (st : Stack) (id : ℕ) (l : Label) → (g : Signs t label s m) →
     Apart s → own_label st ≡ Some id → s.labels id ≡ Some l →
-    kept_from (s.events id) st ≡ f l → kept_from (m.events id) (after_cancel g.key t st) ≡ froms_after_sign f label t l
+    kept_from (s.events id) st ≡ f l → kept_from (m.events id) (after_cancel g.key t st) ≡ cancelled_from_after_sign f label t l
 kept_signed {t} {label} {s} {m} f st id l g h first e kept =
     ap (λ (z : Events). kept_from (z id) (after_cancel g.key t st)) g.events ∙ by_kind (s.events id) refl kept
   where
-    by_kind : (o : Option Tick) → s.events id ≡ o → kept_from o st ≡ f l → kept_from o (after_cancel g.key t st) ≡ froms_after_sign f label t l
+    by_kind : (o : Option Tick) → s.events id ≡ o → kept_from o st ≡ f l → kept_from o (after_cancel g.key t st) ≡ cancelled_from_after_sign f label t l
     by_kind None is from = own_from_signed f st id l g h first e from
     by_kind (Some set) is from =
         from ∙ sym (lowered_other f label l t (label_apart id l g h e (λ same. not_both (ap s.events same ∙ g.no_event) is)))
 
 -- the kept from of a scope, or of an event, after an event is set, which is perhaps its own
 pub kept_set : {t : ℕ} {label : Label} {s m : Scoping} (f : Table) (st : Stack) (id : ℕ) (l : Label) → (g : Sets t label s m) →
-    Apart s → s.labels id ≡ Some l → kept_from (s.events id) st ≡ f l → kept_from (m.events id) st ≡ froms_after_sign f label t l
+    Apart s → s.labels id ≡ Some l → kept_from (s.events id) st ≡ f l → kept_from (m.events id) st ≡ cancelled_from_after_sign f label t l
 kept_set {t} {label} {s} {m} f st id l g h e kept = by_key (same_or id g.key)
   where
-    by_key : (id ≡ g.key) ⊎ (id ≢ g.key) → kept_from (m.events id) st ≡ froms_after_sign f label t l
+    by_key : (id ≡ g.key) ⊎ (id ≢ g.key) → kept_from (m.events id) st ≡ cancelled_from_after_sign f label t l
     by_key (inl same) =
         let named : l ≡ label = one_of l label (sym e ∙ (ap s.labels same ∙ g.labelled)) in
         let was : g.sets.from ≡ f l = ap (λ (o : Option Tick). kept_from o st) (sym (ap s.events same ∙ g.sets.was)) ∙ kept in
@@ -163,13 +163,13 @@ kept_set {t} {label} {s} {m} f st id l g h e kept = by_key (same_or id g.key)
         ∙ sym (lowered_other f label l t
         (λ same. differs (h.labels id g.key label (e ∙ ap (λ (x : Label). Some x) same) g.labelled))))
 
--- where a scope is cancelled, the froms that a task keeps are those of the world, with the label's lowered
+-- where a scope is cancelled, the moments of cancellation that a task keeps are those of the world, with the label's lowered
 pub tracks_signs : {known : Label → Type 0} {f : Table} {entered : List Label} {t : ℕ} {label : Label} {s m : Scoping} → Signs t label s m →
     Sound s → Apart s →
-    Tracks known f s entered → Tracks known (froms_after_sign f label t) m entered
+    Tracks known f s entered → Tracks known (cancelled_from_after_sign f label t) m entered
 tracks_signs {known} {f} {entered} {t} {label} {s} {m} g sound apart h =
     record {
-      labels = ap (map (λ (x : ScopeFrom). x.label)) g.froms ∙ h.labels;
+      labels = ap (map (λ (x : ScopeFrom). x.label)) g.cancelled_from ∙ h.labels;
       differ = subst Differ (sym g.own) h.differ;
       named =
           named;
@@ -183,18 +183,18 @@ tracks_signs {known} {f} {entered} {t} {label} {s} {m} g sound apart h =
     label_is : (key : ℕ) (l : Label) → s.labels key ≡ Some l → m.labels key ≡ Some l
     label_is key l e = ap (λ (z : Labels). z key) g.labels ∙ e
 
-    named : (o : Own) (i : ℕ) → slice_get m.own i ≡ Some o → (x : ScopeFrom) × (slice_get m.froms o.at ≡ Some x)
+    named : (o : Own) (i : ℕ) → slice_get m.own i ≡ Some o → (x : ScopeFrom) × (slice_get m.cancelled_from o.at ≡ Some x)
         × (m.labels o.id ≡ Some x.label)
     named o i e = let n = h.named o i (got o i e) in (
       n.0,
-      ap (λ (xs : List ScopeFrom). slice_get xs o.at) g.froms
+      ap (λ (xs : List ScopeFrom). slice_get xs o.at) g.cancelled_from
           ∙ n.1,
       label_is o.id n.0.label n.2,
     )
 
     kept : (o : Own) (i : ℕ) → slice_get m.own i ≡ Some o →
         (st : Stack) × (l : Label) × (stack_of m.tree o.id ≡ Some st) × (m.labels o.id ≡ Some l)
-        × (kept_from (m.events o.id) st ≡ froms_after_sign f label t l)
+        × (kept_from (m.events o.id) st ≡ cancelled_from_after_sign f label t l)
     kept o i e =
         let k = h.kept o i (got o i e) in (
           after_cancel g.key t k.0,
@@ -204,20 +204,20 @@ tracks_signs {known} {f} {entered} {t} {label} {s} {m} g sound apart h =
           kept_signed f k.0 o.id k.1 g apart (sound.own o.id k.0 k.2) k.3 k.4,
         )
 
-    left : (i : ℕ) (x : ScopeFrom) → slice_get m.froms i ≡ Some x → IsPast i m.own → (x.seen ≡ froms_after_sign f label t x.label)
+    left : (i : ℕ) (x : ScopeFrom) → slice_get m.cancelled_from i ≡ Some x → IsPast i m.own → (x.seen ≡ cancelled_from_after_sign f label t x.label)
         × NoneHas x.label m × known x.label
     left i x e past =
-        let c = h.left i x (sym (ap (λ (xs : List ScopeFrom). slice_get xs i) g.froms) ∙ e) (subst (IsPast i) g.own past) in
+        let c = h.left i x (sym (ap (λ (xs : List ScopeFrom). slice_get xs i) g.cancelled_from) ∙ e) (subst (IsPast i) g.own past) in
         (c.0 ∙ sym (lowered_other f label x.label t (signed_has g x.label c.1)), none_signs g x.label c.1, c.2)
 
 -- ---- an event is set
 
--- where an event is set, the froms that a task keeps are those of the world, with the label's lowered
+-- where an event is set, the moments of cancellation that a task keeps are those of the world, with the label's lowered
 pub tracks_sets : {known : Label → Type 0} {f : Table} {entered : List Label} {t : ℕ} {label : Label} {s m : Scoping} → Sets t label s m →
-    Apart s → Tracks known f s entered → Tracks known (froms_after_sign f label t) m entered
+    Apart s → Tracks known f s entered → Tracks known (cancelled_from_after_sign f label t) m entered
 tracks_sets {known} {f} {entered} {t} {label} {s} {m} g apart h =
     record {
-      labels = ap (map (λ (x : ScopeFrom). x.label)) g.froms ∙ h.labels;
+      labels = ap (map (λ (x : ScopeFrom). x.label)) g.cancelled_from ∙ h.labels;
       differ = subst Differ (sym g.own) h.differ;
       named = named;
       kept = kept;
@@ -230,17 +230,17 @@ tracks_sets {known} {f} {entered} {t} {label} {s} {m} g apart h =
     label_is : (key : ℕ) (l : Label) → s.labels key ≡ Some l → m.labels key ≡ Some l
     label_is key l e = ap (λ (z : Labels). z key) g.labels ∙ e
 
-    named : (o : Own) (i : ℕ) → slice_get m.own i ≡ Some o → (x : ScopeFrom) × (slice_get m.froms o.at ≡ Some x)
+    named : (o : Own) (i : ℕ) → slice_get m.own i ≡ Some o → (x : ScopeFrom) × (slice_get m.cancelled_from o.at ≡ Some x)
         × (m.labels o.id ≡ Some x.label)
     named o i e = let n = h.named o i (got o i e) in (
       n.0,
-      ap (λ (xs : List ScopeFrom). slice_get xs o.at) g.froms ∙ n.1,
+      ap (λ (xs : List ScopeFrom). slice_get xs o.at) g.cancelled_from ∙ n.1,
       label_is o.id n.0.label n.2,
     )
 
     kept : (o : Own) (i : ℕ) → slice_get m.own i ≡ Some o →
         (st : Stack) × (l : Label) × (stack_of m.tree o.id ≡ Some st) × (m.labels o.id ≡ Some l)
-        × (kept_from (m.events o.id) st ≡ froms_after_sign f label t l)
+        × (kept_from (m.events o.id) st ≡ cancelled_from_after_sign f label t l)
     kept o i e =
         let k = h.kept o i (got o i e) in (
           k.0,
@@ -250,28 +250,28 @@ tracks_sets {known} {f} {entered} {t} {label} {s} {m} g apart h =
           kept_set f k.0 o.id k.1 g apart k.3 k.4,
         )
 
-    left : (i : ℕ) (x : ScopeFrom) → slice_get m.froms i ≡ Some x → IsPast i m.own → (x.seen ≡ froms_after_sign f label t x.label)
+    left : (i : ℕ) (x : ScopeFrom) → slice_get m.cancelled_from i ≡ Some x → IsPast i m.own → (x.seen ≡ cancelled_from_after_sign f label t x.label)
         × NoneHas x.label m × known x.label
     left i x e past =
-        let c = h.left i x (sym (ap (λ (xs : List ScopeFrom). slice_get xs i) g.froms) ∙ e) (subst (IsPast i) g.own past) in
+        let c = h.left i x (sym (ap (λ (xs : List ScopeFrom). slice_get xs i) g.cancelled_from) ∙ e) (subst (IsPast i) g.own past) in
         (c.0 ∙ sym (lowered_other f label x.label t (set_has g x.label c.1)), none_sets g x.label c.1, c.2)
 
 -- ---- a scope is entered
 
--- where a task enters a scope with a new label, its froms are those of the world, with the new label last
+-- where a task enters a scope with a new label, its moments of cancellation are those of the world, with the new label last
 pub tracks_enters : {known : Label → Type 0} {f : Table} {entered : List Label} {parent : Option ℕ} {label : Label} {is_event : Bool} {d : Tick} {s m : Scoping} →
     Enters parent label is_event d s m → HasKnown known s → (known label → ⊥) →
-    Tracks known f s entered → Tracks (λ l. (l ≡ label) ⊎ known l) (froms_after_entry f label d) m (entered ++ label ∷ [])
+    Tracks known f s entered → Tracks (λ l. (l ≡ label) ⊎ known l) (cancelled_from_after_entry f label d) m (entered ++ label ∷ [])
 tracks_enters {known} {f} {entered} {parent} {label} {is_event} {d} {s} {m} g has new h =
     record {
       labels =
-          ap (map (λ (x : ScopeFrom). x.label)) g.froms
-          ∙ (map-append (λ (x : ScopeFrom). x.label) s.froms (first ∷ []) ∙ ap (λ (ls : List Label). ls ++ label ∷ []) h.labels);
+          ap (map (λ (x : ScopeFrom). x.label)) g.cancelled_from
+          ∙ (map-append (λ (x : ScopeFrom). x.label) s.cancelled_from (first ∷ []) ∙ ap (λ (ls : List Label). ls ++ label ∷ []) h.labels);
       differ = subst Differ (sym g.opened) (differ_more s.own g.scope h.differ (all_if (λ (o : Own). o.id ≢ g.scope.id) s.own other));
       named = λ o i e. named o (get_one s.own g.scope o i (got o i e));
       kept = λ o i e. kept o (get_one s.own g.scope o i (got o i e));
       left = λ i x e past. left i x (subst (IsPast i) g.opened past)
-          (get_one s.froms first x i (sym (ap (λ (xs : List ScopeFrom). slice_get xs i) g.froms) ∙ e));
+          (get_one s.cancelled_from first x i (sym (ap (λ (xs : List ScopeFrom). slice_get xs i) g.cancelled_from) ∙ e));
     }
   where
     first : ScopeFrom
@@ -292,24 +292,24 @@ tracks_enters {known} {f} {entered} {parent} {label} {is_event} {d} {s} {m} g ha
     apart_from l k e = new (subst known e k)
 
     named : (o : Own) {i : ℕ} → (slice_get s.own i ≡ Some o) ⊎ ((i ≡ length s.own) × (g.scope ≡ o)) → (x : ScopeFrom)
-        × (slice_get m.froms o.at ≡ Some x) × (m.labels o.id ≡ Some x.label)
+        × (slice_get m.cancelled_from o.at ≡ Some x) × (m.labels o.id ≡ Some x.label)
     named o {i} (inl e) =
         let n = h.named o i e in (
           n.0,
-          ap (λ (xs : List ScopeFrom). slice_get xs o.at) g.froms ∙ got_first s.froms (first ∷ []) o.at n.0 n.1,
+          ap (λ (xs : List ScopeFrom). slice_get xs o.at) g.cancelled_from ∙ got_first s.cancelled_from (first ∷ []) o.at n.0 n.1,
           g.labelled.others o.id (other o i e) ∙ n.2,
         )
     named o {i} (inr e) =
-        subst (λ (z : Own). (x : ScopeFrom) × (slice_get m.froms z.at ≡ Some x) × (m.labels z.id ≡ Some x.label)) e.1 (
+        subst (λ (z : Own). (x : ScopeFrom) × (slice_get m.cancelled_from z.at ≡ Some x) × (m.labels z.id ≡ Some x.label)) e.1 (
           first,
-          ap (λ (xs : List ScopeFrom). slice_get xs g.scope.at) g.froms
-              ∙ (ap (slice_get (s.froms ++ first ∷ [])) g.place ∙ get_last s.froms first),
+          ap (λ (xs : List ScopeFrom). slice_get xs g.scope.at) g.cancelled_from
+              ∙ (ap (slice_get (s.cancelled_from ++ first ∷ [])) g.index ∙ get_last s.cancelled_from first),
           g.labelled.changed,
         )
 
     kept : (o : Own) {i : ℕ} → (slice_get s.own i ≡ Some o) ⊎ ((i ≡ length s.own) × (g.scope ≡ o)) →
         (st : Stack) × (l : Label) × (stack_of m.tree o.id ≡ Some st) × (m.labels o.id ≡ Some l)
-        × (kept_from (m.events o.id) st ≡ froms_after_entry f label d l)
+        × (kept_from (m.events o.id) st ≡ cancelled_from_after_entry f label d l)
     kept o {i} (inl e) =
         let k = h.kept o i e in (
           k.0,
@@ -321,7 +321,7 @@ tracks_enters {known} {f} {entered} {parent} {label} {is_event} {d} {s} {m} g ha
         )
     kept o {i} (inr e) =
         subst (λ (z : Own). (st : Stack) × (l : Label) × (stack_of m.tree z.id ≡ Some st) × (m.labels z.id ≡ Some l)
-        × (kept_from (m.events z.id) st ≡ froms_after_entry f label d l)) e.1 (
+        × (kept_from (m.events z.id) st ≡ cancelled_from_after_entry f label d l)) e.1 (
           g.level ∷ outer_of s.tree parent,
           label,
           g.stack,
@@ -330,28 +330,28 @@ tracks_enters {known} {f} {entered} {parent} {label} {is_event} {d} {s} {m} g ha
               ∙ (at_entry is_event g.undated ∙ sym (ap (λ (b : Bool). from_entered_if b d (f label)) (same_label_itself label))),
         )
 
-    left : (i : ℕ) (x : ScopeFrom) → IsPast i (s.own ++ g.scope ∷ []) → (slice_get s.froms i ≡ Some x)
-        ⊎ ((i ≡ length s.froms) × (first ≡ x)) →
-        (x.seen ≡ froms_after_entry f label d x.label) × NoneHas x.label m × ((x.label ≡ label) ⊎ known x.label)
+    left : (i : ℕ) (x : ScopeFrom) → IsPast i (s.own ++ g.scope ∷ []) → (slice_get s.cancelled_from i ≡ Some x)
+        ⊎ ((i ≡ length s.cancelled_from) × (first ≡ x)) →
+        (x.seen ≡ cancelled_from_after_entry f label d x.label) × NoneHas x.label m × ((x.label ≡ label) ⊎ known x.label)
     left i x past (inl e) =
         let c = h.left i x e (all_first (λ (o : Own). o.at ≢ i) s.own g.scope past) in
         let differs = apart_from x.label c.2 in
         (c.0 ∙ sym (opened_other f label x.label d differs), none_enters g x.label differs c.1, inr c.2)
-    left i x past (inr e) = absurd (all_last (λ (o : Own). o.at ≢ i) s.own g.scope past (g.place ∙ sym e.0))
+    left i x past (inr e) = absurd (all_last (λ (o : Own). o.at ≢ i) s.own g.scope past (g.index ∙ sym e.0))
 
 -- ---- the last scope is left
 
--- where a task leaves its last scope, the froms that it keeps are those of the world still
+-- where a task leaves its last scope, the moments of cancellation that it keeps are those of the world still
 pub tracks_leaves : {known : Label → Type 0} {f : Table} {entered : List Label} {s m : Scoping} → Leaves s m → Apart s → HasKnown known s →
     Tracks known f s entered → Tracks known f m entered
 tracks_leaves {known} {f} {entered} {s} {m} g apart has h =
     record {
-      labels = ap (map (λ (x : ScopeFrom). x.label)) g.froms ∙ (set_labels s.froms g.scope.at g.entry now g.was refl ∙ h.labels);
+      labels = ap (map (λ (x : ScopeFrom). x.label)) g.cancelled_from ∙ (set_labels s.cancelled_from g.scope.at g.entry now g.was refl ∙ h.labels);
       differ = both.0;
       named = named;
       kept = kept;
-      left = λ i x e past. left i x past (set_shows s.froms g.scope.at i now x
-          (sym (ap (λ (xs : List ScopeFrom). slice_get xs i) g.froms) ∙ e));
+      left = λ i x e past. left i x past (set_shows s.cancelled_from g.scope.at i now x
+          (sym (ap (λ (xs : List ScopeFrom). slice_get xs i) g.cancelled_from) ∙ e));
     }
   where
     now : ScopeFrom
@@ -369,13 +369,13 @@ tracks_leaves {known} {f} {entered} {s} {m} g apart has h =
     other : (o : Own) (i : ℕ) → slice_get m.own i ≡ Some o → o.id ≢ g.scope.id
     other o i e = all_got (λ (x : Own). x.id ≢ g.scope.id) m.own i o both.1 e
 
-    named : (o : Own) (i : ℕ) → slice_get m.own i ≡ Some o → (x : ScopeFrom) × (slice_get m.froms o.at ≡ Some x)
+    named : (o : Own) (i : ℕ) → slice_get m.own i ≡ Some o → (x : ScopeFrom) × (slice_get m.cancelled_from o.at ≡ Some x)
         × (m.labels o.id ≡ Some x.label)
     named o i e =
         let n = h.named o i (got o i e) in
-        let k = set_keeps s.froms g.scope.at o.at g.entry now n.0 g.was refl n.1 in (
+        let k = set_keeps s.cancelled_from g.scope.at o.at g.entry now n.0 g.was refl n.1 in (
           k.0,
-          ap (λ (xs : List ScopeFrom). slice_get xs o.at) g.froms ∙ k.1,
+          ap (λ (xs : List ScopeFrom). slice_get xs o.at) g.cancelled_from ∙ k.1,
           g.unlabelled.others o.id (other o i e) ∙ (n.2 ∙ ap (λ (l : Label). Some l) (sym k.2)),
         )
 
@@ -400,7 +400,7 @@ tracks_leaves {known} {f} {entered} {s} {m} g apart has h =
         let k = h.kept g.scope (length m.own) last in
         g.seen k.0 k.2 ∙ (k.4 ∙ ap f (one_of k.1 g.entry.label (sym k.3 ∙ labelled)))
 
-    left : (i : ℕ) (x : ScopeFrom) → IsPast i m.own → ((i ≡ g.scope.at) × (now ≡ x)) ⊎ ((i ≢ g.scope.at) × (slice_get s.froms i ≡ Some x)) →
+    left : (i : ℕ) (x : ScopeFrom) → IsPast i m.own → ((i ≡ g.scope.at) × (now ≡ x)) ⊎ ((i ≢ g.scope.at) × (slice_get s.cancelled_from i ≡ Some x)) →
         (x.seen ≡ f x.label) × NoneHas x.label m × known x.label
     left i x past (inl e) =
         subst (λ (z : ScopeFrom). (z.seen ≡ f z.label) × NoneHas z.label m × known z.label) e.1 (
@@ -416,25 +416,25 @@ tracks_leaves {known} {f} {entered} {s} {m} g apart has h =
 
 -- ---- whatever a task does
 
--- whatever a task does, its froms are those of the world after its events, with the labels that it entered
+-- whatever a task does, its moments of cancellation are those of the world after its events, with the labels that it entered
 pub tracked : {t : ℕ} → (known : Label → Type 0) (f : Table) (entered : List Label) → {s u : Scoping} {es : List Event} → Acts t s es u →
     Sound s → Apart s → HasKnown known s → AreNew known es →
-    Tracks known f s entered → Tracks (KnownWith known es) (froms_after f es) u (entered ++ entered_made es)
+    Tracks known f s entered → Tracks (KnownWith known es) (cancelled_from_after f es) u (entered ++ entered_made es)
 tracked known f entered (no_act s) sound apart has new h =
     subst (Tracks (KnownWith known []) f s) (sym (append-nil entered)) (tracks_more (λ l k. inl k) h)
 tracked known f entered (act_noted s u t e es a) sound apart has new h = tracked known f entered a sound apart has new h
 tracked known f entered (act_starts s u i l t es a) sound apart has new h = tracked known f entered a sound apart has new h
 tracked {t} known f entered (act_signs s m u l es g a) sound apart has new h =
     let n = apart_signs known g apart has in
-    tracked known (froms_after_sign f l t) entered a (sound_signs g sound) n.0 n.1 new (tracks_signs g sound apart h)
+    tracked known (cancelled_from_after_sign f l t) entered a (sound_signs g sound) n.0 n.1 new (tracks_signs g sound apart h)
 tracked {t} known f entered (act_sets s m u l es g a) sound apart has new h =
     let n = apart_sets known g apart has in
-    tracked known (froms_after_sign f l t) entered a (sound_sets g sound) n.0 n.1 new (tracks_sets g apart h)
+    tracked known (cancelled_from_after_sign f l t) entered a (sound_sets g sound) n.0 n.1 new (tracks_sets g apart h)
 tracked known f entered (act_enters s m u l t d es g a) sound apart has new h =
     let n = apart_enters known g new.0 apart has in
-    let more = tracked (λ x. (x ≡ l) ⊎ known x) (froms_after_entry f l d) (entered ++ l ∷ []) a (sound_enters g sound) n.0 n.1 new.1
+    let more = tracked (λ x. (x ≡ l) ⊎ known x) (cancelled_from_after_entry f l d) (entered ++ l ∷ []) a (sound_enters g sound) n.0 n.1 new.1
     (tracks_enters g has new.0 h) in
-    subst (Tracks (λ x. known x ⊎ IsAmong x (l ∷ entered_made es)) (froms_after (froms_after_entry f l d) es) u)
+    subst (Tracks (λ x. known x ⊎ IsAmong x (l ∷ entered_made es)) (cancelled_from_after (cancelled_from_after_entry f l d) es) u)
     (append_assoc entered (l ∷ []) (entered_made es))
     (tracks_more (λ x k. known_one known l x es k) more)
 tracked known f entered (act_leaves s m u es g a) sound apart has new h =

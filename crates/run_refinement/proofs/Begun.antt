@@ -38,19 +38,19 @@ use Rattle.interleavings.specs.Going.{root_task}
 use Rattle.interleavings.specs.Runs.{begun}
 use Rattle.run_refinement.proofs.ActsKeep.{not_both}
 use Rattle.run_refinement.specs.Begun.{IsNewWorld, IsRootTask}
-use Rattle.run_refinement.specs.RunState.{Interleaving, RunState, Gone, Differ, IsSince, LastEnds, HasHome, Follows, HasEnded, Refines}
+use Rattle.run_refinement.specs.RunState.{Interleaving, RunState, EndedTask, Differ, IsSince, LastEnds, HasHome, Follows, HasEnded, Refines}
 
 -- no label is cancelled
-abbrev no_froms : Table
-no_froms l = None
+abbrev none_cancelled_from : Table
+none_cancelled_from l = None
 
 -- at each serial number is the root, which has done nothing
 begun_interleaving : (k : Table) (job : Job) (input : List ℕ) → Interleaving k job input 0 1
 begun_interleaving k job input =
     record {
-      froms = no_froms;
+      cancelled_from = none_cancelled_from;
       tasks = root_task k job input ∷ [];
-      reached = begun no_froms;
+      reached = begun none_cancelled_from;
       at = λ s. root_task k job input;
       has = λ s lt. (inl refl, omega (arith, lt));
       one = λ q i. by_in q i;
@@ -69,7 +69,7 @@ no_numbers p id = []
 
 root_follows : (k : Table) (job : Job) (input : List ℕ) (state : RunState) (root : Task) → IsInRange job → StartsInNurseries job →
     GivesNamesOnce job → state.world.clock ≡ clock_of job.format → IsRootTask job input root →
-    Follows state no_froms input 0 (λ s. root_task k job input) no_numbers None 0 root
+    Follows state none_cancelled_from input 0 (λ s. root_task k job input) no_numbers None 0 root
 root_follows k job input state root in_range starting names clock r =
     record {
       here = here;
@@ -81,7 +81,7 @@ root_follows k job input state root in_range starting names clock r =
       stands =
           record {
             places =
-                subst (λ (st : Stack). AreAt (label_at state.world) (event_at state.world) no_froms st []) (sym none_around) tt;
+                subst (λ (st : Stack). AreAt (label_at state.world) (event_at state.world) none_cancelled_from st []) (sym none_around) tt;
             numbered = λ id i. absurd (let h : ⊥ = subst (λ (bs : List Block). HasBlock id bs) blocks i in h);
             placed = subst (λ (fs : List rest.Frame). Placed fs []) (sym (r.frames (no_numbers 0))) (starting, tt);
             new = subst (λ (fs : List rest.Frame). NewIn fs []) (sym (r.frames (no_numbers 0))) (new_job job names);
@@ -99,8 +99,8 @@ root_follows k job input state root in_range starting names clock r =
             scope = subst (λ (o : Option ℕ). ForSome o (IsOpen state.world.scopes)) (sym no_scope)
                 (λ x e. absurd (let f : None ≡ Some x = e in cc));
             first = subst (OwnFirst state.world.scopes (home_scope root)) (sym r.own) refl;
-            froms = subst (λ (os : List Own). All (λ (o : Own). o.at < length root.froms.items) os) (sym r.own)
-                (All-nil (λ (o : Own). o.at < length root.froms.items));
+            cancelled_from = subst (λ (os : List Own). All (λ (o : Own). o.at < length root.cancelled_from.items) os) (sym r.own)
+                (All-nil (λ (o : Own). o.at < length root.cancelled_from.items));
             opened =
                 subst (λ (bs : List Block). Opened (label_at state.world) state.world.book bs root.own.items (waits_of root.task_state))
                 (sym blocks)
@@ -114,11 +114,11 @@ root_follows k job input state root in_range starting names clock r =
       };
       tracks =
           record {
-            labels = ap (map (λ (x : ScopeFrom). x.label)) r.froms;
+            labels = ap (map (λ (x : ScopeFrom). x.label)) r.cancelled_from;
             differ = subst Differ (sym r.own) tt;
             named = λ o i e. absurd (none_own o i e);
             kept = λ o i e. absurd (none_own o i e);
-            left = λ i x e past. absurd (let f : None ≡ Some x = sym (ap (λ (xs : List ScopeFrom). slice_get xs i) r.froms) ∙ e in cc);
+            left = λ i x e past. absurd (let f : None ≡ Some x = sym (ap (λ (xs : List ScopeFrom). slice_get xs i) r.cancelled_from) ∙ e in cc);
           };
       home = subst (HasHome state (λ s. root_task k job input) no_numbers 0) (sym r.home) refl;
       nurseries = λ id h. absurd (by_none id (subst (λ (w : Option ℕ). HasNurseryOf id [] w) waits
@@ -165,10 +165,10 @@ pub record BeginsAs (k : Table) (job : Job) (input : List ℕ) (state : RunState
 pub state_begins : (k : Table) (job : Job) (input : List ℕ) (state : RunState) (root : Task) → IsInRange job → StartsInNurseries job →
     GivesNamesOnce job → length input ≤ MAX_INPUT →
     IsNewWorld job state.world → IsRootTask job input root → state.task 0 ≡ Some root → ((p : ℕ) → state.task (suc p) ≡ None) →
-    ((p : ℕ) → state.gone p ≡ None) → state.start 0 ≡ 0 →
+    ((p : ℕ) → state.ended_task p ≡ None) → state.start 0 ≡ 0 →
     state.children 0 ≡ [] → state.turns ≡ 0 → BeginsAs k job input state
 unfolding begun_interleaving
-state_begins k job input state root in_range starting names small world r first others gone start children turns =
+state_begins k job input state root in_range starting names small world r first others ended_task start children turns =
     record {
       is =
           record {
@@ -198,19 +198,19 @@ state_begins k job input state root in_range starting names small world r first 
     is_first zero task e = refl
     is_first (suc s) task e = absurd (let f : None ≡ Some task = sym (others s) ∙ e in cc)
 
-    unborn : (s : ℕ) → 1 ≤ s → (state.task s ≡ None) × (state.gone s ≡ None)
+    unborn : (s : ℕ) → 1 ≤ s → (state.task s ≡ None) × (state.ended_task s ≡ None)
     unborn zero le = absurd (omega (arith, le))
-    unborn (suc s) le = (others s, gone (suc s))
+    unborn (suc s) le = (others s, ended_task (suc s))
 
-    ended : (s : ℕ) → s < 1 → state.task s ≡ None → (g : Gone) × (state.gone s ≡ Some g) × HasEnded state.world.clock no_froms input 0
+    ended : (s : ℕ) → s < 1 → state.task s ≡ None → (g : EndedTask) × (state.ended_task s ≡ Some g) × HasEnded state.world.clock none_cancelled_from input 0
         (root_task k job input) g
     ended s lt e = absurd (let f : s ≡ 0 = omega (arith, lt) in let g : Some root ≡ None = sym first ∙ ap state.task (sym f) ∙ e in cc)
 
-    follows : (s : ℕ) (task : Task) → state.task s ≡ Some task → Follows state no_froms input 0 (λ s. root_task k job input) no_numbers None s
+    follows : (s : ℕ) (task : Task) → state.task s ≡ Some task → Follows state none_cancelled_from input 0 (λ s. root_task k job input) no_numbers None s
         task
     follows zero task e =
         let f : Some root ≡ Some task = sym first ∙ e in let g : root ≡ task = cc in
-        subst (Follows state no_froms input 0 (λ s. root_task k job input) no_numbers None 0) g
+        subst (Follows state none_cancelled_from input 0 (λ s. root_task k job input) no_numbers None 0) g
         (root_follows k job input state root in_range starting names world.clock r)
     follows (suc s) task e = absurd (let f : None ≡ Some task = sym (others s) ∙ e in cc)
 
@@ -224,7 +224,7 @@ state_begins k job input state root in_range starting names small world r first 
 pub state_begun : (k : Table) (job : Job) (input : List ℕ) (state : RunState) (root : Task) → IsInRange job → StartsInNurseries job →
     GivesNamesOnce job → length input ≤ MAX_INPUT →
     IsNewWorld job state.world → IsRootTask job input root → state.task 0 ≡ Some root → ((p : ℕ) → state.task (suc p) ≡ None) →
-    ((p : ℕ) → state.gone p ≡ None) → state.start 0 ≡ 0 →
+    ((p : ℕ) → state.ended_task p ≡ None) → state.start 0 ≡ 0 →
     state.children 0 ≡ [] → state.turns ≡ 0 → Refines k job input 0 1 None state
-state_begun k job input state root in_range starting names small world r first others gone start children turns =
-    (state_begins k job input state root in_range starting names small world r first others gone start children turns).is
+state_begun k job input state root in_range starting names small world r first others ended_task start children turns =
+    (state_begins k job input state root in_range starting names small world r first others ended_task start children turns).is

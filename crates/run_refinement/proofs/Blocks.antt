@@ -99,7 +99,7 @@ module _ (k : Table) (job : Job) (input : List ℕ) (t m : ℕ) (state : RunStat
   running_child s task id children exc lives awaits numbers body n is open_one =
       record {
         number = number.0;
-        among = among_at children place.0 number.0 (ap (λ (is : List ℕ). slice_get is place.0) (sym numbers) ∙ number.1);
+        among = among_at children index.0 number.0 (ap (λ (is : List ℕ). slice_get is index.0) (sym numbers) ∙ number.1);
         below = member.0;
         task = runs.0;
         lives = runs.1;
@@ -110,21 +110,21 @@ module _ (k : Table) (job : Job) (input : List ℕ) (t m : ℕ) (state : RunStat
           gives state.world.book id n (λ n. HasMembers state at t (c.numbers s) (at s) id n) is
           ((c.follows s task lives).nurseries id (inr awaits))
 
-      place : (i : ℕ) × (slice_get n.children i ≡ Some None)
-      place =
+      index : (i : ℕ) × (slice_get n.children i ≡ Some None)
+      index =
           running_at n.children (unsettled_children n exc (gives state.world.book id n (λ n. n.body ≡ Some exc) is body) open_one)
 
-      number : (x : ℕ) × (slice_get (c.numbers s id) place.0 ≡ Some x)
+      number : (x : ℕ) × (slice_get (c.numbers s id) index.0 ≡ Some x)
       number =
           let a : length (c.numbers s id) ≡ length n.children = has.long in
-          let b : place.0 < length n.children = below_length n.children place.0 None place.1 in
-          got_below (c.numbers s id) place.0 (omega (arith, a, b))
+          let b : index.0 < length n.children = below_length n.children index.0 None index.1 in
+          got_below (c.numbers s id) index.0 (omega (arith, a, b))
 
-      member : (number.0 < (at s).count) × IsMember state at n.last id place.0 ((at s).child number.0) (slice_get n.children place.0)
-      member = has.members place.0 number.0 number.1
+      member : (number.0 < (at s).count) × IsMember state at n.last id index.0 ((at s).child number.0) (slice_get n.children index.0)
+      member = has.members index.0 number.0 number.1
 
-      runs : IsMember state at n.last id place.0 ((at s).child number.0) (Some None)
-      runs = subst (IsMember state at n.last id place.0 ((at s).child number.0)) place.1 member.1
+      runs : IsMember state at n.last id index.0 ((at s).child number.0) (Some None)
+      runs = subst (IsMember state at n.last id index.0 ((at s).child number.0)) index.1 member.1
 
   -- a task with that serial number has not ended
   child_lives : (s : ℕ) (children : List ℕ) (r : Running state (at s) children) (x : Started) → IsAmong x qs → x.serial ≡ (at s).child r.number →
@@ -136,9 +136,9 @@ module _ (k : Table) (job : Job) (input : List ℕ) (t m : ℕ) (state : RunStat
 -- if no task of the program continues before a moment, the run is blocked until then
 pub state_blocked : (k : Table) (job : Job) (input : List ℕ) (t m : ℕ) (state : RunState) → (c : Refines k job input t m None state) → (u : ℕ) →
     AllStay state u →
-    Blocked c.interleaving.froms c.interleaving.tasks u
+    Blocked c.interleaving.cancelled_from c.interleaving.tasks u
 state_blocked k job input t m state c u stay q i =
-    subst (λ (x : Started). StaysUntil c.interleaving.froms c.interleaving.tasks u x x.rest.stopped) (sym (c.interleaving.one q i).0)
+    subst (λ (x : Started). StaysUntil c.interleaving.cancelled_from c.interleaving.tasks u x x.rest.stopped) (sym (c.interleaving.one q i).0)
     (by_task q.serial (c.interleaving.one q i).1 (state.task q.serial) refl)
   where
     at : ℕ → Started
@@ -148,7 +148,7 @@ state_blocked k job input t m state c u stay q i =
     qs = c.interleaving.tasks
 
     f : Table
-    f = c.interleaving.froms
+    f = c.interleaving.cancelled_from
 
     book : NurseryBook
     book = state.world.book
@@ -255,7 +255,7 @@ state_goes_on k job input t m state settled names starting c u stay s task lives
 
     z : GoesOn qs
     z =
-        blocked_runs_go_on k job input names starting settled c.interleaving.froms t m qs c.interleaving.reached u
+        blocked_runs_go_on k job input names starting settled c.interleaving.cancelled_from t m qs c.interleaving.reached u
         (state_blocked k job input t m state c u stay) (at s)
         (c.interleaving.has s (below_of c s task lives)).0 (task_lives k job input t m state c s task lives)
 
@@ -313,14 +313,14 @@ pub state_in_time : (job : Job) (input : List ℕ) (t m : ℕ) (state : RunState
     Refines (meaning_table job input) job input t m None state →
     (s : ℕ) (task : Task) → state.task s ≡ Some task → tick_of (clock_of job.format) t ≤ meaning_end job input
 state_in_time job input t m state names starting c s task lives =
-    limits_are_exact job input names starting c.interleaving.froms t m c.interleaving.tasks c.interleaving.reached (c.interleaving.at s)
+    limits_are_exact job input names starting c.interleaving.cancelled_from t m c.interleaving.tasks c.interleaving.reached (c.interleaving.at s)
     (c.interleaving.has s (below_of c s task lives)).0 (task_lives (meaning_table job input) job input t m state c s task lives)
 
 -- the program has at most this number of turns
 pub state_turns : (k : Table) (job : Job) (input : List ℕ) (t m : ℕ) (leaving : Option ℕ) (state : RunState) →
     Refines k job input t m leaving state → state.turns ≤ 2 * size_of job.steps + 1
 state_turns k job input t m leaving state c =
-    let a = runs_end k job input c.interleaving.froms t m c.interleaving.tasks c.interleaving.reached in let b : turns_taken c.interleaving.reached ≡ state.turns =
+    let a = runs_end k job input c.interleaving.cancelled_from t m c.interleaving.tasks c.interleaving.reached in let b : turns_taken c.interleaving.reached ≡ state.turns =
     c.counted in omega (arith, a, b)
 
 -- ---- the root is the last to end

@@ -79,7 +79,7 @@ children_kept k job input t m s old new before after stop settled names starting
 
     numbered : (i : ℕ) → StartsChild i q.made → i < q.count
     numbered =
-        (runs_keep_invariant k job input settled names starting c.interleaving.froms t m c.interleaving.tasks c.interleaving.reached).0.numbered q
+        (runs_keep_invariant k job input settled names starting c.interleaving.cancelled_from t m c.interleaving.tasks c.interleaving.reached).0.numbered q
         (c.interleaving.has s turn.below).0
 
     of_task : Keeps s

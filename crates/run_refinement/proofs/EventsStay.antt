@@ -80,7 +80,7 @@ set_alike clock t old new was set key since (inr (i, from, before, is)) =
 module _ {k : Table} {job : Job} {input : List ℕ} {t m s : ℕ} {old new : RunState} {before after : Task} {stop : Stop}
     (c : Refines k job input t m None old) (T : Turning k job input t m s old new c.numbers before after stop c.interleaving)
     (a : ActsOf c T) (u : ℕ) (task : Task) (lives : old.task u ≡ Some task) (opens : ForSome (scope_of task) (IsOpen new.world.scopes))
-    (now : AreAt (label_at new.world) (event_at new.world) T.is.froms (outer_of new.world.scopes (scope_of task)) (c.interleaving.at u).places)
+    (now : AreAt (label_at new.world) (event_at new.world) T.is.cancelled_from (outer_of new.world.scopes (scope_of task)) (c.interleaving.at u).places)
   where
     -- what encloses another task in a scope is the same
     outer_in : (key : ℕ) → scope_of task ≡ Some key → KeepsOuter old.world new.world (Some key)
@@ -103,12 +103,12 @@ module _ {k : Table} {job : Job} {input : List ℕ} {t m s : ℕ} {old new : Run
 
         was : (l : Label) × (label_at old.world key ≡ Some l) × (first_label places ≡ Some l)
         was =
-            scope_label (label_at old.world) (event_at old.world) c.interleaving.froms old.world.scopes (scope_of task) key places T.code.sound.own is
+            scope_label (label_at old.world) (event_at old.world) c.interleaving.cancelled_from old.world.scopes (scope_of task) key places T.code.sound.own is
             st.0 st.1 (c.follows u task lives).stands.places
 
         will : (l : Label) × (label_at new.world key ≡ Some l) × (first_label places ≡ Some l)
         will =
-            scope_label (label_at new.world) (event_at new.world) T.is.froms new.world.scopes (scope_of task) key places T.code.sound_after.own is
+            scope_label (label_at new.world) (event_at new.world) T.is.cancelled_from new.world.scopes (scope_of task) key places T.code.sound_after.own is
             then.0 then.1 now
 
         same : will.0 ≡ was.0

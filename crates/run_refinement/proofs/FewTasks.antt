@@ -99,7 +99,7 @@ pub state_few : (k : Table) (job : Job) (input : List ℕ) (t m : ℕ) (state : 
     (numbers : List ℕ) → AreDistinct numbers → ((s : ℕ) → IsAmong s numbers → IsSome (state.task s)) → length numbers ≤ 2 * size_of job.steps + 1
 state_few k job input t m state c numbers distinct some =
     let fewer = few_live c.interleaving.at numbers c.interleaving.tasks distinct (λ s i. found s (state.task s) refl (some s i)) in
-    let most = runs_end k job input c.interleaving.froms t m c.interleaving.tasks c.interleaving.reached in
+    let most = runs_end k job input c.interleaving.cancelled_from t m c.interleaving.tasks c.interleaving.reached in
     omega (arith, fewer, most)
   where
     found : (s : ℕ) (task : Option Task) → state.task s ≡ task → IsSome task → LivesAt c.interleaving.at c.interleaving.tasks s

@@ -58,7 +58,7 @@ fresh_after k job input t m s own was o stopped settled names starting less w = 
   where
     once : (l : Label) → made_times l w.is.tasks ≤ 1
     once l =
-        let f = (runs_keep_invariant k job input settled names starting w.is.froms t (m + length o.begun) w.is.tasks w.is.reached).0.once l in
+        let f = (runs_keep_invariant k job input settled names starting w.is.cancelled_from t (m + length o.begun) w.is.tasks w.is.reached).0.once l in
         let g = made_few l w.is.tasks in omega (arith, f, g)
 
     made : (w.is.at s).made ≡ (was.at s).made ++ o.made

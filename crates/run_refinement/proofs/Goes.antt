@@ -12,7 +12,7 @@ use Rattle.exceptions.specs.Exceptions.{Exc, Label}
 use Rattle.job_meaning.specs.Moments.{a_round_after, Now}
 use Rattle.job_meaning.specs.Rest.{Stopped, to_begin, asking, asleep, waiting_for, giving_up, awaiting}
 use Rattle.turn_semantics.specs.Midway.{Begun, Move, stack_at}
-use Rattle.turn_semantics.specs.Steps.{froms_after}
+use Rattle.turn_semantics.specs.Steps.{cancelled_from_after}
 use Rattle.turn_semantics.specs.Turned.{TurnsOver}
 use Rattle.turn_semantics.specs.Wakes.{Wake, begins, sees, gives_up, is_due, has_answer, settles, ends_at, CanWake, from_start, from_asking, from_sleep, from_due, from_seen_waiting, from_set, from_giving_up, from_wait}
 use Rattle.interleavings.specs.Interleaving.{Started}
@@ -68,20 +68,20 @@ nth_in k t m (b ∷ bs) (suc i) d less = let h = nth_in k t (suc m) bs i d (omeg
 
 -- the child at an index of those begun
 record IsNth (k : Table) (t m : ℕ) (bs : List Begun) (d x : Started) : Type 0 where
-  pub place : ℕ
-  pub below : place < length bs
-  pub serial : x.serial ≡ m + place
-  pub is : x ≡ nth_child k t m bs place d
+  pub index : ℕ
+  pub below : index < length bs
+  pub serial : x.serial ≡ m + index
+  pub is : x ≡ nth_child k t m bs index d
 
 in_nth : (k : Table) (t m : ℕ) (bs : List Begun) (d x : Started) → IsAmong x (children_from k t m bs) → IsNth k t m bs d x
 unfolding children_from
 in_nth k t m [] d x i = absurd i
 in_nth k t m (b ∷ bs) d x (inl e) =
-    record { place = 0; below = omega arith; serial = ap (λ (y : Started). y.serial) e ∙ omega arith; is = e }
+    record { index = 0; below = omega arith; serial = ap (λ (y : Started). y.serial) e ∙ omega arith; is = e }
 in_nth k t m (b ∷ bs) d x (inr i) =
     let h = in_nth k t (suc m) bs d x i in
     record {
-      place = suc h.place;
+      index = suc h.index;
       below = (let e = h.below in omega (arith, e));
       serial = (let e = h.serial in omega (arith, e));
       is =
@@ -128,7 +128,7 @@ wait_moved : (qs rs : List Started) (q : Started) (t : ℕ) (children : List ℕ
 wait_moved qs rs q t children ended e x back h =
     record { ends = h.ends; numbers = h.numbers; over = λ i among c is serial. h.over i among c (back c is) serial; settled = h.settled }
 
--- or where other froms show the same, and an event is set in the same moment as far as now
+-- or where other moments of cancellation show the same, and an event is set in the same moment as far as now
 pub ready_by : (f g : Table) (qs rs : List Started) (now : Now) (q : Started) (w : Wake) (s : Stopped) →
     seen (stack_at f q.places).scopes now.at ≡ seen (stack_at g q.places).scopes now.at →
     ((event : List ℕ) (since : ℕ) → min (suc now.at) (ends_at q.here.clock f event since q.places)
@@ -188,7 +188,7 @@ pub record WentOn
   where
     pub is : Interleaving k job input t (m + length o.begun)
     pub counts : turns_taken is.reached ≡ turns_taken was.reached + 1
-    pub froms : is.froms ≡ froms_after was.froms o.made
+    pub cancelled_from : is.cancelled_from ≡ cancelled_from_after was.cancelled_from o.made
     pub of_task : is.at s ≡ task_after_turn k (record { at = t; own = own }) m (was.at s) o stopped
     pub of_child : (i : ℕ) (b : Begun) → slice_get o.begun i ≡ Some b → is.at (m + i) ≡ child_at k (a_round_after (was.at s).here.clock t)
         (m + i) b
@@ -197,8 +197,8 @@ pub record WentOn
 -- a turn of a task that may be woken so takes a run on
 pub went_on : (k : Table) (job : Job) (input : List ℕ) (t m s : ℕ) (own : List Label) (was : Interleaving k job input t m) (wake : Wake)
     (o : Move) (stopped : Stopped) → s < m →
-    MayWake was.froms was.tasks (record { at = t; own = own }) (was.at s) wake (was.at s).rest.stopped →
-    TurnsOver (was.at s).stop (record { at = t; own = own }) (was.at s).here was.froms wake (was.at s).rest (was.at s).places
+    MayWake was.cancelled_from was.tasks (record { at = t; own = own }) (was.at s) wake (was.at s).rest.stopped →
+    TurnsOver (was.at s).stop (record { at = t; own = own }) (was.at s).here was.cancelled_from wake (was.at s).rest (was.at s).places
     (was.at s).count o →
     o.stopped ≡ Some stopped →
     WentOn k job input t m s own was o stopped
@@ -206,11 +206,11 @@ went_on k job input t m s own was wake o stopped less may goes stops =
     record {
       is =
           record {
-            froms = froms_after was.froms o.made;
+            cancelled_from = cancelled_from_after was.cancelled_from o.made;
             tasks = (task_after_turn k now m q o stopped ∷ children_from k later m o.begun) ++ others;
             reached =
-                turn was.froms now m q was.tasks others wake o stopped was.reached front.front
-                (may_moved was.froms was.tasks (q ∷ others) now q wake q.rest.stopped same.back may) goes stops;
+                turn was.cancelled_from now m q was.tasks others wake o stopped was.reached front.front
+                (may_moved was.cancelled_from was.tasks (q ∷ others) now q wake q.rest.stopped same.back may) goes stops;
             at = at_after;
             has = has_after;
             one = one_after;
@@ -218,7 +218,7 @@ went_on k job input t m s own was wake o stopped less may goes stops =
             none = none_after;
           };
       counts = refl;
-      froms = refl;
+      cancelled_from = refl;
       of_task = at_task;
       of_child = λ i b e. at_child i ∙ nth_at k later m o.begun i (was.at (m + i)) b e;
       of_other = at_other;
@@ -324,8 +324,8 @@ went_on k job input t m s own was wake o stopped less may goes stops =
         by_part (inl (inr j)) =
             let h = in_nth k later m o.begun (was.at x.serial) x j in
             let upper : m ≤ x.serial = (let e = h.serial in omega (arith, e)) in
-            let place : h.place ≡ x.serial - m = (let e = h.serial in omega (arith, e)) in (
-              h.is ∙ ap (λ (n : ℕ). nth_child k later m o.begun n (was.at x.serial)) place
+            let index : h.index ≡ x.serial - m = (let e = h.serial in omega (arith, e)) in (
+              h.is ∙ ap (λ (n : ℕ). nth_child k later m o.begun n (was.at x.serial)) index
                   ∙ sym (at_born x.serial upper),
               (let e = h.serial in let f = h.below in omega (arith, e, f)),
             )

@@ -28,7 +28,7 @@ use Rattle.job_meaning.specs.declared.clock.Clock.{Clock}
 use Rattle.job_meaning.specs.Walk.{Here, with_exc, excs_of, latest}
 use Rattle.job_meaning.specs.Asking as ask
 use Rattle.job_meaning.specs.Follow.{IsSettled}
-use Rattle.job_meaning.specs.Rest.{told_members, Stopped, to_begin, asking, asleep, waiting_for, giving_up, awaiting, at_end}
+use Rattle.job_meaning.specs.Rest.{outcome_members, Stopped, to_begin, asking, asleep, waiting_for, giving_up, awaiting, at_end}
 use Rattle.turn_semantics.specs.Midway.{Place, stack_at}
 use Rattle.turn_semantics.specs.Turned.{AgreesOn}
 use Rattle.turn_semantics.specs.Wakes.{ends_at, SettlesAt}
@@ -54,7 +54,7 @@ use Rattle.interleavings.specs.Interleaving.{Started, RunInvariant, live, goes_o
 use Rattle.interleavings.specs.Going.{root_result}
 use Rattle.interleavings.specs.Woken.{members_by, SeesNow, IsOver, WaitIsOver, MayWake}
 use Rattle.interleavings.proofs.Running.{runs_keep_invariant}
-use Rattle.interleavings.proofs.Agreement.{told_tells, told_ended}
+use Rattle.interleavings.proofs.Agreement.{outcomes_tell, outcomes_ended}
 use Rattle.run_refinement.specs.RunState.{RunState, IsMember, HasMembers, IsSince, SomeEnded, LastEnds, Follows, Refines}
 use Rattle.run_refinement.specs.Ready.{IsTimely, MayGo}
 use Rattle.run_refinement.proofs.EventPlaces.{HasEvent, has_event, awaited_set}
@@ -106,11 +106,11 @@ EndsAs at t serial None = ⊥
 EndsAs at t serial (Some None) = Unit {0}
 EndsAs at t serial (Some (Some exc)) = (u : ℕ) × (u ≤ t) × ((at serial).rest.stopped ≡ at_end u exc)
 
-ends_as : (state : RunState) (at : ℕ → Started) (t id place serial : ℕ) (end : Option End) → IsMember state at t id place serial end →
+ends_as : (state : RunState) (at : ℕ → Started) (t id index serial : ℕ) (end : Option End) → IsMember state at t id index serial end →
     EndsAs at t serial end
-ends_as state at t id place serial None h = h
-ends_as state at t id place serial (Some None) h = tt
-ends_as state at t id place serial (Some (Some exc)) h = (h.1, h.3, h.4)
+ends_as state at t id index serial None h = h
+ends_as state at t id index serial (Some None) h = tt
+ends_as state at t id index serial (Some (Some exc)) h = (h.1, h.3, h.4)
 
 -- all children have ended so
 abbrev pub AllEnded : (ℕ → Started) → ℕ → (ℕ → ℕ) → List ℕ → List End → Type 0
@@ -121,7 +121,7 @@ AllEnded at t child (i ∷ is) (None ∷ es) = ⊥
 AllEnded at t child (i ∷ is) (Some exc ∷ es) = EndsAs at t (child i) (Some (Some exc)) × AllEnded at t child is es
 
 all_ended : (at : ℕ → Started) (t : ℕ) (child : ℕ → ℕ) (is : List ℕ) (es : List End) → length is ≡ length es → list_all is_some es ≡ true →
-    ((place number : ℕ) → slice_get is place ≡ Some number → EndsAs at t (child number) (slice_get es place)) → AllEnded at t child is es
+    ((index number : ℕ) → slice_get is index ≡ Some number → EndsAs at t (child number) (slice_get es index)) → AllEnded at t child is es
 all_ended at t child [] [] long over h = tt
 all_ended at t child [] (e ∷ es) long over h = absurd (let f : 0 ≡ suc (length es) = long in omega arith)
 all_ended at t child (i ∷ is) [] long over h = absurd (let f : suc (length is) ≡ 0 = long in omega arith)
@@ -129,7 +129,7 @@ all_ended at t child (i ∷ is) (None ∷ es) long over h = absurd (let f : fals
 all_ended at t child (i ∷ is) (Some exc ∷ es) long over h = (
   h zero i refl,
   all_ended at t child is es (let f : suc (length is) ≡ suc (length es) = long in omega arith) over
-      (λ place number e. h (suc place) number e),
+      (λ index number e. h (suc index) number e),
 )
 
 same_with : (exc : Option Exc) (es : List Exc) → nursery.with_exc (Some exc) es ≡ with_exc exc es
@@ -182,10 +182,10 @@ latest_among ends u (j ∷ is) i (inl e) =
     omega (arith, a, b)
 latest_among ends u (j ∷ is) i (inr among) = latest_among ends (max u (ends j).end) is i among
 
-among_got_at : (i : ℕ) (is : List ℕ) (place : ℕ) → slice_get is place ≡ Some i → IsAmong i is
-among_got_at i [] place e = absurd (let f : None ≡ Some i = e in cc)
+among_got_at : (i : ℕ) (is : List ℕ) (index : ℕ) → slice_get is index ≡ Some i → IsAmong i is
+among_got_at i [] index e = absurd (let f : None ≡ Some i = e in cc)
 among_got_at i (j ∷ is) zero e = inl (let f : Some j ≡ Some i = e in cc)
-among_got_at i (j ∷ is) (suc place) e = inr (among_got_at i is place e)
+among_got_at i (j ∷ is) (suc index) e = inr (among_got_at i is index e)
 
 -- ---- the scope of a nursery that is waited for
 
@@ -287,7 +287,7 @@ waited k job input t m state c s task lives id since u children task_state numbe
     book : NurseryBook
     book = state.world.book
 
-    it : Follows state c.interleaving.froms input t at c.numbers None s task
+    it : Follows state c.interleaving.cancelled_from input t at c.numbers None s task
     it = c.follows s task lives
 
     has : HasMembers state at t (c.numbers s) q id n
@@ -302,7 +302,7 @@ waited k job input t m state c s task lives id since u children task_state numbe
     has_ended =
         subst (λ (is : List ℕ). AllEnded at n.last q.child is n.children) numbers
         (all_ended at n.last q.child (c.numbers s id) n.children has.long (settled_children n over)
-        (λ place number e. ends_as state at n.last id place (q.child number) (slice_get n.children place) (has.members place number e).1))
+        (λ index number e. ends_as state at n.last id index (q.child number) (slice_get n.children index) (has.members index number e).1))
 
     is_child : (i : ℕ) → IsAmong i children → i < q.count
     is_child i among =
@@ -325,7 +325,7 @@ waited k job input t m state c s task lives id since u children task_state numbe
     no_earlier (inl now) = let a = latest_of u (members_by (ends at n.last q.child) children) in omega (arith, a, now, same)
     no_earlier (inr x) =
         let among : IsAmong x.number children =
-        subst (IsAmong x.number) numbers (among_got_at x.number (c.numbers s id) x.place x.is) in
+        subst (IsAmong x.number) numbers (among_got_at x.number (c.numbers s id) x.index x.is) in
         let a = latest_among (ends at n.last q.child) u children x.number among in
         let b : (ends at n.last q.child x.number).end ≡ n.last = ap (λ (y : Stopped). (member_of y).end) x.ended in
         omega (arith, a, b)
@@ -342,7 +342,7 @@ same_now x t own e f = λ i. record { at = e i; own = f i }
 pub may_wake : (k : Table) (job : Job) (input : List ℕ) (t m : ℕ) (state : RunState) → IsSettled k job input → GivesNamesOnce job →
     StartsInNurseries job →
     (c : Refines k job input t m None state) → (s : ℕ) (task : Task) → state.task s ≡ Some task → (wake : Wake) → MayGo state.world task wake →
-    MayWake c.interleaving.froms c.interleaving.tasks (record { at = t; own = (now_for wake (state_of task state.world)).own })
+    MayWake c.interleaving.cancelled_from c.interleaving.tasks (record { at = t; own = (now_for wake (state_of task state.world)).own })
     (c.interleaving.at s) (wake_in state.world.book task.task_state wake) (c.interleaving.at s).rest.stopped
 may_wake k job input t m state settled names starting c s task lives wake may =
     by_stop task.task_state q.rest.stopped refl it.task_state it.since it.stands.event
@@ -355,7 +355,7 @@ may_wake k job input t m state settled names starting c s task lives wake may =
     qs = c.interleaving.tasks
 
     f : Table
-    f = c.interleaving.froms
+    f = c.interleaving.cancelled_from
 
     book : NurseryBook
     book = state.world.book
@@ -398,7 +398,7 @@ may_wake k job input t m state settled names starting c s task lives wake may =
     )
     answers_now _ kernel purpose asked p same h since late = absurd h
 
-    -- the same is seen in the world and in the froms
+    -- the same is seen in the world and in the moments of cancellation
     same_seen : (b : Bool) → seen stack state.world.tick ≡ b → seen (stack_at f q.places).scopes t ≡ b
     same_seen b e = sym (seen_at labels (event_at state.world) f stack q.places t it.stands.places) ∙ ap (λ (v : ℕ). seen stack v) (sym c.tick) ∙ e
 
@@ -462,7 +462,7 @@ may_wake k job input t m state settled names starting c s task lives wake may =
     -- a nursery that is waited for is over when it is settled
     over_now : (id since u : ℕ) (children : List ℕ) (exc : Option Exc) → task.task_state ≡ Awaits id since → c.numbers s id ≡ children →
         since ≡ u → HasNursery book id (λ n. n.body ≡ Some exc) →
-        t ≤ a_round_after q.here.clock (latest u (told_members q.told children)) → HasNursery book id (λ n. is_settled n ≡ true) →
+        t ≤ a_round_after q.here.clock (latest u (outcome_members q.outcomes children)) → HasNursery book id (λ n. is_settled n ≡ true) →
         HasNursery book id (λ n. a_round_after state.world.clock n.last ≤ state.world.tick) →
         WaitIsOver qs q t children u exc (raised_in (nursery_at book id))
     over_now id since u children exc task_state numbers same body late over timely =
@@ -492,11 +492,11 @@ may_wake k job input t m state settled names starting c s task lives wake may =
             gives book id n.0 (λ n. a_round_after state.world.clock n.last ≤ state.world.tick) n.1 timely in
             let b : a_round_after q.here.clock (latest u (members_by found children)) ≡ a_round_after state.world.clock n.0.last =
             ap (a_round_after q.here.clock) w.last ∙ ap (λ (x : Clock). a_round_after x n.0.last) (sym clock) in
-            let told : latest u (told_members q.told children) ≡ latest u (members_by found children) =
+            let as_found : latest u (outcome_members q.outcomes children) ≡ latest u (members_by found children) =
             ap (latest u)
-            (told_ended k f (root_result k job input) qs on.0 q there q.told (told_tells q) found children w.numbers w.over) in
+            (outcomes_ended k f (root_result k job input) qs on.0 q there q.outcomes (outcomes_tell q) found children w.numbers w.over) in
             let d : t ≤ a_round_after q.here.clock (latest u (members_by found children)) =
-            subst (λ (v : ℕ). t ≤ a_round_after q.here.clock v) told late in
+            subst (λ (v : ℕ). t ≤ a_round_after q.here.clock v) as_found late in
             let e : state.world.tick ≡ t = c.tick in
             same_moment (a_round_after q.here.clock (latest u (members_by found children))) (a_round_after state.world.clock n.0.last)
             state.world.tick t b a e d
@@ -533,7 +533,7 @@ may_wake k job input t m state settled names starting c s task lives wake may =
 
     settles_now : (w : Wake) (id since u : ℕ) (children : List ℕ) (exc : Option Exc) → task.task_state ≡ Awaits id since →
         c.numbers s id ≡ children → since ≡ u → HasNursery book id (λ n. n.body ≡ Some exc) →
-        t ≤ a_round_after q.here.clock (latest u (told_members q.told children)) → WakesFrom (Awaits id since) task.part book w →
+        t ≤ a_round_after q.here.clock (latest u (outcome_members q.outcomes children)) → WakesFrom (Awaits id since) task.part book w →
         HasNursery book id (λ n. a_round_after state.world.clock n.last ≤ state.world.tick) →
         MayWake f qs (now w) q (wake_in book (Awaits id since) w) (awaiting children u exc)
     settles_now Settled id since u children exc task_state numbers same body late h timely =
@@ -544,7 +544,7 @@ may_wake k job input t m state settled names starting c s task lives wake may =
 
     by_stop : (task_state : TaskState) (stopped : Stopped) → task.task_state ≡ task_state → IsTaskState (c.numbers s) book task_state stopped →
         IsSince t task.cancelled.items task_state q.stop → AwaitsEvent labels stack (Some stopped) task_state q.places →
-        HasEvent stopped q.places → (live stopped ≡ true → t ≤ goes_on q.here.clock q.told stopped (stack_at k q.places) q.stop.at) → WakesFrom task_state task.part book wake → IsTimely state.world (scope_of task) task_state wake →
+        HasEvent stopped q.places → (live stopped ≡ true → t ≤ goes_on q.here.clock q.outcomes stopped (stack_at k q.places) q.stop.at) → WakesFrom task_state task.part book wake → IsTimely state.world (scope_of task) task_state wake →
         MayWake f qs (now wake) q (wake_in book task_state wake) stopped
     by_stop (ToBegin at) to_begin e h since event some late fits timely = begins_now wake at fits since timely
     by_stop (Asked kernel purpose) (asking asked p) e h since event some late fits timely =

@@ -13,7 +13,7 @@ use Rattle.job_meaning.specs.declared.clock.Clock.TheVariants.{ByTicks as by_tic
 use Rattle.job_meaning.specs.Walk.{Here, event_on, pace_ticks}
 use Rattle.job_meaning.specs.Rest.{Frame, steps_left, in_scope, in_event, in_nursery, in_repeat, in_try, in_handler, in_cleanup, Stopped, to_begin, asking, asleep, waiting_for, giving_up, awaiting, at_end, inside}
 use Rattle.turn_semantics.specs.Midway.{Place, label_among, stack_at, Midway, Begun, Move, after_move, then_move, now_after}
-use Rattle.turn_semantics.specs.Steps.{froms_after, falls_asleep, waits_on, begun_over, begins_passes, step_on, step_steps, handler_if, step_try, step_pass, step_frames, step_of, turn_of}
+use Rattle.turn_semantics.specs.Steps.{cancelled_from_after, falls_asleep, waits_on, begun_over, begins_passes, step_on, step_steps, handler_if, step_try, step_pass, step_frames, step_of, turn_of}
 use Rattle.turn_semantics.specs.Wakes.{Wake, begins, sees, gives_up, is_due, has_answer, settles, ends_at, is_checkpoint, gives_up_if, notes_wait, is_due_from, with_answer, sees_from, wake_of, turn_from}
 use Rattle.run_refinement.proofs.ActsKeep.{not_both}
 use Rattle.task_machine.proofs.Stacked.{one_of}
@@ -55,39 +55,39 @@ passes_on : (input : List ℕ) (n : ℕ) (body : Steps) (fs : List Frame) (ps : 
 passes_on input zero body fs ps = tt
 passes_on input (suc k) body fs ps = tt
 
-one_on : (input : List ℕ) (froms : Table) (now : Now) (here : Here) (s : Step) (ss : Steps) (fs : List Frame) (ps : List Place) (count : ℕ)
+one_on : (input : List ℕ) (cancelled_from : Table) (now : Now) (here : Here) (s : Step) (ss : Steps) (fs : List Frame) (ps : List Place) (count : ℕ)
     →
     here.input ≡ input →
-    AllOn input (step_on froms now here s ss fs ps count).begun
-one_on input froms now here (sleep n) ss fs ps count e = asleep_on input here.clock (seen (stack_at froms ps).scopes now.at) false n now.at
+    AllOn input (step_on cancelled_from now here s ss fs ps count).begun
+one_on input cancelled_from now here (sleep n) ss fs ps count e = asleep_on input here.clock (seen (stack_at cancelled_from ps).scopes now.at) false n now.at
     (steps_left ss ∷ fs) ps
-one_on input froms now here checkpoint ss fs ps count e = asleep_on input here.clock (seen (stack_at froms ps).scopes now.at) false 0 now.at
+one_on input cancelled_from now here checkpoint ss fs ps count e = asleep_on input here.clock (seen (stack_at cancelled_from ps).scopes now.at) false 0 now.at
     (steps_left ss ∷ fs) ps
-one_on input froms now here forever ss fs ps count e = asleep_on input here.clock (seen (stack_at froms ps).scopes now.at) false
+one_on input cancelled_from now here forever ss fs ps count e = asleep_on input here.clock (seen (stack_at cancelled_from ps).scopes now.at) false
     (far - tick_of here.clock now.at) now.at (steps_left ss ∷ fs) ps
-one_on input froms now here (pace k) ss fs ps count e = tt
-one_on input froms now here (find text) ss fs ps count e = tt
-one_on input froms now here (head n) ss fs ps count e = tt
-one_on input froms now here longest ss fs ps count e = tt
-one_on input froms now here (need text name) ss fs ps count e = tt
-one_on input froms now here (raise name) ss fs ps count e = tt
-one_on input froms now here (cancel name) ss fs ps count e = tt
-one_on input froms now here (set_event name) ss fs ps count e = tt
-one_on input froms now here (wait_for name) ss fs ps count e = waits_on_input input (label_among true name ps) name now.at (steps_left ss ∷ fs) ps
-one_on input froms now here (scope name d shield fail body) ss fs ps count e = tt
-one_on input froms now here (nursery name d shield body) ss fs ps count e = tt
-one_on input froms now here (event name body) ss fs ps count e = tt
-one_on input froms now here (start name None body) ss fs ps count e = (e, tt)
-one_on input froms now here (start name (Some k) body) ss fs ps count e =
+one_on input cancelled_from now here (pace k) ss fs ps count e = tt
+one_on input cancelled_from now here (find text) ss fs ps count e = tt
+one_on input cancelled_from now here (head n) ss fs ps count e = tt
+one_on input cancelled_from now here longest ss fs ps count e = tt
+one_on input cancelled_from now here (need text name) ss fs ps count e = tt
+one_on input cancelled_from now here (raise name) ss fs ps count e = tt
+one_on input cancelled_from now here (cancel name) ss fs ps count e = tt
+one_on input cancelled_from now here (set_event name) ss fs ps count e = tt
+one_on input cancelled_from now here (wait_for name) ss fs ps count e = waits_on_input input (label_among true name ps) name now.at (steps_left ss ∷ fs) ps
+one_on input cancelled_from now here (scope name d shield fail body) ss fs ps count e = tt
+one_on input cancelled_from now here (nursery name d shield body) ss fs ps count e = tt
+one_on input cancelled_from now here (event name body) ss fs ps count e = tt
+one_on input cancelled_from now here (start name None body) ss fs ps count e = (e, tt)
+one_on input cancelled_from now here (start name (Some k) body) ss fs ps count e =
     subst (λ (xs : List ℕ). AllOn xs (begun_over name here k body ps count k)) e (over_on name here k body ps count k)
-one_on input froms now here (repeat n body) ss fs ps count e = passes_on input n body (steps_left ss ∷ fs) ps
-one_on input froms now here (attempt body handler cleanup) ss fs ps count e = tt
+one_on input cancelled_from now here (repeat n body) ss fs ps count e = passes_on input n body (steps_left ss ∷ fs) ps
+one_on input cancelled_from now here (attempt body handler cleanup) ss fs ps count e = tt
 
-block_on : (froms : Table) (now : Now) (here : Here) (ss : Steps) (fs : List Frame) (ps : List Place) (exc : Option Exc) (count : ℕ) →
-    AllOn here.input (step_steps froms now here ss fs ps exc count).begun
-block_on froms now here ss fs ps (Some e) count = tt
-block_on froms now here stop fs ps None count = tt
-block_on froms now here (step s ss) fs ps None count = one_on here.input froms now (inside fs here) s ss fs ps count refl
+block_on : (cancelled_from : Table) (now : Now) (here : Here) (ss : Steps) (fs : List Frame) (ps : List Place) (exc : Option Exc) (count : ℕ) →
+    AllOn here.input (step_steps cancelled_from now here ss fs ps exc count).begun
+block_on cancelled_from now here ss fs ps (Some e) count = tt
+block_on cancelled_from now here stop fs ps None count = tt
+block_on cancelled_from now here (step s ss) fs ps None count = one_on here.input cancelled_from now (inside fs here) s ss fs ps count refl
 
 pass_on : (input : List ℕ) (pass left : ℕ) (body : Steps) (fs : List Frame) (ps : List Place) (exc : Option Exc) →
     AllOn input (step_pass pass left body fs ps exc).begun
@@ -106,113 +106,113 @@ try_on input (except name body) cleanup fs ps (Some e) = by_match (keep (named n
     by_match None = tt
     by_match (Some x) = tt
 
-frame_on : (froms : Table) (now : Now) (here : Here) (fs : List Frame) (ps : List Place) (exc : Option Exc) (count : ℕ) →
-    AllOn here.input (step_frames froms now here fs ps exc count).begun
-frame_on froms now here [] ps exc count = tt
-frame_on froms now here (steps_left ss ∷ fs) ps exc count = block_on froms now here ss fs ps exc count
-frame_on froms now here (in_scope fail ∷ fs) [] exc count = tt
-frame_on froms now here (in_scope fail ∷ fs) (p ∷ ps) exc count = tt
-frame_on froms now here (in_event ∷ fs) [] exc count = tt
-frame_on froms now here (in_event ∷ fs) (p ∷ ps) exc count = tt
-frame_on froms now here (in_nursery children ∷ fs) [] exc count = tt
-frame_on froms now here (in_nursery children ∷ fs) (p ∷ ps) exc count = tt
-frame_on froms now here (in_repeat pass left body ∷ fs) ps exc count = pass_on here.input pass left body fs ps exc
-frame_on froms now here (in_try handler cleanup ∷ fs) ps exc count = try_on here.input handler cleanup fs ps exc
-frame_on froms now here (in_handler rest cleanup ∷ fs) ps exc count = tt
-frame_on froms now here (in_cleanup outcome ∷ fs) ps exc count = tt
+frame_on : (cancelled_from : Table) (now : Now) (here : Here) (fs : List Frame) (ps : List Place) (exc : Option Exc) (count : ℕ) →
+    AllOn here.input (step_frames cancelled_from now here fs ps exc count).begun
+frame_on cancelled_from now here [] ps exc count = tt
+frame_on cancelled_from now here (steps_left ss ∷ fs) ps exc count = block_on cancelled_from now here ss fs ps exc count
+frame_on cancelled_from now here (in_scope fail ∷ fs) [] exc count = tt
+frame_on cancelled_from now here (in_scope fail ∷ fs) (p ∷ ps) exc count = tt
+frame_on cancelled_from now here (in_event ∷ fs) [] exc count = tt
+frame_on cancelled_from now here (in_event ∷ fs) (p ∷ ps) exc count = tt
+frame_on cancelled_from now here (in_nursery children ∷ fs) [] exc count = tt
+frame_on cancelled_from now here (in_nursery children ∷ fs) (p ∷ ps) exc count = tt
+frame_on cancelled_from now here (in_repeat pass left body ∷ fs) ps exc count = pass_on here.input pass left body fs ps exc
+frame_on cancelled_from now here (in_try handler cleanup ∷ fs) ps exc count = try_on here.input handler cleanup fs ps exc
+frame_on cancelled_from now here (in_handler rest cleanup ∷ fs) ps exc count = tt
+frame_on cancelled_from now here (in_cleanup outcome ∷ fs) ps exc count = tt
 
-step_on_input : (froms : Table) (now : Now) (here : Here) (m : Midway) → AllOn here.input (step_of froms now here m).begun
+step_on_input : (cancelled_from : Table) (now : Now) (here : Here) (m : Midway) → AllOn here.input (step_of cancelled_from now here m).begun
 unfolding step_of
-step_on_input froms now here m = frame_on froms now here m.frames m.places m.exc m.count
+step_on_input cancelled_from now here m = frame_on cancelled_from now here m.frames m.places m.exc m.count
 
 then_on : (input : List ℕ) (s : Option Stopped) (o q : Move) → AllOn input o.begun → AllOn input q.begun →
     AllOn input (then_move s o q).begun
 then_on input None o q h k = on_append input o.begun q.begun h k
 then_on input (Some s) o q h k = h
 
-steps_on_input : (n : ℕ) (froms : Table) (now : Now) (here : Here) (m : Midway) → AllOn here.input (turn_of n froms now here m).begun
+steps_on_input : (n : ℕ) (cancelled_from : Table) (now : Now) (here : Here) (m : Midway) → AllOn here.input (turn_of n cancelled_from now here m).begun
 unfolding turn_of
-steps_on_input zero froms now here m = tt
-steps_on_input (suc n) froms now here m =
-    let o = step_of froms now here m in
-    then_on here.input o.stopped o (turn_of n (froms_after froms o.made) (now_after here.clock now o.made) here (after_move m o))
-    (step_on_input froms now here m)
-    (steps_on_input n (froms_after froms o.made) (now_after here.clock now o.made) here (after_move m o))
+steps_on_input zero cancelled_from now here m = tt
+steps_on_input (suc n) cancelled_from now here m =
+    let o = step_of cancelled_from now here m in
+    then_on here.input o.stopped o (turn_of n (cancelled_from_after cancelled_from o.made) (now_after here.clock now o.made) here (after_move m o))
+    (step_on_input cancelled_from now here m)
+    (steps_on_input n (cancelled_from_after cancelled_from o.made) (now_after here.clock now o.made) here (after_move m o))
 
-answer_on : (input : List ℕ) (froms : Table) (t : ℕ) (here : Here) (a : Answer) (s : Stopped) (fs : List Frame) (ps : List Place) →
-    AllOn input (with_answer froms t here a s fs ps).begun
-answer_on input froms t here (lines ls) (asking kernel purpose) fs ps = tt
-answer_on input froms t here missing (asking kernel (needs name)) fs ps = tt
-answer_on input froms t here missing (asking kernel shows) fs ps = tt
-answer_on input froms t here missing (asking kernel (paces k)) fs ps = tt
-answer_on input froms t here (counted n) (asking kernel (paces k)) fs ps = asleep_on input here.clock (seen (stack_at froms ps).scopes t) true
+answer_on : (input : List ℕ) (cancelled_from : Table) (t : ℕ) (here : Here) (a : Answer) (s : Stopped) (fs : List Frame) (ps : List Place) →
+    AllOn input (with_answer cancelled_from t here a s fs ps).begun
+answer_on input cancelled_from t here (lines ls) (asking kernel purpose) fs ps = tt
+answer_on input cancelled_from t here missing (asking kernel (needs name)) fs ps = tt
+answer_on input cancelled_from t here missing (asking kernel shows) fs ps = tt
+answer_on input cancelled_from t here missing (asking kernel (paces k)) fs ps = tt
+answer_on input cancelled_from t here (counted n) (asking kernel (paces k)) fs ps = asleep_on input here.clock (seen (stack_at cancelled_from ps).scopes t) true
     (pace_ticks n k) t fs ps
-answer_on input froms t here (counted n) (asking kernel shows) fs ps = tt
-answer_on input froms t here (counted n) (asking kernel (needs name)) fs ps = tt
-answer_on input froms t here a to_begin fs ps = tt
-answer_on input froms t here a (asleep paced n since) fs ps = tt
-answer_on input froms t here a (waiting_for e since) fs ps = tt
-answer_on input froms t here a (giving_up since) fs ps = tt
-answer_on input froms t here a (awaiting children ended exc) fs ps = tt
-answer_on input froms t here a (at_end u e) fs ps = tt
+answer_on input cancelled_from t here (counted n) (asking kernel shows) fs ps = tt
+answer_on input cancelled_from t here (counted n) (asking kernel (needs name)) fs ps = tt
+answer_on input cancelled_from t here a to_begin fs ps = tt
+answer_on input cancelled_from t here a (asleep paced n since) fs ps = tt
+answer_on input cancelled_from t here a (waiting_for e since) fs ps = tt
+answer_on input cancelled_from t here a (giving_up since) fs ps = tt
+answer_on input cancelled_from t here a (awaiting children ended exc) fs ps = tt
+answer_on input cancelled_from t here a (at_end u e) fs ps = tt
 
 gives_up_on : (input : List ℕ) (b : Bool) (t : ℕ) (fs : List Frame) (ps : List Place) → AllOn input (gives_up_if b t fs ps).begun
 gives_up_on input true t fs ps = tt
 gives_up_on input false t fs ps = tt
 
-sees_on : (input : List ℕ) (clock : Clock) (froms : Table) (t : ℕ) (s : Stopped) (fs : List Frame) (ps : List Place) →
-    AllOn input (sees_from clock froms t s fs ps).begun
-sees_on input clock froms t (asleep false zero since) fs ps = tt
-sees_on input clock froms t (asleep false (suc n) since) fs ps = tt
-sees_on input clock froms t (asleep true n since) fs ps = tt
-sees_on input clock froms t to_begin fs ps = tt
-sees_on input clock froms t (asking kernel purpose) fs ps = tt
-sees_on input clock froms t (waiting_for e since) fs ps =
-    gives_up_on input (is_checkpoint clock (ends_at clock froms e since ps) since) t fs ps
-sees_on input clock froms t (giving_up since) fs ps = tt
-sees_on input clock froms t (awaiting children ended exc) fs ps = tt
-sees_on input clock froms t (at_end u e) fs ps = tt
+sees_on : (input : List ℕ) (clock : Clock) (cancelled_from : Table) (t : ℕ) (s : Stopped) (fs : List Frame) (ps : List Place) →
+    AllOn input (sees_from clock cancelled_from t s fs ps).begun
+sees_on input clock cancelled_from t (asleep false zero since) fs ps = tt
+sees_on input clock cancelled_from t (asleep false (suc n) since) fs ps = tt
+sees_on input clock cancelled_from t (asleep true n since) fs ps = tt
+sees_on input clock cancelled_from t to_begin fs ps = tt
+sees_on input clock cancelled_from t (asking kernel purpose) fs ps = tt
+sees_on input clock cancelled_from t (waiting_for e since) fs ps =
+    gives_up_on input (is_checkpoint clock (ends_at clock cancelled_from e since ps) since) t fs ps
+sees_on input clock cancelled_from t (giving_up since) fs ps = tt
+sees_on input clock cancelled_from t (awaiting children ended exc) fs ps = tt
+sees_on input clock cancelled_from t (at_end u e) fs ps = tt
 
 note_on : (input : List ℕ) (o : Option (Level Label)) (t : ℕ) (fs : List Frame) (ps : List Place) → AllOn input (notes_wait o t fs ps).begun
 note_on input None t fs ps = tt
 note_on input (Some l) t fs ps = tt
 
-due_on : (input : List ℕ) (froms : Table) (t : ℕ) (s : Stopped) (fs : List Frame) (ps : List Place) → AllOn input (is_due_from froms t s fs ps).begun
-due_on input froms t (waiting_for e since) fs ps = note_on input (event_on e (stack_at froms ps).events) t fs ps
-due_on input froms t to_begin fs ps = tt
-due_on input froms t (asking kernel purpose) fs ps = tt
-due_on input froms t (asleep paced n since) fs ps = tt
-due_on input froms t (giving_up since) fs ps = tt
-due_on input froms t (awaiting children ended exc) fs ps = tt
-due_on input froms t (at_end u e) fs ps = tt
+due_on : (input : List ℕ) (cancelled_from : Table) (t : ℕ) (s : Stopped) (fs : List Frame) (ps : List Place) → AllOn input (is_due_from cancelled_from t s fs ps).begun
+due_on input cancelled_from t (waiting_for e since) fs ps = note_on input (event_on e (stack_at cancelled_from ps).events) t fs ps
+due_on input cancelled_from t to_begin fs ps = tt
+due_on input cancelled_from t (asking kernel purpose) fs ps = tt
+due_on input cancelled_from t (asleep paced n since) fs ps = tt
+due_on input cancelled_from t (giving_up since) fs ps = tt
+due_on input cancelled_from t (awaiting children ended exc) fs ps = tt
+due_on input cancelled_from t (at_end u e) fs ps = tt
 
-wake_on : (input : List ℕ) (froms : Table) (now : Now) (here : Here) (w : Wake) (s : Stopped) (fs : List Frame) (ps : List Place) →
-    AllOn input (wake_of froms now here w s fs ps).begun
-wake_on input froms now here begins s fs ps = tt
-wake_on input froms now here sees s fs ps = sees_on input here.clock froms now.at s fs ps
-wake_on input froms now here gives_up s fs ps = tt
-wake_on input froms now here is_due s fs ps = due_on input froms now.at s fs ps
-wake_on input froms now here (has_answer a) s fs ps = answer_on input froms now.at here a s fs ps
-wake_on input froms now here (settles exc) s fs [] = tt
-wake_on input froms now here (settles exc) s fs (p ∷ ps) = tt
+wake_on : (input : List ℕ) (cancelled_from : Table) (now : Now) (here : Here) (w : Wake) (s : Stopped) (fs : List Frame) (ps : List Place) →
+    AllOn input (wake_of cancelled_from now here w s fs ps).begun
+wake_on input cancelled_from now here begins s fs ps = tt
+wake_on input cancelled_from now here sees s fs ps = sees_on input here.clock cancelled_from now.at s fs ps
+wake_on input cancelled_from now here gives_up s fs ps = tt
+wake_on input cancelled_from now here is_due s fs ps = due_on input cancelled_from now.at s fs ps
+wake_on input cancelled_from now here (has_answer a) s fs ps = answer_on input cancelled_from now.at here a s fs ps
+wake_on input cancelled_from now here (settles exc) s fs [] = tt
+wake_on input cancelled_from now here (settles exc) s fs (p ∷ ps) = tt
 
 -- a whole turn
-pub turn_on_input : (n : ℕ) (froms : Table) (now : Now) (here : Here) (w : Wake) (s : Stopped) (fs : List Frame) (ps : List Place)
+pub turn_on_input : (n : ℕ) (cancelled_from : Table) (now : Now) (here : Here) (w : Wake) (s : Stopped) (fs : List Frame) (ps : List Place)
     (count : ℕ) →
-    AllOn here.input (turn_from n froms now here w s fs ps count).begun
+    AllOn here.input (turn_from n cancelled_from now here w s fs ps count).begun
 unfolding turn_from
-turn_on_input n froms now here w s fs ps count =
-    let o = wake_of froms now here w s fs ps in
+turn_on_input n cancelled_from now here w s fs ps count =
+    let o = wake_of cancelled_from now here w s fs ps in
     then_on here.input o.stopped o
-    (turn_of n (froms_after froms o.made) (now_after here.clock now o.made) here (record {
+    (turn_of n (cancelled_from_after cancelled_from o.made) (now_after here.clock now o.made) here (record {
       frames = o.frames;
       places = o.places;
       exc = o.exc;
       count =
           count + length o.begun;
     }))
-    (wake_on here.input froms now here w s fs ps)
-    (steps_on_input n (froms_after froms o.made) (now_after here.clock now o.made) here (record {
+    (wake_on here.input cancelled_from now here w s fs ps)
+    (steps_on_input n (cancelled_from_after cancelled_from o.made) (now_after here.clock now o.made) here (record {
       frames = o.frames;
       places = o.places;
       exc = o.exc;

@@ -19,7 +19,7 @@ use Rattle.task_machine.specs.Stops.{Numbers}
 use Rattle.interleavings.specs.Interleaving.{Started, Blocked}
 use Rattle.interleavings.specs.Runs.{jump, turns_taken}
 use Rattle.interleavings.specs.Rows.{children_made}
-use Rattle.run_refinement.specs.RunState.{Interleaving, RunState, Gone, HasHome, IsMember, HasMembers, IsSince, Follows, HasEnded, OpenedBy, AreStarted, Refines}
+use Rattle.run_refinement.specs.RunState.{Interleaving, RunState, EndedTask, HasHome, IsMember, HasMembers, IsSince, Follows, HasEnded, OpenedBy, AreStarted, Refines}
 use Rattle.run_refinement.specs.Moved.{SameTasks, moved_world}
 
 -- ---- the same tasks
@@ -44,19 +44,19 @@ module _ (t u m : ℕ) (le : t ≤ u) (old new : RunState) (at : ℕ → Started
         serial = h.serial;
       }
 
-  member_moved : (last id place serial : ℕ) (e : Option End) → IsMember old at last id place serial e →
-      IsMember there at last id place serial e
-  member_moved last id place serial None h = h
-  member_moved last id place serial (Some None) h = (h.0, same.task serial ∙ h.1, h.2)
-  member_moved last id place serial (Some (Some exc)) h = (h.0, h.1, same.gone serial ∙ h.2, h.3, h.4)
+  member_moved : (last id index serial : ℕ) (e : Option End) → IsMember old at last id index serial e →
+      IsMember there at last id index serial e
+  member_moved last id index serial None h = h
+  member_moved last id index serial (Some None) h = (h.0, same.task serial ∙ h.1, h.2)
+  member_moved last id index serial (Some (Some exc)) h = (h.0, h.1, same.ended_task serial ∙ h.2, h.3, h.4)
 
   members_moved : (ns : Numbers) (q : Started) (id : ℕ) (n : Nursery) → HasMembers old at t ns q id n → HasMembers there at u ns q id n
   members_moved ns q id n h =
       record {
         long = h.long;
         last = (let e = h.last in omega (arith, e, le));
-        members = λ place number e. (let g = h.members place number e in
-            (g.0, member_moved n.last id place (q.child number) (slice_get n.children place) g.1));
+        members = λ index number e. (let g = h.members index number e in
+            (g.0, member_moved n.last id index (q.child number) (slice_get n.children index) g.1));
       }
 
   nursery_moved : (ns : Numbers) (q : Started) (id : ℕ) (o : Option Nursery) → IsSomeAnd o (λ n. HasMembers old at t ns q id n) →
@@ -102,7 +102,7 @@ module _ (t u m : ℕ) (le : t ≤ u) (old new : RunState) (at : ℕ → Started
               home = h.goes.home;
               scope = h.goes.scope;
               first = h.goes.first;
-              froms = h.goes.froms;
+              cancelled_from = h.goes.cancelled_from;
               opened = h.goes.opened;
             };
         notes = h.notes;
@@ -122,7 +122,7 @@ module _ (t u m : ℕ) (le : t ≤ u) (old new : RunState) (at : ℕ → Started
   opened_back key s h = record {
     task = h.task;
     lives = sym (same.task s) ∙ h.lives;
-    place = h.place;
+    index = h.index;
     scope = h.scope;
     own = h.own;
     is =
@@ -130,7 +130,7 @@ module _ (t u m : ℕ) (le : t ≤ u) (old new : RunState) (at : ℕ → Started
   }
 
   opened_there : (key s : ℕ) → OpenedBy old key s → OpenedBy there key s
-  opened_there key s h = record { task = h.task; lives = same.task s ∙ h.lives; place = h.place; scope = h.scope; own = h.own; is = h.is }
+  opened_there key s h = record { task = h.task; lives = same.task s ∙ h.lives; index = h.index; scope = h.scope; own = h.own; is = h.is }
 
   started_moved : (clock : Clock) (child : ℕ → ℕ) (es : List rest.Event) → AreStarted clock old.start at child es →
       AreStarted clock new.start at child es
@@ -143,10 +143,10 @@ module _ (t u m : ℕ) (le : t ≤ u) (old new : RunState) (at : ℕ → Started
 -- what the code holds in the later moment, or with tasks taken, is the same run
 state_moved : (k : Table) (job : Job) (input : List ℕ) (t u m : ℕ) (leaving : Option ℕ) (old new : RunState) → t ≤ u → SameTasks old new →
     new.world ≡ moved_world old.world u new.world →
-    (c : Refines k job input t m leaving old) → (d : Interleaving k job input u m) → d.froms ≡ c.interleaving.froms → d.at ≡ c.interleaving.at →
+    (c : Refines k job input t m leaving old) → (d : Interleaving k job input u m) → d.cancelled_from ≡ c.interleaving.cancelled_from → d.at ≡ c.interleaving.at →
     turns_taken d.reached ≡ turns_taken c.interleaving.reached →
     (x : Refines k job input u m leaving new) × (x.interleaving.at ≡ d.at)
-state_moved k job input t u m leaving old new le same world c d froms at taken =
+state_moved k job input t u m leaving old new le same world c d cancelled_from at taken =
     subst (λ (w : World). (x : Refines k job input u m leaving (record new { world = w })) × (x.interleaving.at ≡ d.at)) (sym world) (
       record {
         interleaving = d;
@@ -157,12 +157,12 @@ state_moved k job input t u m leaving old new le same world c d froms at taken =
         small = c.small;
         some = c.some;
         begun = same.start 0 ∙ c.begun;
-        unborn = λ s less. (same.task s ∙ (c.unborn s less).0, same.gone s ∙ (c.unborn s less).1);
+        unborn = λ s less. (same.task s ∙ (c.unborn s less).0, same.ended_task s ∙ (c.unborn s less).1);
         ended = λ s less e. by_ended s (c.ended s less (sym (same.task s) ∙ e));
         follows = λ s task e.
-            subst (λ (f : Table). Follows (there t u m le old new d.at c.numbers same) f input u d.at c.numbers leaving s task) (sym froms)
-            (follows_moved t u m le old new d.at c.numbers same c.interleaving.froms input leaving s task
-            (subst (λ (a : ℕ → Started). Follows old c.interleaving.froms input t a c.numbers leaving s task) (sym at)
+            subst (λ (f : Table). Follows (there t u m le old new d.at c.numbers same) f input u d.at c.numbers leaving s task) (sym cancelled_from)
+            (follows_moved t u m le old new d.at c.numbers same c.interleaving.cancelled_from input leaving s task
+            (subst (λ (a : ℕ → Started). Follows old c.interleaving.cancelled_from input t a c.numbers leaving s task) (sym at)
             (c.follows s task (sym (same.task s) ∙ e))));
         owned = λ key o. (let h = c.owned key o in (h.0, opened_there t u m le old new d.at c.numbers same key h.0 h.1));
         apart = λ key s v x y. c.apart key s v (opened_back t u m le old new d.at c.numbers same key s x)
@@ -178,14 +178,14 @@ state_moved k job input t u m leaving old new le same world c d froms at taken =
       refl,
     )
   where
-    by_ended : (s : ℕ) → (g : Gone) × (old.gone s ≡ Some g) × HasEnded old.world.clock c.interleaving.froms input t (c.interleaving.at s) g
+    by_ended : (s : ℕ) → (g : EndedTask) × (old.ended_task s ≡ Some g) × HasEnded old.world.clock c.interleaving.cancelled_from input t (c.interleaving.at s) g
         →
-        (g : Gone) × (new.gone s ≡ Some g) × HasEnded old.world.clock d.froms input u (d.at s) g
+        (g : EndedTask) × (new.ended_task s ≡ Some g) × HasEnded old.world.clock d.cancelled_from input u (d.at s) g
     by_ended s h = (
       h.0,
-      same.gone s ∙ h.1,
-      subst (λ (f : Table). HasEnded old.world.clock f input u (d.at s) h.0) (sym froms)
-          (subst (λ (a : ℕ → Started). HasEnded old.world.clock c.interleaving.froms input u (a s) h.0) (sym at)
+      same.ended_task s ∙ h.1,
+      subst (λ (f : Table). HasEnded old.world.clock f input u (d.at s) h.0) (sym cancelled_from)
+          (subst (λ (a : ℕ → Started). HasEnded old.world.clock c.interleaving.cancelled_from input u (a s) h.0) (sym at)
           (record {
             label = h.2.label;
             end = h.2.end;
@@ -194,20 +194,20 @@ state_moved k job input t u m leaving old new le same world c d froms at taken =
             before = (let e = h.2.before in omega (arith, e, le));
             notes =
                 h.2.notes;
-            froms = h.2.froms;
+            cancelled_from = h.2.cancelled_from;
           })),
     )
 
 -- the clock jumps where no task is ready
 pub state_jumps : (k : Table) (job : Job) (input : List ℕ) (t u m : ℕ) (old new : RunState) → t ≤ u → SameTasks old new →
     new.world ≡ moved_world old.world u new.world →
-    (c : Refines k job input t m None old) → Blocked c.interleaving.froms c.interleaving.tasks u → Refines k job input u m None new
+    (c : Refines k job input t m None old) → Blocked c.interleaving.cancelled_from c.interleaving.tasks u → Refines k job input u m None new
 state_jumps k job input t u m old new le same world c blocked =
     (state_moved k job input t u m None old new le same world c
     (record {
-      froms = c.interleaving.froms;
+      cancelled_from = c.interleaving.cancelled_from;
       tasks = c.interleaving.tasks;
-      reached = jump c.interleaving.froms t u m c.interleaving.tasks c.interleaving.reached le blocked;
+      reached = jump c.interleaving.cancelled_from t u m c.interleaving.tasks c.interleaving.reached le blocked;
       at = c.interleaving.at;
       has = c.interleaving.has;
       one = c.interleaving.one;

@@ -62,7 +62,7 @@ use Rattle.run_refinement.proofs.Parts.{begun_at}
 use Rattle.run_refinement.proofs.Found.{finds, gives}
 use Rattle.run_refinement.proofs.Going.{settled_children}
 use Rattle.task_machine.proofs.Stopping.{settled_from}
-use Rattle.run_refinement.proofs.Told.{same_owner, Told, stays, tells, told}
+use Rattle.run_refinement.proofs.Recorded.{same_owner, Recorded, stays, tells, recorded}
 
 -- ---- a wake in another world
 
@@ -130,13 +130,13 @@ pub seen_still : {k : Table} {job : Job} {input : List ℕ} {t m s : ℕ} {old n
     IsSettled k job input → GivesNamesOnce job → StartsInNurseries job →
     (c : Refines k job input t m None old) → (T : Turning k job input t m s old new c.numbers before after stop c.interleaving) → (u : ℕ) → u < m →
     u ≢ s → (task : Task) → old.task u ≡ Some task →
-    Follows new T.is.froms input t T.is.at (numbers_then c.numbers s m T.took.numbers_after) (leaving_by stop s) u task →
+    Follows new T.is.cancelled_from input t T.is.at (numbers_then c.numbers s m T.took.numbers_after) (leaving_by stop s) u task →
     seen (outer_of new.world.scopes (scope_of task)) t ≡ seen (outer_of old.world.scopes (scope_of task)) t
 seen_still {k} {job} {input} {t} {m} {s} {old} {new} {before} {after} {stop} settled names starting c T u below differs task lives now =
-    seen_at (label_at new.world) (event_at new.world) T.is.froms (outer_of new.world.scopes (scope_of task)) (T.is.at u).places t now.stands.places
-    ∙ ap (λ (x : Started). seen (stack_at T.is.froms x.places).scopes t) other
+    seen_at (label_at new.world) (event_at new.world) T.is.cancelled_from (outer_of new.world.scopes (scope_of task)) (T.is.at u).places t now.stands.places
+    ∙ ap (λ (x : Started). seen (stack_at T.is.cancelled_from x.places).scopes t) other
     ∙ sym seen_after ∙ seen_before
-    ∙ sym (seen_at (label_at old.world) (event_at old.world) c.interleaving.froms (outer_of old.world.scopes (scope_of task)) q.places t
+    ∙ sym (seen_at (label_at old.world) (event_at old.world) c.interleaving.cancelled_from (outer_of old.world.scopes (scope_of task)) q.places t
     (c.follows u task lives).stands.places)
   where
     q : Started
@@ -148,24 +148,24 @@ seen_still {k} {job} {input} {t} {m} {s} {old} {new} {before} {after} {stop} set
     IsOn : Table → List Started → Type 0
     IsOn f qs = RunInvariant k f (root_result k job input) qs × AllFrom k qs t × ((x : Started) → IsAmong x qs → AgreesOn t k f x.places)
 
-    on_before : IsOn c.interleaving.froms c.interleaving.tasks
-    on_before = runs_keep_invariant k job input settled names starting c.interleaving.froms t m c.interleaving.tasks c.interleaving.reached
+    on_before : IsOn c.interleaving.cancelled_from c.interleaving.tasks
+    on_before = runs_keep_invariant k job input settled names starting c.interleaving.cancelled_from t m c.interleaving.tasks c.interleaving.reached
 
-    on_after : IsOn T.is.froms T.is.tasks
-    on_after = runs_keep_invariant k job input settled names starting T.is.froms t (m + length T.move.begun) T.is.tasks T.is.reached
+    on_after : IsOn T.is.cancelled_from T.is.tasks
+    on_after = runs_keep_invariant k job input settled names starting T.is.cancelled_from t (m + length T.move.begun) T.is.tasks T.is.reached
 
     less : u < m + length T.move.begun
     less = omega (arith, below)
 
-    seen_before : seen (stack_at k q.places).scopes t ≡ seen (stack_at c.interleaving.froms q.places).scopes t
+    seen_before : seen (stack_at k q.places).scopes t ≡ seen (stack_at c.interleaving.cancelled_from q.places).scopes t
     seen_before =
-        seen_near (suc t) (stack_at k q.places).scopes (stack_at c.interleaving.froms q.places).scopes t
-        (near_places t k c.interleaving.froms q.places (on_before.2 q (c.interleaving.has u below).0)).0 (omega arith)
+        seen_near (suc t) (stack_at k q.places).scopes (stack_at c.interleaving.cancelled_from q.places).scopes t
+        (near_places t k c.interleaving.cancelled_from q.places (on_before.2 q (c.interleaving.has u below).0)).0 (omega arith)
 
-    seen_after : seen (stack_at k q.places).scopes t ≡ seen (stack_at T.is.froms q.places).scopes t
+    seen_after : seen (stack_at k q.places).scopes t ≡ seen (stack_at T.is.cancelled_from q.places).scopes t
     seen_after =
-        seen_near (suc t) (stack_at k q.places).scopes (stack_at T.is.froms q.places).scopes t
-        (near_places t k T.is.froms q.places (on_after.2 q (subst (λ (x : Started). IsAmong x T.is.tasks) other (T.is.has u less).0))).0
+        seen_near (suc t) (stack_at k q.places).scopes (stack_at T.is.cancelled_from q.places).scopes t
+        (near_places t k T.is.cancelled_from q.places (on_after.2 q (subst (λ (x : Started). IsAmong x T.is.tasks) other (T.is.has u less).0))).0
         (omega arith)
 
 -- a task that may continue may still do so
@@ -173,15 +173,15 @@ pub still_goes : {k : Table} {job : Job} {input : List ℕ} {t m s : ℕ} {old n
     IsSettled k job input → GivesNamesOnce job → StartsInNurseries job →
     (c : Refines k job input t m None old) → (T : Turning k job input t m s old new c.numbers before after stop c.interleaving) → (u : ℕ) → u < m →
     u ≢ s → (task : Task) → old.task u ≡ Some task →
-    Follows new T.is.froms input t T.is.at (numbers_then c.numbers s m T.took.numbers_after) (leaving_by stop s) u task → (wake : Wake) →
+    Follows new T.is.cancelled_from input t T.is.at (numbers_then c.numbers s m T.took.numbers_after) (leaving_by stop s) u task → (wake : Wake) →
     MayGo old.world task wake → MayGo new.world task wake
 still_goes {t = t} {old = old} {new = new} settled names starting c T u below differs task lives now wake may =
     may_still old.world new.world task wake (ap (λ (w : World). w.clock) T.code.world) tick same
     (λ id e over. nursery_same c T u task differs lives id (inr e)) (sets task.task_state refl) may
   where
-    places : AreAt (label_at new.world) (event_at new.world) T.is.froms (outer_of new.world.scopes (scope_of task)) (c.interleaving.at u).places
+    places : AreAt (label_at new.world) (event_at new.world) T.is.cancelled_from (outer_of new.world.scopes (scope_of task)) (c.interleaving.at u).places
     places =
-        subst (λ (x : Started). AreAt (label_at new.world) (event_at new.world) T.is.froms (outer_of new.world.scopes (scope_of task)) x.places)
+        subst (λ (x : Started). AreAt (label_at new.world) (event_at new.world) T.is.cancelled_from (outer_of new.world.scopes (scope_of task)) x.places)
         (T.of_other u below differs) now.stands.places
 
     sets : (task_state : TaskState) → task.task_state ≡ task_state → SetsAlike old.world new.world task_state
@@ -306,7 +306,7 @@ module _ (k : Table) (job : Job) (input : List ℕ) (t m s : ℕ) (old new : Run
       q : Started
       q = c.interleaving.at s
 
-      it : Follows old c.interleaving.froms input t c.interleaving.at c.numbers (Some s) s task
+      it : Follows old c.interleaving.cancelled_from input t c.interleaving.at c.numbers (Some s) s task
       it = c.follows s task l.was
 
       blocks : blocks_of task.frames.items ≡ []
@@ -337,29 +337,29 @@ module _ (k : Table) (job : Job) (input : List ℕ) (t m s : ℕ) (old new : Run
       parent_differs : parent p ≢ s
       parent_differs e = no_nursery home.nursery keeps.task (ap old.task (sym e) ∙ keeps.lives) keeps.owned
 
-  none_runs : (es : List End) (place : ℕ) → list_all is_some es ≡ true → slice_get es place ≡ Some None → ⊥
-  none_runs [] place e f = not_both refl f
-  none_runs (None ∷ es) place e f = absurd (let g : false ≡ true = e in cc)
+  none_runs : (es : List End) (index : ℕ) → list_all is_some es ≡ true → slice_get es index ≡ Some None → ⊥
+  none_runs [] index e f = not_both refl f
+  none_runs (None ∷ es) index e f = absurd (let g : false ≡ true = e in cc)
   none_runs (Some x ∷ es) zero e f = absurd (let g : Some x ≡ None = one_of (Some x) None f in cc)
-  none_runs (Some x ∷ es) (suc place) e f = none_runs es place e f
+  none_runs (Some x ∷ es) (suc index) e f = none_runs es index e f
 
   -- a nursery that is settled is as it was after an end is recorded: it is not the home of a task that ends
   pub settled_same : (id : ℕ) → HasNursery old.world.book id (λ n. is_settled n ≡ true) →
       nursery_at new.world.book id ≡ nursery_at old.world.book id
-  settled_same id h = by_told task.home refl (told t old.world.book new.world.book task.home exc l.told id n.0 n.1)
+  settled_same id h = by_recorded task.home refl (recorded t old.world.book new.world.book task.home exc l.recorded id n.0 n.1)
     where
       n : (n : Nursery) × (nursery_at old.world.book id ≡ Some n) × (is_settled n ≡ true)
       n = finds old.world.book id (λ n. is_settled n ≡ true) h
 
-      by_told : (home : Option Home) → task.home ≡ home → Told t new.world.book exc id n.0 home →
+      by_recorded : (home : Option Home) → task.home ≡ home → Recorded t new.world.book exc id n.0 home →
           nursery_at new.world.book id ≡ nursery_at old.world.book id
-      by_told _ is (stays y e z) = e ∙ sym n.1
-      by_told _ is (tells y z e) =
+      by_recorded _ is (stays y e z) = e ∙ sym n.1
+      by_recorded _ is (tells y z e) =
           let its = subst (λ (h : Option Home). HasHome old c.interleaving.at c.numbers s h) is (c.follows s task l.was).home in
-          let runs = gives old.world.book id n.0 (λ n. (n.scope ≡ y.scope) × (slice_get n.children y.place ≡ Some None)) n.1
-          (subst (λ (key : ℕ). HasNursery old.world.book key (λ n. (n.scope ≡ y.scope) × (slice_get n.children y.place ≡ Some None))) z
+          let runs = gives old.world.book id n.0 (λ n. (n.scope ≡ y.scope) × (slice_get n.children y.index ≡ Some None)) n.1
+          (subst (λ (key : ℕ). HasNursery old.world.book key (λ n. (n.scope ≡ y.scope) × (slice_get n.children y.index ≡ Some None))) z
           its.runs) in
-          absurd (none_runs n.0.children y.place (settled_children n.0 n.2) runs.1)
+          absurd (none_runs n.0.children y.index (settled_children n.0 n.2) runs.1)
 
   -- and a task that may continue may still do so
   pub goes_left : (x : Task) → (wake : Wake) → MayGo old.world x wake → MayGo new.world x wake

@@ -65,8 +65,8 @@ pub one_entered : {k : Table} {job : Job} {input : List ℕ} {t m : ℕ} → (in
     (l : Label) (p q : ℕ) → p < m → q < m → IsAmong l (entered_made (interleaving.at p).made) → IsAmong l (entered_made (interleaving.at q).made) → p ≡ q
 one_entered {k} {job} {input} {t} {m} interleaving settled names nurseries l p q below lower a b = by_test (same_or p q)
   where
-    on : RunInvariant k interleaving.froms (root_result k job input) interleaving.tasks
-    on = (runs_keep_invariant k job input settled names nurseries interleaving.froms t m interleaving.tasks interleaving.reached).0
+    on : RunInvariant k interleaving.cancelled_from (root_result k job input) interleaving.tasks
+    on = (runs_keep_invariant k job input settled names nurseries interleaving.cancelled_from t m interleaving.tasks interleaving.reached).0
 
     by_test : (p ≡ q) ⊎ (p ≢ q) → p ≡ q
     by_test (inl e) = e
@@ -88,11 +88,11 @@ known_got [] i x e = absurd (not_both refl e)
 known_got (y ∷ xs) zero x e = inl (sym (ap (λ (z : ScopeFrom). z.label) (one_of y x e)))
 known_got (y ∷ xs) (suc i) x e = inr (known_got xs i x e)
 
--- each label among a task's froms was entered by it
+-- each label among a task's moments of cancellation was entered by it
 pub from_entered : {known : Label → Type 0} {f : Table} {s : Scoping} {entered : List Label} → Tracks known f s entered →
-    (i : ℕ) (x : ScopeFrom) → slice_get s.froms i ≡ Some x →
+    (i : ℕ) (x : ScopeFrom) → slice_get s.cancelled_from i ≡ Some x →
     IsAmong x.label entered
-from_entered {s = s} h i x e = subst (IsAmong x.label) h.labels (known_got s.froms i x e)
+from_entered {s = s} h i x e = subst (IsAmong x.label) h.labels (known_got s.cancelled_from i x e)
 
 -- and so was that of a scope that it is in
 pub own_entered : {known : Label → Type 0} {f : Table} {s : Scoping} {entered : List Label} → Tracks known f s entered → (o : Own) (i : ℕ) →
@@ -141,7 +141,7 @@ pub opened_entered : {k : Table} {job : Job} {input : List ℕ} {t m : ℕ} {lea
     (c : Refines k job input t m leaving state) → (key p : ℕ) (l : Label) →
     OpenedBy state key p → label_at state.world key ≡ Some l → IsAmong l (entered_made (c.interleaving.at p).made)
 opened_entered {state = state} c key p l o e =
-    own_entered (c.follows p o.task o.lives).tracks o.scope o.place o.own l (ap (label_at state.world) o.is ∙ e)
+    own_entered (c.follows p o.task o.lives).tracks o.scope o.index o.own l (ap (label_at state.world) o.is ∙ e)
 
 -- Different scopes have different labels: one of another task was entered by that one, and one of the same task is in the
 -- same stack.
@@ -166,7 +166,7 @@ labels_apart {k} {job} {input} {t} {m} {leaving} {state} c settled names nurseri
     task : Task
     task = x.1.task
 
-    follows : Follows state c.interleaving.froms input t c.interleaving.at c.numbers leaving x.0 task
+    follows : Follows state c.interleaving.cancelled_from input t c.interleaving.at c.numbers leaving x.0 task
     follows = c.follows x.0 task x.1.lives
 
     within : (o : Own) (i : ℕ) → slice_get task.own.items i ≡ Some o → IsKey o.id (outer_of state.world.scopes (scope_of task))
@@ -177,11 +177,11 @@ labels_apart {k} {job} {input} {t} {m} {leaving} {state} c settled names nurseri
         let tasks : z.task ≡ task = one_of z.task task (sym z.lives ∙ x.1.lives) in
         let around : IsKey b (outer_of state.world.scopes (scope_of task)) =
         subst (λ (i : ℕ). IsKey i (outer_of state.world.scopes (scope_of task))) z.is
-        (within z.scope z.place (sym (ap (λ (v : Task). slice_get v.own.items z.place) tasks) ∙ z.own)) in
+        (within z.scope z.index (sym (ap (λ (v : Task). slice_get v.own.items z.index) tasks) ∙ z.own)) in
         let inside : IsKey a (outer_of state.world.scopes (scope_of task)) =
-        subst (λ (i : ℕ). IsKey i (outer_of state.world.scopes (scope_of task))) x.1.is (within x.1.scope x.1.place x.1.own) in
+        subst (λ (i : ℕ). IsKey i (outer_of state.world.scopes (scope_of task))) x.1.is (within x.1.scope x.1.index x.1.own) in
         let alone =
-        alone_at (label_at state.world) (event_at state.world) c.interleaving.froms (outer_of state.world.scopes (scope_of task)) (c.interleaving.at x.0).places b l f around
+        alone_at (label_at state.world) (event_at state.world) c.interleaving.cancelled_from (outer_of state.world.scopes (scope_of task)) (c.interleaving.at x.0).places b l f around
         follows.stands.own follows.stands.places in
         alone_is (label_at state.world) b a l (outer_of state.world.scopes (scope_of task)) alone inside e
 

@@ -9,7 +9,7 @@ use Rattle.cancel_scopes.specs.Tree.{IsOpen}
 use Rattle.exceptions.specs.Exceptions.{Label, Exc}
 use Rattle.job_tree.specs.Tree.{Tree as Job}
 use Rattle.job_meaning.specs.Log.{Table}
-use Rattle.job_meaning.specs.Meaning.{From, froms_by}
+use Rattle.job_meaning.specs.Meaning.{From, cancelled_from_by}
 use Rattle.job_meaning.specs.Moments.{tick_of}
 use Rattle.job_meaning.specs.declared.clock.Clock.{Clock}
 use Rattle.job_meaning.specs.Rest as rest
@@ -38,9 +38,9 @@ use Rattle.task_machine.specs.Worlds.{label_at, event_at}
 use Rattle.task_machine.proofs.Stopping.{no_blocks}
 use Rattle.interleavings.specs.Interleaving.{Started}
 use Rattle.interleavings.specs.Rows.{entered_made}
-use Rattle.run_refinement.specs.RunState.{RunState, Gone, IsPast, Notes, Tracks, CanGoOn, LivesIn, HasHome, IsMember, HasMembers, SomeEnded, LastEnds, Follows, HasEnded, AreStarted, OpenedBy, Refines}
+use Rattle.run_refinement.specs.RunState.{RunState, EndedTask, IsPast, Notes, Tracks, CanGoOn, LivesIn, HasHome, IsMember, HasMembers, SomeEnded, LastEnds, Follows, HasEnded, AreStarted, OpenedBy, Refines}
 use Rattle.run_refinement.specs.Leaving.{Leaving}
-use Rattle.run_refinement.proofs.Told.{same_owner, AllLike, Told, stays, tells, told, set_long, set_at, set_else, all_like, carry}
+use Rattle.run_refinement.proofs.Recorded.{same_owner, AllLike, Recorded, stays, tells, recorded, set_long, set_at, set_else, all_like, carry}
 use Rattle.run_refinement.proofs.LabelsApart.{below_of}
 use Rattle.run_refinement.proofs.Found.{finds, gives, puts}
 
@@ -106,7 +106,7 @@ goes_kept task w book like h =
       home = h.home;
       scope = h.scope;
       first = h.first;
-      froms = h.froms;
+      cancelled_from = h.cancelled_from;
       opened = opened_kept (label_at w) w.book book (blocks_of task.frames.items) task.own.items (waits_of task.task_state) like h.opened;
     }
 
@@ -134,13 +134,13 @@ none_opened : (labels : Labels) (book : NurseryBook) (own : List Own) → Opened
 none_opened labels book [] h = refl
 none_opened labels book (o ∷ own) h = absurd h
 
--- all its froms are past ones
-past_froms : (f : Table) (froms : List ScopeFrom) → ((i : ℕ) (x : ScopeFrom) → slice_get froms i ≡ Some x → x.seen ≡ f x.label) →
-    map from_of froms ≡ froms_by f (map (λ (x : ScopeFrom). x.label) froms)
-past_froms f [] h = refl
-past_froms f (x ∷ froms) h =
-    ap (λ (d : Option ℕ). record { label = x.label; seen = d } ∷ map from_of froms) (h 0 x refl)
-    ∙ ap (λ (fs : List From). record { label = x.label; seen = f x.label } ∷ fs) (past_froms f froms (λ i y e. h (suc i) y e))
+-- all its moments of cancellation are past ones
+past_cancelled_from : (f : Table) (cancelled_from : List ScopeFrom) → ((i : ℕ) (x : ScopeFrom) → slice_get cancelled_from i ≡ Some x → x.seen ≡ f x.label) →
+    map from_of cancelled_from ≡ cancelled_from_by f (map (λ (x : ScopeFrom). x.label) cancelled_from)
+past_cancelled_from f [] h = refl
+past_cancelled_from f (x ∷ cancelled_from) h =
+    ap (λ (d : Option ℕ). record { label = x.label; seen = d } ∷ map from_of cancelled_from) (h 0 x refl)
+    ∙ ap (λ (fs : List From). record { label = x.label; seen = f x.label } ∷ fs) (past_cancelled_from f cancelled_from (λ i y e. h (suc i) y e))
 
 started_kept : (clock : Clock) (old new : ℕ → ℕ) (at : ℕ → Started) (child : ℕ → ℕ) (es : List rest.Event) →
     ((p : ℕ) → new p ≡ old p) → AreStarted clock old at child es → AreStarted clock new at child es
@@ -156,12 +156,12 @@ started_kept clock old new at child (rest.starts i l t ∷ es) same h = (
 )
 
 -- a home is a place of a nursery
-home_parts : (h : Option Home) (id place : ℕ) → option_map {U = ℕ × ℕ} (λ (x : Home). (x.nursery, x.place)) h ≡ Some (id, place) →
-    (y : Home) × (h ≡ Some y) × (y.nursery ≡ id) × (y.place ≡ place)
-home_parts None id place e = absurd (let f : None ≡ Some (id, place) = e in cc)
-home_parts (Some y) id place e =
-    let f : Some (y.nursery, y.place) ≡ Some (id, place) = e in
-    let g : (y.nursery, y.place) ≡ (id, place) = cc in
+home_parts : (h : Option Home) (id index : ℕ) → option_map {U = ℕ × ℕ} (λ (x : Home). (x.nursery, x.index)) h ≡ Some (id, index) →
+    (y : Home) × (h ≡ Some y) × (y.nursery ≡ id) × (y.index ≡ index)
+home_parts None id index e = absurd (let f : None ≡ Some (id, index) = e in cc)
+home_parts (Some y) id index e =
+    let f : Some (y.nursery, y.index) ≡ Some (id, index) = e in
+    let g : (y.nursery, y.index) ≡ (id, index) = cc in
     (y, refl, ap (λ (z : ℕ × ℕ). z.0) g, ap (λ (z : ℕ × ℕ). z.1) g)
 
 -- ---- the tasks without it
@@ -203,7 +203,7 @@ state_left k job input t m s old new task exc c l =
     q = c.interleaving.at s
 
     f : Table
-    f = c.interleaving.froms
+    f = c.interleaving.cancelled_from
 
     book : NurseryBook
     book = new.world.book
@@ -250,8 +250,8 @@ state_left k job input t m s old new task exc c l =
         by_either (inr e) = absurd (let g : None ≡ Some id = e in cc)
 
     -- what is kept of it
-    kept : Gone
-    kept = record { label = task.label; end = tick_of old.world.clock t; exc = exc; entries = task.entries.items; froms = task.froms.items }
+    kept : EndedTask
+    kept = record { label = task.label; end = tick_of old.world.clock t; exc = exc; entries = task.entries.items; cancelled_from = task.cancelled_from.items }
 
     is_kept : HasEnded old.world.clock f input t q kept
     is_kept =
@@ -262,10 +262,10 @@ state_left k job input t m s old new task exc c l =
           tick = refl;
           before = omega arith;
           notes = it.notes;
-          froms =
-              past_froms f task.froms.items
+          cancelled_from =
+              past_cancelled_from f task.cancelled_from.items
               (λ i x e. (it.tracks.left i x e (subst (λ (os : List Own). IsPast i os) (sym own) (All-nil (λ (o : Own). o.at ≢ i)))).0)
-              ∙ ap (froms_by f) it.tracks.labels;
+              ∙ ap (cancelled_from_by f) it.tracks.labels;
         }
 
     -- the others are there as before
@@ -282,7 +282,7 @@ state_left k job input t m s old new task exc c l =
     opened_before key p o = record {
       task = o.task;
       lives = before p o.task o.lives;
-      place = o.place;
+      index = o.index;
       scope = o.scope;
       own = o.own;
       is =
@@ -291,26 +291,26 @@ state_left k job input t m s old new task exc c l =
 
     opened_after : (key p : ℕ) → OpenedBy old key p → OpenedBy new key p
     opened_after key p o =
-        record { task = o.task; lives = after p o.task differs o.lives; place = o.place; scope = o.scope; own = o.own; is = o.is }
+        record { task = o.task; lives = after p o.task differs o.lives; index = o.index; scope = o.scope; own = o.own; is = o.is }
       where
         differs : p ≢ s
         differs g =
             let e : Some o.task ≡ Some task = sym o.lives ∙ ap old.task g ∙ l.was in
             let is : o.task ≡ task = cc in
-            let none : None ≡ Some o.scope = ap (λ (os : List Own). slice_get os o.place) (sym own)
-            ∙ ap (λ (x : Task). slice_get x.own.items o.place) (sym is) ∙ o.own in
+            let none : None ≡ Some o.scope = ap (λ (os : List Own). slice_get os o.index) (sym own)
+            ∙ ap (λ (x : Task). slice_get x.own.items o.index) (sym is) ∙ o.own in
             absurd cc
 
-    ended_after : (p : ℕ) → p < m → new.task p ≡ None → (g : Gone) × (new.gone p ≡ Some g) × HasEnded old.world.clock f input t
+    ended_after : (p : ℕ) → p < m → new.task p ≡ None → (g : EndedTask) × (new.ended_task p ≡ Some g) × HasEnded old.world.clock f input t
         (c.interleaving.at p) g
     ended_after p lt e = by_same (p == s) refl
       where
-        by_same : (b : Bool) → (p == s) ≡ b → (g : Gone) × (new.gone p ≡ Some g) × HasEnded old.world.clock f input t (c.interleaving.at p)
+        by_same : (b : Bool) → (p == s) ≡ b → (g : EndedTask) × (new.ended_task p ≡ Some g) × HasEnded old.world.clock f input t (c.interleaving.at p)
             g
         by_same true h =
             let is : p ≡ s = eqb-true p s h in (
               kept,
-              ap new.gone is ∙ l.kept,
+              ap new.ended_task is ∙ l.kept,
               subst (λ (n : ℕ). HasEnded old.world.clock f input t (c.interleaving.at n) kept) (sym is)
                   is_kept,
             )
@@ -320,13 +320,13 @@ state_left k job input t m s old new task exc c l =
             (g.0, (l.others p differs).1 ∙ g.1, g.2)
 
     like : AllLike old.world.book book
-    like = all_like t old.world.book book task.home exc l.told
+    like = all_like t old.world.book book task.home exc l.recorded
 
     -- the child with a number at the place where it was started
-    at_place : (y : Home) → task.home ≡ Some y → (u : ℕ) (b : Task) → old.task u ≡ Some b → (id place number : ℕ) →
+    at_place : (y : Home) → task.home ≡ Some y → (u : ℕ) (b : Task) → old.task u ≡ Some b → (id index number : ℕ) →
         HasNurseryOf id (blocks_of b.frames.items) (waits_of b.task_state) →
-        slice_get (c.numbers u id) place ≡ Some number → y.nursery ≡ id → y.place ≡ place → (c.interleaving.at u).child number ≡ s
-    at_place y e u b lives id place number owned stands is_nursery is_place =
+        slice_get (c.numbers u id) index ≡ Some number → y.nursery ≡ id → y.index ≡ index → (c.interleaving.at u).child number ≡ s
+    at_place y e u b lives id index number owned stands is_nursery is_place =
         ap (λ (x : Started). x.child number) (ap c.interleaving.at (sym same)) ∙ ap (c.interleaving.at its.parent).child one ∙ its.serial
       where
         its : LivesIn old c.interleaving.at c.numbers s y
@@ -340,8 +340,8 @@ state_left k job input t m s old new task exc c l =
         both : Some number ≡ Some its.number
         both =
             sym stands ∙ ap (λ (n : ℕ). slice_get (c.numbers u id) n) (sym is_place)
-            ∙ ap (λ (n : ℕ). slice_get (c.numbers u n) y.place) (sym is_nursery)
-            ∙ ap (λ (n : ℕ). slice_get (c.numbers n y.nursery) y.place) (sym same) ∙ its.stands
+            ∙ ap (λ (n : ℕ). slice_get (c.numbers u n) y.index) (sym is_nursery)
+            ∙ ap (λ (n : ℕ). slice_get (c.numbers n y.nursery) y.index) (sym same) ∙ its.stands
 
         one : number ≡ its.number
         one = let e = both in cc
@@ -349,11 +349,11 @@ state_left k job input t m s old new task exc c l =
     -- the number of the task at its place in its home
     at_home : (y : Home) → task.home ≡ Some y → (u : ℕ) (b : Task) → old.task u ≡ Some b → (id : ℕ) →
         HasNurseryOf id (blocks_of b.frames.items) (waits_of b.task_state) → y.nursery ≡ id →
-        (number : ℕ) × (slice_get (c.numbers u id) y.place ≡ Some number) × ((c.interleaving.at u).child number ≡ s)
+        (number : ℕ) × (slice_get (c.numbers u id) y.index ≡ Some number) × ((c.interleaving.at u).child number ≡ s)
     at_home y e u b lives id owned is_nursery = (
       its.number,
-      ap (λ (n : ℕ). slice_get (c.numbers u n) y.place) (sym is_nursery)
-          ∙ ap (λ (n : ℕ). slice_get (c.numbers n y.nursery) y.place) (sym same) ∙ its.stands,
+      ap (λ (n : ℕ). slice_get (c.numbers u n) y.index) (sym is_nursery)
+          ∙ ap (λ (n : ℕ). slice_get (c.numbers n y.nursery) y.index) (sym same) ∙ its.stands,
       ap (λ (n : ℕ). (c.interleaving.at n).child its.number) (sym same) ∙ its.serial,
     )
       where
@@ -365,19 +365,19 @@ state_left k job input t m s old new task exc c l =
             same_owner k job input t m (Some s) old c its.parent u its.starter b y.nursery its.lives lives its.owned
             (subst (λ (n : ℕ). HasNurseryOf n (blocks_of b.frames.items) (waits_of b.task_state)) (sym is_nursery) owned)
 
-    member_kept : (last later id place serial : ℕ) (end : Option End) → last ≤ later → (home_of task ≡ Some (id, place) → ⊥) →
-        IsMember old c.interleaving.at last id place serial end → IsMember new c.interleaving.at later id place serial end
-    member_kept last later id place serial None le other h = absurd h
-    member_kept last later id place serial (Some None) le other h = (h.0, after serial h.0 differs h.1, h.2)
+    member_kept : (last later id index serial : ℕ) (end : Option End) → last ≤ later → (home_of task ≡ Some (id, index) → ⊥) →
+        IsMember old c.interleaving.at last id index serial end → IsMember new c.interleaving.at later id index serial end
+    member_kept last later id index serial None le other h = absurd h
+    member_kept last later id index serial (Some None) le other h = (h.0, after serial h.0 differs h.1, h.2)
       where
         differs : serial ≢ s
         differs g =
             let e : Some h.0 ≡ Some task = sym h.1 ∙ ap old.task g ∙ l.was in
             let is : h.0 ≡ task = cc in
             other (ap home_of (sym is) ∙ h.2)
-    member_kept last later id place serial (Some (Some x)) le other h = by_same (serial == s) refl
+    member_kept last later id index serial (Some (Some x)) le other h = by_same (serial == s) refl
       where
-        by_same : (b : Bool) → (serial == s) ≡ b → IsMember new c.interleaving.at later id place serial (Some (Some x))
+        by_same : (b : Bool) → (serial == s) ≡ b → IsMember new c.interleaving.at later id index serial (Some (Some x))
         by_same true e =
             let is : serial ≡ s = eqb-true serial s e in
             let ends : rest.at_end h.1 x ≡ rest.at_end t exc = sym h.4 ∙ ap (λ (n : ℕ). (c.interleaving.at n).rest.stopped) is ∙ l.ended in
@@ -386,7 +386,7 @@ state_left k job input t m s old new task exc c l =
             let before : h.1 ≤ last = h.3 in (
               kept,
               t,
-              ap new.gone is ∙ l.kept,
+              ap new.ended_task is ∙ l.kept,
               omega (arith, now, before, le),
               ap (λ (n : ℕ). (c.interleaving.at n).rest.stopped) is ∙ l.ended
                   ∙ ap (λ (y : Option Exc). rest.at_end t y) (sym same),
@@ -435,7 +435,7 @@ state_left k job input t m s old new task exc c l =
               lives = after h.parent h.starter (λ z. no_nursery home.nursery h.starter (ap old.task (sym z) ∙ h.lives) h.owned) h.lives;
               earlier = h.earlier;
               owned = h.owned;
-              runs = by_told task.home refl (told t old.world.book book task.home exc l.told home.nursery n.0 n.1);
+              runs = by_recorded task.home refl (recorded t old.world.book book task.home exc l.recorded home.nursery n.0 n.1);
               number = h.number;
               stands = h.stands;
               below = h.below;
@@ -443,18 +443,18 @@ state_left k job input t m s old new task exc c l =
             }
           where
             Runs : Nursery → Type 0
-            Runs n = (n.scope ≡ home.scope) × (slice_get n.children home.place ≡ Some None)
+            Runs n = (n.scope ≡ home.scope) × (slice_get n.children home.index ≡ Some None)
 
             n : (n : Nursery) × (nursery_at old.world.book home.nursery ≡ Some n) × Runs n
             n = finds old.world.book home.nursery Runs h.runs
 
-            by_told : (y : Option Home) → task.home ≡ y → Told t book exc home.nursery n.0 y → HasNursery book home.nursery Runs
-            by_told _ is (stays y z w) = puts book home.nursery n.0 Runs z n.2
-            by_told _ is (tells y z w) =
-                puts book home.nursery (with_child y.place exc t n.0) Runs w (
+            by_recorded : (y : Option Home) → task.home ≡ y → Recorded t book exc home.nursery n.0 y → HasNursery book home.nursery Runs
+            by_recorded _ is (stays y z w) = puts book home.nursery n.0 Runs z n.2
+            by_recorded _ is (tells y z w) =
+                puts book home.nursery (with_child y.index exc t n.0) Runs w (
                   n.2.0,
-                  set_else n.0.children y.place home.place (Some exc)
-                      (λ v. there p x e (sym h.serial ∙ at_place y is h.parent h.starter h.lives home.nursery home.place h.number h.owned
+                  set_else n.0.children y.index home.index (Some exc)
+                      (λ v. there p x e (sym h.serial ∙ at_place y is h.parent h.starter h.lives home.nursery home.index h.number h.owned
                       h.stands z v)) ∙ n.2.1,
                 )
 
@@ -462,7 +462,7 @@ state_left k job input t m s old new task exc c l =
         last_after : (task_state : TaskState) → x.task_state ≡ task_state →
             LastEnds c.interleaving.at (c.numbers p) r old.world.book task_state → LastEnds c.interleaving.at (c.numbers p) r book
             task_state
-        last_after (Awaits id since) is h = by_told task.home refl (told t old.world.book book task.home exc l.told id n.0 n.1)
+        last_after (Awaits id since) is h = by_recorded task.home refl (recorded t old.world.book book task.home exc l.recorded id n.0 n.1)
           where
             Last : Nursery → Type 0
             Last n = (since ≤ n.last) × ((since ≡ n.last) ⊎ SomeEnded c.interleaving.at (c.numbers p) r id n.last)
@@ -473,18 +473,18 @@ state_left k job input t m s old new task exc c l =
             has : HasNurseryOf id (blocks_of x.frames.items) (waits_of x.task_state)
             has = inr (ap waits_of is)
 
-            by_told : (y : Option Home) → task.home ≡ y → Told t book exc id n.0 y → HasNursery book id Last
-            by_told _ home (stays y z w) = puts book id n.0 Last z n.2
-            by_told _ home (tells y z w) =
+            by_recorded : (y : Option Home) → task.home ≡ y → Recorded t book exc id n.0 y → HasNursery book id Last
+            by_recorded _ home (stays y z w) = puts book id n.0 Last z n.2
+            by_recorded _ home (tells y z w) =
                 let before : n.0.last ≤ t =
                 (gives old.world.book id n.0 (λ n. HasMembers old c.interleaving.at t (c.numbers p) r id n) n.1 (g.nurseries id has)).last
                 in
                 let slept : since ≤ n.0.last = n.2.0 in
                 let number = at_home y home p x lives id has z in
-                puts book id (with_child y.place exc t n.0) Last w (
+                puts book id (with_child y.index exc t n.0) Last w (
                   omega (arith, before, slept),
                   inr (record {
-                    place = y.place;
+                    index = y.index;
                     number = number.0;
                     is = number.1;
                     exc = exc;
@@ -500,7 +500,7 @@ state_left k job input t m s old new task exc c l =
 
         nurseries : (id : ℕ) → HasNurseryOf id (blocks_of x.frames.items) (waits_of x.task_state) →
             HasNursery book id (λ n. HasMembers new c.interleaving.at t (c.numbers p) r id n)
-        nurseries id h = by_told task.home refl (told t old.world.book book task.home exc l.told id n.0 n.1)
+        nurseries id h = by_recorded task.home refl (recorded t old.world.book book task.home exc l.recorded id n.0 n.1)
           where
             Members : RunState → Nursery → Type 0
             Members state n = HasMembers state c.interleaving.at t (c.numbers p) r id n
@@ -508,51 +508,51 @@ state_left k job input t m s old new task exc c l =
             n : (n : Nursery) × (nursery_at old.world.book id ≡ Some n) × Members old n
             n = finds old.world.book id (Members old) (g.nurseries id h)
 
-            by_told : (y : Option Home) → task.home ≡ y → Told t book exc id n.0 y → HasNursery book id (Members new)
-            by_told _ is (stays y z w) =
+            by_recorded : (y : Option Home) → task.home ≡ y → Recorded t book exc id n.0 y → HasNursery book id (Members new)
+            by_recorded _ is (stays y z w) =
                 puts book id n.0 (Members new) z
                 (record {
                   long = n.2.long;
                   last = n.2.last;
                   members =
-                      λ place number stands. let m = n.2.members place number stands in (
+                      λ index number stands. let m = n.2.members index number stands in (
                         m.0,
-                        member_kept n.0.last n.0.last id place (r.child number) (slice_get n.0.children place) (omega arith)
-                            (λ v. let a = home_parts task.home id place v in w a.0 (sym is ∙ a.1) a.2) m.1,
+                        member_kept n.0.last n.0.last id index (r.child number) (slice_get n.0.children index) (omega arith)
+                            (λ v. let a = home_parts task.home id index v in w a.0 (sym is ∙ a.1) a.2) m.1,
                       );
                 })
-            by_told _ is (tells y z w) =
-                puts book id (with_child y.place exc t n.0) (Members new) w
+            by_recorded _ is (tells y z w) =
+                puts book id (with_child y.index exc t n.0) (Members new) w
                 (record {
                   last = omega arith;
-                  long = n.2.long ∙ sym (set_long n.0.children y.place (Some exc));
-                  members = λ place number stands. let m = n.2.members place number stands in
-                      (m.0, by_place place number stands m.1 (y.place == place) refl);
+                  long = n.2.long ∙ sym (set_long n.0.children y.index (Some exc));
+                  members = λ index number stands. let m = n.2.members index number stands in
+                      (m.0, by_place index number stands m.1 (y.index == index) refl);
                 })
               where
-                by_end : (place serial : ℕ) (end : Option End) → IsMember old c.interleaving.at n.0.last id place serial end →
+                by_end : (index serial : ℕ) (end : Option End) → IsMember old c.interleaving.at n.0.last id index serial end →
                     (v : End) × (end ≡ Some v)
-                by_end place serial None v = absurd v
-                by_end place serial (Some v) a = (v, refl)
+                by_end index serial None v = absurd v
+                by_end index serial (Some v) a = (v, refl)
 
-                by_place : (place number : ℕ) → slice_get (c.numbers p id) place ≡ Some number →
-                    IsMember old c.interleaving.at n.0.last id place (r.child number) (slice_get n.0.children place) →
-                    (b : Bool) → (y.place == place) ≡ b → IsMember new c.interleaving.at t id place (r.child number)
-                    (slice_get (slice_set n.0.children y.place (Some exc)) place)
-                by_place place number stands m true v =
-                    let at : y.place ≡ place = eqb-true y.place place v in
-                    let was = by_end place (r.child number) (slice_get n.0.children place) m in
-                    let is_s : r.child number ≡ s = at_place y is p x lives id place number h stands z at in
-                    let told_end : slice_get (slice_set n.0.children y.place (Some exc)) place ≡ Some (Some exc) =
-                    ap (λ (a : ℕ). slice_get (slice_set n.0.children y.place (Some exc)) a) (sym at)
-                    ∙ set_at n.0.children y.place (Some exc) was.0 (ap (λ (a : ℕ). slice_get n.0.children a) at ∙ was.1) in
-                    subst (IsMember new c.interleaving.at t id place (r.child number)) (sym told_end)
-                    (kept, t, ap new.gone is_s ∙ l.kept, omega arith, ap (λ (a : ℕ). (c.interleaving.at a).rest.stopped) is_s ∙ l.ended)
-                by_place place number stands m false v =
-                    let differs : y.place ≢ place = λ a. absurd (let b : true ≡ false = sym (eq-eqb y.place place a) ∙ v in cc) in
-                    subst (IsMember new c.interleaving.at t id place (r.child number))
-                    (sym (set_else n.0.children y.place place (Some exc) differs))
-                    (member_kept n.0.last t id place (r.child number) (slice_get n.0.children place) n.2.last
-                    (λ a. let h = home_parts task.home id place a in let same : Some h.0 ≡ Some y = sym h.1 ∙ is in let one : h.0 ≡ y =
+                by_place : (index number : ℕ) → slice_get (c.numbers p id) index ≡ Some number →
+                    IsMember old c.interleaving.at n.0.last id index (r.child number) (slice_get n.0.children index) →
+                    (b : Bool) → (y.index == index) ≡ b → IsMember new c.interleaving.at t id index (r.child number)
+                    (slice_get (slice_set n.0.children y.index (Some exc)) index)
+                by_place index number stands m true v =
+                    let at : y.index ≡ index = eqb-true y.index index v in
+                    let was = by_end index (r.child number) (slice_get n.0.children index) m in
+                    let is_s : r.child number ≡ s = at_place y is p x lives id index number h stands z at in
+                    let has_end : slice_get (slice_set n.0.children y.index (Some exc)) index ≡ Some (Some exc) =
+                    ap (λ (a : ℕ). slice_get (slice_set n.0.children y.index (Some exc)) a) (sym at)
+                    ∙ set_at n.0.children y.index (Some exc) was.0 (ap (λ (a : ℕ). slice_get n.0.children a) at ∙ was.1) in
+                    subst (IsMember new c.interleaving.at t id index (r.child number)) (sym has_end)
+                    (kept, t, ap new.ended_task is_s ∙ l.kept, omega arith, ap (λ (a : ℕ). (c.interleaving.at a).rest.stopped) is_s ∙ l.ended)
+                by_place index number stands m false v =
+                    let differs : y.index ≢ index = λ a. absurd (let b : true ≡ false = sym (eq-eqb y.index index a) ∙ v in cc) in
+                    subst (IsMember new c.interleaving.at t id index (r.child number))
+                    (sym (set_else n.0.children y.index index (Some exc) differs))
+                    (member_kept n.0.last t id index (r.child number) (slice_get n.0.children index) n.2.last
+                    (λ a. let h = home_parts task.home id index a in let same : Some h.0 ≡ Some y = sym h.1 ∙ is in let one : h.0 ≡ y =
                     cc in
-                    differs (ap (λ (z : Home). z.place) (sym one) ∙ h.3)) m)
+                    differs (ap (λ (z : Home). z.index) (sym one) ∙ h.3)) m)

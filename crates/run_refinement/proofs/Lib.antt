@@ -1,7 +1,7 @@
 pub mod ActsKeep
 pub mod FewTasks
 pub mod ActsStay
-pub mod ActsFroms
+pub mod ActsCancelledFrom
 pub mod ActsTracks
 pub mod ActsOthers
 pub mod ActsEvents
@@ -30,7 +30,7 @@ pub mod OtherPlaces
 pub mod SightsStay
 pub mod EventsStay
 pub mod OthersFollow
-pub mod Told
+pub mod Recorded
 pub mod Left
 pub mod Ready
 pub mod Children

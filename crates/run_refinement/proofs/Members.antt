@@ -21,7 +21,7 @@ use Rattle.run_refinement.specs.RunState.{RunState, IsMember, HasMembers, Follow
 use Rattle.run_refinement.specs.Turning.{Turning}
 use Rattle.run_refinement.proofs.ActsKeep.{not_both}
 use Rattle.run_refinement.proofs.Parts.{begun_at, BeginsThere, begins_there, numbered_on}
-use Rattle.run_refinement.proofs.RunStates.{gone_below, home_earlier}
+use Rattle.run_refinement.proofs.RunStates.{ended_task_below, home_earlier}
 use Rattle.task_machine.proofs.Stacked.{one_of}
 use Rattle.run_refinement.proofs.Found.{below_length, got_first, finds, gives, puts}
 use Rattle.run_refinement.proofs.LabelsApart.{below_of}
@@ -29,7 +29,7 @@ use Rattle.run_refinement.proofs.LabelsApart.{below_of}
 module _ (k : Table) (job : Job) (input : List ℕ) (t m s : ℕ) (old new : RunState) (before after : Task) (stop : Stop)
     (c : Refines k job input t m None old)
     (T : Turning k job input t m s old new c.numbers before after stop c.interleaving) where
-  mover : Follows old c.interleaving.froms input t c.interleaving.at c.numbers None s before
+  mover : Follows old c.interleaving.cancelled_from input t c.interleaving.at c.numbers None s before
   mover = c.follows s before T.code.task
 
   -- the task after its turn
@@ -70,20 +70,20 @@ module _ (k : Table) (job : Job) (input : List ℕ) (t m s : ℕ) (old new : Run
           let f : old.world.tick ≡ t = c.tick in omega (arith, e, f)
 
   -- a task in one of the task's nurseries is another task, and stays as it is
-  member_stays : (id place serial last later : ℕ) (x : End) → last ≤ later → HasBlock id (blocks_of before.frames.items) →
-      IsMember old c.interleaving.at last id place serial (Some x) →
-      IsMember new T.is.at later id place serial (Some x)
-  member_stays id place serial last later None le has h =
+  member_stays : (id child_index serial last later : ℕ) (x : End) → last ≤ later → HasBlock id (blocks_of before.frames.items) →
+      IsMember old c.interleaving.at last id child_index serial (Some x) →
+      IsMember new T.is.at later id child_index serial (Some x)
+  member_stays id child_index serial last later None le has h =
       let below : serial < m = below_of c serial h.0 h.1 in
-      let later : s < serial = home_earlier k job input t m None old c serial h.0 h.1 id place h.2 s before T.code.task (inl has) in
+      let later : s < serial = home_earlier k job input t m None old c serial h.0 h.1 id child_index h.2 s before T.code.task (inl has) in
       (h.0, T.code.other_after serial below (λ e. omega (arith, later, e)) ∙ h.1, h.2)
-  member_stays id place serial last later (Some exc) le has h = (
+  member_stays id child_index serial last later (Some exc) le has h = (
     h.0,
     h.1,
-    T.code.gone_after serial ∙ h.2,
+    T.code.ended_task_after serial ∙ h.2,
     (let e = h.3 in omega (arith, e, le)),
     ap (λ (q : Started). q.rest.stopped)
-        (T.of_other serial (gone_below k job input t m None old c serial h.0 h.2) differs) ∙ h.4,
+        (T.of_other serial (ended_task_below k job input t m None old c serial h.0 h.2) differs) ∙ h.4,
   )
     where
       lives : live (c.interleaving.at s).rest.stopped ≡ true
@@ -98,53 +98,53 @@ module _ (k : Table) (job : Job) (input : List ℕ) (t m s : ℕ) (old new : Run
           cc
 
   -- a child with a number from before
-  old_member : (id place number : ℕ) (n : Nursery) → nursery_at new.world.book id ≡ Some n → IsLast id n.last →
-      HasBlock id (blocks_of before.frames.items) → slice_get (c.numbers s id) place ≡ Some number →
-      (number < moved_to.count) × IsMember new T.is.at n.last id place (moved_to.child number) (slice_get n.children place)
-  old_member id place number n at last has was =
+  old_member : (id child_index number : ℕ) (n : Nursery) → nursery_at new.world.book id ≡ Some n → IsLast id n.last →
+      HasBlock id (blocks_of before.frames.items) → slice_get (c.numbers s id) child_index ≡ Some number →
+      (number < moved_to.count) × IsMember new T.is.at n.last id child_index (moved_to.child number) (slice_get n.children child_index)
+  old_member id child_index number n at last has was =
       let o = finds old.world.book id _ (mover.nurseries id (inl has)) in
       let g = finds new.world.book id _ (T.took.nurseries.grow id has o.0 o.1) in
-      let one = o.2.members place number was in
+      let one = o.2.members child_index number was in
       let below : number < (c.interleaving.at s).count = one.0 in
-      let longer : slice_get n.children place ≡ slice_get (o.0.children ++ g.2.more) place =
-      ap (λ (x : Nursery). slice_get x.children place) (one_of n g.0 (sym at ∙ g.1))
-      ∙ ap (λ (es : List End). slice_get es place) g.2.children in (
+      let longer : slice_get n.children child_index ≡ slice_get (o.0.children ++ g.2.more) child_index =
+      ap (λ (x : Nursery). slice_get x.children child_index) (one_of n g.0 (sym at ∙ g.1))
+      ∙ ap (λ (es : List End). slice_get es child_index) g.2.children in (
         omega (arith, below),
-        subst (λ (z : ℕ). IsMember new T.is.at n.last id place z (slice_get n.children place))
+        subst (λ (z : ℕ). IsMember new T.is.at n.last id child_index z (slice_get n.children child_index))
             (sym (old_child (c.interleaving.at s).count (c.interleaving.at s).child m number below))
-            (by_end o.0.last (last.1 o.0 o.1 has) (slice_get o.0.children place) refl one.1 o.0.children g.2.more n.children longer refl),
+            (by_end o.0.last (last.1 o.0 o.1 has) (slice_get o.0.children child_index) refl one.1 o.0.children g.2.more n.children longer refl),
       )
     where
       by_end : (since : ℕ) → since ≤ n.last → (e : Option End) → e ≡ e →
-          IsMember old c.interleaving.at since id place ((c.interleaving.at s).child number) e →
+          IsMember old c.interleaving.at since id child_index ((c.interleaving.at s).child number) e →
           (was_there more there : List End) →
-          slice_get there place ≡ slice_get (was_there ++ more) place → slice_get was_there place ≡ e →
-          IsMember new T.is.at n.last id place ((c.interleaving.at s).child number) (slice_get there place)
+          slice_get there child_index ≡ slice_get (was_there ++ more) child_index → slice_get was_there child_index ≡ e →
+          IsMember new T.is.at n.last id child_index ((c.interleaving.at s).child number) (slice_get there child_index)
       by_end since le None r h xs ys zs same e = absurd h
       by_end since le (Some x) r h xs ys zs same e =
-          subst (λ (z : Option End). IsMember new T.is.at n.last id place ((c.interleaving.at s).child number) z)
-          (sym (same ∙ got_first xs ys place x e))
-          (member_stays id place ((c.interleaving.at s).child number) since n.last x le has h)
+          subst (λ (z : Option End). IsMember new T.is.at n.last id child_index ((c.interleaving.at s).child number) z)
+          (sym (same ∙ got_first xs ys child_index x e))
+          (member_stays id child_index ((c.interleaving.at s).child number) since n.last x le has h)
 
   -- where a child that was begun is at home
-  begun_there : (id place number : ℕ) (n : Nursery) → nursery_at new.world.book id ≡ Some n →
-      (r : BeginsThere id place number T.took.tasks T.move.begun) →
+  begun_there : (id child_index number : ℕ) (n : Nursery) → nursery_at new.world.book id ≡ Some n →
+      (r : BeginsThere id child_index number T.took.tasks T.move.begun) →
       (b : Begun) → IsBegun old.world.clock (a_round_after old.world.clock old.world.tick) T.took.numbers_after new.world.book
       (blocks_of after.frames.items) (waits_of after.task_state) r.task b →
-      slice_get n.children place ≡ Some None
-  begun_there id place number n at r b h =
-      let here : Some (h.home.nursery, h.home.place) ≡ Some (id, place) =
-      sym (ap (option_map (λ (x : Home). (x.nursery, x.place))) h.at_home) ∙ r.home in
-      let pair : (h.home.nursery, h.home.place) ≡ (id, place) = one_of (h.home.nursery, h.home.place) (id, place) here in
+      slice_get n.children child_index ≡ Some None
+  begun_there id child_index number n at r b h =
+      let here : Some (h.home.nursery, h.home.index) ≡ Some (id, child_index) =
+      sym (ap (option_map (λ (x : Home). (x.nursery, x.index))) h.at_home) ∙ r.home in
+      let pair : (h.home.nursery, h.home.index) ≡ (id, child_index) = one_of (h.home.nursery, h.home.index) (id, child_index) here in
       let o = finds new.world.book h.home.nursery _ h.nursery in
       let same : Some o.0 ≡ Some n = sym o.1 ∙ (ap (λ (z : ℕ × ℕ). nursery_at new.world.book z.0) pair ∙ at) in
-      sym (ap (λ (x : Nursery). slice_get x.children h.home.place) (one_of o.0 n same) ∙ ap (λ (z : ℕ × ℕ). slice_get n.children z.1) pair)
+      sym (ap (λ (x : Nursery). slice_get x.children h.home.index) (one_of o.0 n same) ∙ ap (λ (z : ℕ × ℕ). slice_get n.children z.1) pair)
       ∙ o.2.1
 
-  new_member : (id place number : ℕ) (n : Nursery) → nursery_at new.world.book id ≡ Some n →
-      BeginsThere id place number T.took.tasks T.move.begun →
-      (number < moved_to.count) × IsMember new T.is.at n.last id place (moved_to.child number) (slice_get n.children place)
-  new_member id place number n at r =
+  new_member : (id child_index number : ℕ) (n : Nursery) → nursery_at new.world.book id ≡ Some n →
+      BeginsThere id child_index number T.took.tasks T.move.begun →
+      (number < moved_to.count) × IsMember new T.is.at n.last id child_index (moved_to.child number) (slice_get n.children child_index)
+  new_member id child_index number n at r =
       let h = begun_at old.world.clock (a_round_after old.world.clock old.world.tick) T.took.numbers_after new.world.book
       (blocks_of after.frames.items) (waits_of after.task_state) T.took.tasks T.move.begun
       T.took.begun r.index r.task r.is in
@@ -155,8 +155,8 @@ module _ (k : Table) (job : Job) (input : List ℕ) (t m s : ℕ) (old new : Run
       later_child (c.interleaving.at s).count (c.interleaving.at s).child m number (omega (arith, is)) in
       let serial : m + (number - (c.interleaving.at s).count) ≡ m + r.index = omega (arith, is) in (
         omega (arith, is, short),
-        subst (λ (e : Option End). IsMember new T.is.at n.last id place (moved_to.child number) e)
-            (sym (begun_there id place number n at r h.0 h.2))
+        subst (λ (e : Option End). IsMember new T.is.at n.last id child_index (moved_to.child number) e)
+            (sym (begun_there id child_index number n at r h.0 h.2))
             (r.task, ap new.task (child ∙ serial) ∙ (T.child_after r.index ∙ r.is), r.home),
       )
 
@@ -171,13 +171,13 @@ module _ (k : Table) (job : Job) (input : List ℕ) (t m s : ℕ) (old new : Run
       last : IsLast id found.0.last
       last = last_after id found.0 found.1 has
 
-      members : (place number : ℕ) → slice_get (T.took.numbers_after id) place ≡ Some number →
-          (number < moved_to.count) × IsMember new T.is.at found.0.last id place (moved_to.child number) (slice_get found.0.children place)
-      members place number at = by_cover (T.took.nurseries.covered id place number has at)
+      members : (child_index number : ℕ) → slice_get (T.took.numbers_after id) child_index ≡ Some number →
+          (number < moved_to.count) × IsMember new T.is.at found.0.last id child_index (moved_to.child number) (slice_get found.0.children child_index)
+      members child_index number at = by_cover (T.took.nurseries.covered id child_index number has at)
         where
-          by_cover : (HasBlock id (blocks_of before.frames.items) × (slice_get (c.numbers s id) place ≡ Some number))
-              ⊎ BeginsAt id place number T.took.tasks T.move.begun →
-              (number < moved_to.count) × IsMember new T.is.at found.0.last id place (moved_to.child number)
-              (slice_get found.0.children place)
-          by_cover (inl h) = old_member id place number found.0 found.1 last h.0 h.1
-          by_cover (inr h) = new_member id place number found.0 found.1 (begins_there id place number T.took.tasks T.move.begun h)
+          by_cover : (HasBlock id (blocks_of before.frames.items) × (slice_get (c.numbers s id) child_index ≡ Some number))
+              ⊎ BeginsAt id child_index number T.took.tasks T.move.begun →
+              (number < moved_to.count) × IsMember new T.is.at found.0.last id child_index (moved_to.child number)
+              (slice_get found.0.children child_index)
+          by_cover (inl h) = old_member id child_index number found.0 found.1 last h.0 h.1
+          by_cover (inr h) = new_member id child_index number found.0 found.1 (begins_there id child_index number T.took.tasks T.move.begun h)

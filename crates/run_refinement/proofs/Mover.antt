@@ -25,7 +25,7 @@ use Rattle.turn_semantics.specs.Names.{NewIn}
 use Rattle.turn_semantics.specs.Placed.{PlacedAfter, outer_places}
 use Rattle.turn_semantics.specs.Turned.{StopsAt}
 use Rattle.turn_semantics.specs.Midway.{Place, own_after}
-use Rattle.turn_semantics.specs.Steps.{froms_after}
+use Rattle.turn_semantics.specs.Steps.{cancelled_from_after}
 use Rattle.task_machine.specs.declared.stop.Stop.{Stop}
 use Rattle.task_machine.specs.declared.task.Home.{Home}
 use Rattle.task_machine.specs.declared.task.Own.{Own}
@@ -37,7 +37,7 @@ use Rattle.task_machine.specs.Acts.{scoping_of}
 use Rattle.task_machine.specs.Fitting.{blocks_of, waits_of, AreOthers}
 use Rattle.task_machine.specs.Stacked.{AreAt, IsKey, AwaitsEvent}
 use Rattle.task_machine.specs.Standing.{here_of, HasBlock, Stands, BodyEnds, now_for}
-use Rattle.task_machine.specs.Stops.{Numbers, IsTaskState, IsTold, StopsAs, OwnAfter}
+use Rattle.task_machine.specs.Stops.{Numbers, IsTaskState, IsReturned, StopsAs, OwnAfter}
 use Rattle.task_machine.specs.Tasks.{scope_of}
 use Rattle.task_machine.specs.Worlds.{label_at, event_at}
 use Rattle.interleavings.specs.Interleaving.{Started, live}
@@ -52,7 +52,7 @@ use Rattle.run_refinement.proofs.RunStates.{Stood, follows_by, owner}
 use Rattle.run_refinement.proofs.Members.{moved_to, members_after}
 use Rattle.task_machine.proofs.Apart.{has_scope}
 use Rattle.task_machine.proofs.Cancels.{open_around}
-use Rattle.task_machine.proofs.StateLemmas.{told_end}
+use Rattle.task_machine.proofs.StateLemmas.{returned_end}
 use Rattle.task_machine.proofs.Taking.{shown_append}
 use Rattle.run_refinement.proofs.Found.{finds, puts}
 
@@ -60,22 +60,22 @@ use Rattle.run_refinement.proofs.Found.{finds, puts}
 
 -- A task that stops in this moment is there, and what it has cancelled itself in the moment counts on while it asks.
 since_now : (t : ℕ) (clock there : Clock) (cancelled woken own : List Label) (made : List Event) (numbers : Numbers) (book : NurseryBook)
-    (task_state : TaskState) (stopped : Stopped) (froms : Table) (ps : List Place) → clock ≡ there → woken ≡ own →
-    IsTaskState numbers book task_state stopped → StopsAt there t froms (Some stopped) ps →
+    (task_state : TaskState) (stopped : Stopped) (cancelled_from : Table) (ps : List Place) → clock ≡ there → woken ≡ own →
+    IsTaskState numbers book task_state stopped → StopsAt there t cancelled_from (Some stopped) ps →
     OwnAfter clock woken cancelled made (Some stopped) →
     IsSince t cancelled task_state (record { at = t; own = own_after there own made })
-since_now t clock there cancelled woken own made numbers book (ToBegin at) to_begin froms ps same count h stops after = absurd stops
-since_now t clock there cancelled woken own made numbers book (ToBegin at) _ froms ps same count h stops after = absurd h
-since_now t clock there cancelled woken own made numbers book (Asked kernel purpose) (asking k p) froms ps same count h stops after = (
+since_now t clock there cancelled woken own made numbers book (ToBegin at) to_begin cancelled_from ps same count h stops after = absurd stops
+since_now t clock there cancelled woken own made numbers book (ToBegin at) _ cancelled_from ps same count h stops after = absurd h
+since_now t clock there cancelled woken own made numbers book (Asked kernel purpose) (asking k p) cancelled_from ps same count h stops after = (
   omega arith,
   sym (after ∙ ap (λ (x : Clock). own_after x woken made) same ∙ ap (λ (ls : List Label). own_after there ls made) count),
 )
-since_now t clock there cancelled woken own made numbers book (Asked kernel purpose) _ froms ps same count h stops after = absurd h
-since_now t clock there cancelled woken own made numbers book (Asleep paced ticks since) stopped froms ps same count h stops after = tt
-since_now t clock there cancelled woken own made numbers book (Waiting event since) stopped froms ps same count h stops after = tt
-since_now t clock there cancelled woken own made numbers book (GivingUp since) stopped froms ps same count h stops after = tt
-since_now t clock there cancelled woken own made numbers book (Awaits id since) stopped froms ps same count h stops after = tt
-since_now t clock there cancelled woken own made numbers book Over stopped froms ps same count h stops after = tt
+since_now t clock there cancelled woken own made numbers book (Asked kernel purpose) _ cancelled_from ps same count h stops after = absurd h
+since_now t clock there cancelled woken own made numbers book (Asleep paced ticks since) stopped cancelled_from ps same count h stops after = tt
+since_now t clock there cancelled woken own made numbers book (Waiting event since) stopped cancelled_from ps same count h stops after = tt
+since_now t clock there cancelled woken own made numbers book (GivingUp since) stopped cancelled_from ps same count h stops after = tt
+since_now t clock there cancelled woken own made numbers book (Awaits id since) stopped cancelled_from ps same count h stops after = tt
+since_now t clock there cancelled woken own made numbers book Over stopped cancelled_from ps same count h stops after = tt
 
 -- The body of the nursery that a task waits for from this moment on ended now, and no member later.
 ended_now : (at : ℕ → Started) (numbers : Numbers) (q : Started) (book : NurseryBook) (task_state : TaskState) → BodyEnds task_state book →
@@ -94,7 +94,7 @@ ended_now at numbers q book Over ends = tt
 module _ (k : Table) (job : Job) (input : List ℕ) (t m s : ℕ) (old new : RunState) (before after : Task) (stop : Stop)
     (c : Refines k job input t m None old)
     (T : Turning k job input t m s old new c.numbers before after stop c.interleaving) where
-  mover : Follows old c.interleaving.froms input t c.interleaving.at c.numbers None s before
+  mover : Follows old c.interleaving.cancelled_from input t c.interleaving.at c.numbers None s before
   mover = c.follows s before T.code.task
 
   abbrev result : Started
@@ -108,22 +108,22 @@ module _ (k : Table) (job : Job) (input : List ℕ) (t m s : ℕ) (old new : Run
 
   -- ---- where it stopped, and what it noted
 
-  blocks_on : IsTaskState now new.world.book after.task_state T.stopped × IsTold old.world.clock before.part stop after.task_state T.stopped
+  blocks_on : IsTaskState now new.world.book after.task_state T.stopped × IsReturned old.world.clock before.part stop after.task_state T.stopped
   blocks_on = subst (λ (o : Option Stopped). StopsAs old.world.clock now new.world.book before.part stop after.task_state o) T.stops
       T.took.moves.1
 
   lives_on : (stopped : Stopped) → IsTaskState now new.world.book after.task_state stopped →
-      IsTold old.world.clock before.part stop after.task_state stopped →
+      IsReturned old.world.clock before.part stop after.task_state stopped →
       (leaving_by stop s ≡ Some s → ⊥) →
       live stopped ≡ true
-  lives_on to_begin h told stays = refl
-  lives_on (asking kernel purpose) h told stays = refl
-  lives_on (asleep paced n since) h told stays = refl
-  lives_on (waiting_for event since) h told stays = refl
-  lives_on (giving_up since) h told stays = refl
-  lives_on (awaiting children ended exc) h told stays = refl
-  lives_on (at_end u e) h told stays =
-      let w = told_end old.world.clock now new.world.book before.part stop after.task_state u e h told in
+  lives_on to_begin h returned stays = refl
+  lives_on (asking kernel purpose) h returned stays = refl
+  lives_on (asleep paced n since) h returned stays = refl
+  lives_on (waiting_for event since) h returned stays = refl
+  lives_on (giving_up since) h returned stays = refl
+  lives_on (awaiting children ended exc) h returned stays = refl
+  lives_on (at_end u e) h returned stays =
+      let w = returned_end old.world.clock now new.world.book before.part stop after.task_state u e h returned in
       absurd (stays (ap (λ (z : Stop). leaving_by z s) w.1))
 
   input_here : buffer_of before.part ≡ input
@@ -152,16 +152,16 @@ module _ (k : Table) (job : Job) (input : List ℕ) (t m s : ℕ) (old new : Run
   noted_after = subst (λ (clock : Clock). Notes clock input result.made after.entries.items) (sym clock_stays) noted_before
 
   -- where it is in time
-  stops_now : StopsAt mover_clock t (froms_after c.interleaving.froms T.move.made) (Some T.stopped) T.move.places
+  stops_now : StopsAt mover_clock t (cancelled_from_after c.interleaving.cancelled_from T.move.made) (Some T.stopped) T.move.places
   stops_now =
-      subst (λ (o : Option Stopped). StopsAt mover_clock t (froms_after c.interleaving.froms T.move.made) o T.move.places) T.stops
+      subst (λ (o : Option Stopped). StopsAt mover_clock t (cancelled_from_after c.interleaving.cancelled_from T.move.made) o T.move.places) T.stops
       T.promise.stops
 
   since_after : IsSince t after.cancelled.items after.task_state result.stop
   since_after =
       since_now t old.world.clock mover_clock after.cancelled.items (now_for T.woken_by (state_of before old.world)).own T.own T.move.made
       now
-      new.world.book after.task_state T.stopped (froms_after c.interleaving.froms T.move.made) T.move.places
+      new.world.book after.task_state T.stopped (cancelled_from_after c.interleaving.cancelled_from T.move.made) T.move.places
       (ap (λ (h : Here). h.clock) mover.here) (sym T.owns) blocks_on.0 stops_now
       (subst (OwnAfter old.world.clock (now_for T.woken_by (state_of before old.world)).own after.cancelled.items T.move.made) T.stops
       T.took.own)
@@ -171,11 +171,11 @@ module _ (k : Table) (job : Job) (input : List ℕ) (t m s : ℕ) (old new : Run
 
   -- ---- its state
 
-  stands_after : Stands (state_of after new.world) T.is.froms now (Some T.stopped) T.move.places
+  stands_after : Stands (state_of after new.world) T.is.cancelled_from now (Some T.stopped) T.move.places
   stands_after =
       record {
         places = subst (λ (f : Table). AreAt (label_at new.world) (event_at new.world) f (outer_of new.world.scopes (scope_of after)) T.move.places)
-            (sym T.froms) T.took.places;
+            (sym T.cancelled_from) T.took.places;
         numbered = λ id has. T.took.nurseries.numbered id (inl has);
         placed =
             subst (λ (gs : List rest.Frame). PlacedAfter (Some T.stopped) gs T.move.places) (sym T.took.frames_after)
@@ -206,8 +206,8 @@ module _ (k : Table) (job : Job) (input : List ℕ) (t m s : ℕ) (old new : Run
     same = T.of_other l.parent below differs
 
     there : (n : Nursery) × (nursery_at old.world.book home.nursery ≡ Some n)
-        × ((n.scope ≡ home.scope) × (slice_get n.children home.place ≡ Some None))
-    there = finds old.world.book home.nursery (λ n. (n.scope ≡ home.scope) × (slice_get n.children home.place ≡ Some None)) l.runs
+        × ((n.scope ≡ home.scope) × (slice_get n.children home.index ≡ Some None))
+    there = finds old.world.book home.nursery (λ n. (n.scope ≡ home.scope) × (slice_get n.children home.index ≡ Some None)) l.runs
 
     -- the nursery's scope is its starter's
     others : AreOthers there.0.scope before.own.items
@@ -219,7 +219,7 @@ module _ (k : Table) (job : Job) (input : List ℕ) (t m s : ℕ) (old new : Run
         by_own (inl h) = h
         by_own (inr h) =
             let mine : OpenedBy old there.0.scope s =
-            record { task = before; lives = T.code.task; place = h.0; scope = h.1; own = h.2; is = h.3 } in
+            record { task = before; lives = T.code.task; index = h.0; scope = h.1; own = h.2; is = h.3 } in
             absurd (differs (c.apart there.0.scope l.parent s
             (owner k job input t m None old c l.parent l.starter l.lives home.nursery there.0 l.owned there.1) mine))
 
@@ -241,11 +241,11 @@ module _ (k : Table) (job : Job) (input : List ℕ) (t m s : ℕ) (old new : Run
           earlier = l.earlier;
           owned = l.owned;
           runs =
-              puts new.world.book home.nursery there.0 (λ n. (n.scope ≡ home.scope) × (slice_get n.children home.place ≡ Some None))
+              puts new.world.book home.nursery there.0 (λ n. (n.scope ≡ home.scope) × (slice_get n.children home.index ≡ Some None))
               (T.took.nurseries.others home.nursery there.0 there.1 no_block (is_open, others)) there.2;
           number = l.number;
           stands =
-              subst (λ (n : Numbers). slice_get (n home.nursery) home.place ≡ Some l.number)
+              subst (λ (n : Numbers). slice_get (n home.nursery) home.index ≡ Some l.number)
               (sym (numbers_other c.numbers s m now l.parent below differs)) l.stands;
           below = subst (λ (q : Started). l.number < q.count) (sym same) l.below;
           serial = ap (λ (q : Started). q.child l.number) same ∙ l.serial;
@@ -261,7 +261,7 @@ module _ (k : Table) (job : Job) (input : List ℕ) (t m s : ℕ) (old new : Run
       by_home None e h = h
       by_home (Some home) e h = lives_there home e h
 
-  -- ---- its froms
+  -- ---- its moments of cancellation
 
   sound : Sound (scoping_of before old.world)
   sound = record { own = T.code.sound.own; around = around }
@@ -298,18 +298,18 @@ module _ (k : Table) (job : Job) (input : List ℕ) (t m s : ℕ) (old new : Run
           (known_last l (entered_made (c.interleaving.at s).made) (labels_entered T.move.made) h),
     )
 
-    tracks_after : Tracks (IsEntered T.is.at) T.is.froms (scoping_of after new.world) (entered_made result.made)
+    tracks_after : Tracks (IsEntered T.is.at) T.is.cancelled_from (scoping_of after new.world) (entered_made result.made)
     tracks_after =
         let apart : Apart (scoping_of before old.world) = record { labels = labels_apart } in
-        let all = tracked (IsEntered c.interleaving.at) c.interleaving.froms (entered_made (c.interleaving.at s).made) T.took.acts sound apart known T.fresh
+        let all = tracked (IsEntered c.interleaving.at) c.interleaving.cancelled_from (entered_made (c.interleaving.at s).made) T.took.acts sound apart known T.fresh
         mover.tracks in
-        subst (λ (f : Table). Tracks (IsEntered T.is.at) f (scoping_of after new.world) (entered_made result.made)) (sym T.froms)
+        subst (λ (f : Table). Tracks (IsEntered T.is.at) f (scoping_of after new.world) (entered_made result.made)) (sym T.cancelled_from)
         (subst (Tracks (IsEntered T.is.at) _ (scoping_of after new.world))
         (sym entered_here ∙ ap (λ (q : Started). entered_made q.made) T.of_task) (tracks_more entered_after all))
 
     -- ---- all of it
 
-    stood : Stood new T.is.froms input t T.is.at (leaving_by stop s) s after now result
+    stood : Stood new T.is.cancelled_from input t T.is.at (leaving_by stop s) s after now result
     stood =
         record {
           here =
@@ -330,8 +330,8 @@ module _ (k : Table) (job : Job) (input : List ℕ) (t m s : ℕ) (old new : Run
         }
 
     -- after its turn the task is tied to the one of the definitions that has its serial number
-    pub mover_follows : Follows new T.is.froms input t T.is.at (numbers_then c.numbers s m T.took.numbers_after) (leaving_by stop s) s after
+    pub mover_follows : Follows new T.is.cancelled_from input t T.is.at (numbers_then c.numbers s m T.took.numbers_after) (leaving_by stop s) s after
     mover_follows =
-        follows_by new T.is.froms input t T.is.at (numbers_then c.numbers s m now) (leaving_by stop s) s after now result
+        follows_by new T.is.cancelled_from input t T.is.at (numbers_then c.numbers s m now) (leaving_by stop s) s after now result
         (numbers_mover c.numbers s m now) T.of_task stood
         home_after

@@ -67,7 +67,7 @@ none_owned : (id : ℕ) (bs : List Block) (waits : Option ℕ) → bs ≡ [] →
 none_owned id bs waits e g (inl h) = subst (HasBlock id) e h
 none_owned id bs waits e g (inr h) = not_both g h
 
-tracks_none : (known : Label → Type 0) (f : Table) (s : Scoping) → s.own ≡ [] → s.froms ≡ [] → Tracks known f s []
+tracks_none : (known : Label → Type 0) (f : Table) (s : Scoping) → s.own ≡ [] → s.cancelled_from ≡ [] → Tracks known f s []
 tracks_none known f s e g =
     record {
       labels = ap (map (λ (x : ScopeFrom). x.label)) g;
@@ -108,8 +108,8 @@ module _ (k : Table) (job : Job) (input : List ℕ) (t m s : ℕ) (old new : Run
   abbrev stack : Stack
   stack = outer_of new.world.scopes (scope_of after)
 
-  places_after : AreAt (label_at new.world) (event_at new.world) T.is.froms stack T.move.places
-  places_after = subst (λ (f : Table). AreAt (label_at new.world) (event_at new.world) f stack T.move.places) (sym T.froms) T.took.places
+  places_after : AreAt (label_at new.world) (event_at new.world) T.is.cancelled_from stack T.move.places
+  places_after = subst (λ (f : Table). AreAt (label_at new.world) (event_at new.world) f stack T.move.places) (sym T.cancelled_from) T.took.places
 
   keyed_after : KeyedAfter IsNursery (waits_of after.task_state) now T.move.frames (keys_of stack)
   keyed_after =
@@ -128,38 +128,38 @@ module _ (k : Table) (job : Job) (input : List ℕ) (t m s : ℕ) (old new : Run
     numbered = numbered_on (c.interleaving.at s).count T.move.made T.move.begun T.promise.starts i b begun
 
     -- the nursery of the task that has the child's number
-    found : HomeIn IsNursery now (label_at new.world) (event_at new.world) T.is.froms b.number b.places stack
+    found : HomeIn IsNursery now (label_at new.world) (event_at new.world) T.is.cancelled_from b.number b.places stack
     found =
-        home_there IsNursery now (label_at new.world) (event_at new.world) T.is.froms b.number b.places (waits_of after.task_state) T.move.frames stack T.move.places
+        home_there IsNursery now (label_at new.world) (event_at new.world) T.is.cancelled_from b.number b.places (waits_of after.task_state) T.move.frames stack T.move.places
         T.stopped
         (task_state_waits now new.world.book after.task_state T.stopped task_state_after) keyed_after places_after
         (subst (λ (o : Option Stopped). HasChildAfter b.number b.places o T.move.frames T.move.places) T.stops
         (housed_at T.move.begun T.move.stopped T.move.frames T.move.places T.promise.housed i b begun))
 
-    here_is : home_of task ≡ Some (h.home.nursery, h.home.place)
-    here_is = ap (option_map (λ (x : Home). (x.nursery, x.place))) h.at_home
+    here_is : home_of task ≡ Some (h.home.nursery, h.home.index)
+    here_is = ap (option_map (λ (x : Home). (x.nursery, x.index))) h.at_home
 
     -- is its home
     same_nursery : h.home.nursery ≡ found.id
-    same_nursery = by_cover (T.took.nurseries.covered found.id place.0 b.number found.is.0 place.1)
+    same_nursery = by_cover (T.took.nurseries.covered found.id child_index.0 b.number found.is.0 child_index.1)
       where
-        place : (j : ℕ) × (slice_get (now found.id) j ≡ Some b.number)
-        place = among_got b.number (now found.id) found.among
+        child_index : (j : ℕ) × (slice_get (now found.id) j ≡ Some b.number)
+        child_index = among_got b.number (now found.id) found.among
 
-        by_cover : (HasBlock found.id (blocks_of before.frames.items) × (slice_get (c.numbers s found.id) place.0 ≡ Some b.number))
-            ⊎ BeginsAt found.id place.0 b.number T.took.tasks T.move.begun →
+        by_cover : (HasBlock found.id (blocks_of before.frames.items) × (slice_get (c.numbers s found.id) child_index.0 ≡ Some b.number))
+            ⊎ BeginsAt found.id child_index.0 b.number T.took.tasks T.move.begun →
             h.home.nursery ≡ found.id
         by_cover (inl o) =
             let n = finds old.world.book found.id _ ((c.follows s before T.code.task).nurseries found.id (inl o.0)) in
-            let below : b.number < (c.interleaving.at s).count = (n.2.members place.0 b.number o.1).0 in
+            let below : b.number < (c.interleaving.at s).count = (n.2.members child_index.0 b.number o.1).0 in
             absurd (omega (arith, below, numbered))
         by_cover (inr o) =
-            let r = begins_there found.id place.0 b.number T.took.tasks T.move.begun o in
+            let r = begins_there found.id child_index.0 b.number T.took.tasks T.move.begun o in
             let on : r.child.number ≡ (c.interleaving.at s).count + r.index =
             numbered_on (c.interleaving.at s).count T.move.made T.move.begun T.promise.starts r.index r.child r.begun in
             let one : r.index ≡ i = omega (arith, on, r.number_is, numbered) in
             let mine : r.task ≡ task = same_got T.took.tasks i r.task task (sym (ap (slice_get T.took.tasks) one) ∙ r.is) is in
-            ap (λ (z : ℕ × ℕ). z.0) (one_of (h.home.nursery, h.home.place) (found.id, place.0)
+            ap (λ (z : ℕ × ℕ). z.0) (one_of (h.home.nursery, h.home.index) (found.id, child_index.0)
             (sym here_is ∙ (sym (ap (λ (z : Task). home_of z) mine) ∙ r.home)))
 
     same_scope : h.home.scope ≡ found.level.label
@@ -197,12 +197,12 @@ module _ (k : Table) (job : Job) (input : List ℕ) (t m s : ℕ) (old new : Run
     frames_are : frames_of (λ id. []) task.frames.items ≡ rest.steps_left b.body ∷ []
     frames_are = h.frames (λ id. [])
 
-    stands_there : Stands (state_of task new.world) T.is.froms (λ id. []) (Some to_begin) b.places
+    stands_there : Stands (state_of task new.world) T.is.cancelled_from (λ id. []) (Some to_begin) b.places
     stands_there =
         let new_names : names.AreNew (names_at b.places) b.body × OwnNames (names_at b.places) =
         new_at T.move.begun T.names.begun i b begun in
         record {
-          places = subst (λ (st : Stack). AreAt (label_at new.world) (event_at new.world) T.is.froms st b.places) (sym around_is) found.places;
+          places = subst (λ (st : Stack). AreAt (label_at new.world) (event_at new.world) T.is.cancelled_from st b.places) (sym around_is) found.places;
           numbered = λ id has. absurd (subst (HasBlock id) no_blocks has);
           placed = subst (λ (gs : List rest.Frame). PlacedAfter (Some to_begin) gs b.places) (sym frames_are) (body_starts, tt);
           new = subst (λ (gs : List rest.Frame). NewIn gs b.places) (sym frames_are) (new_names.0, tt);
@@ -218,8 +218,8 @@ module _ (k : Table) (job : Job) (input : List ℕ) (t m s : ℕ) (old new : Run
           home = subst (λ (o : Option ℕ). ForSome o (IsOpen new.world.scopes)) (sym home_is) opens;
           scope = subst (λ (o : Option ℕ). ForSome o (IsOpen new.world.scopes)) (sym scope_is) opens;
           first = subst (OwnFirst new.world.scopes (home_scope task)) (sym h.own) refl;
-          froms = subst (All (λ (o : Own). o.at < length task.froms.items)) (sym h.own)
-              (All-nil (λ (o : Own). o.at < length task.froms.items));
+          cancelled_from = subst (All (λ (o : Own). o.at < length task.cancelled_from.items)) (sym h.own)
+              (All-nil (λ (o : Own). o.at < length task.cancelled_from.items));
           opened = opened_none (label_at new.world) new.world.book (blocks_of task.frames.items) task.own.items (waits_of task.task_state)
               no_blocks h.own no_waits;
         }
@@ -240,7 +240,7 @@ module _ (k : Table) (job : Job) (input : List ℕ) (t m s : ℕ) (old new : Run
           owned = h.owned;
           runs = h.nursery;
           number = b.number;
-          stands = subst (λ (n : Numbers). slice_get (n h.home.nursery) h.home.place ≡ Some b.number)
+          stands = subst (λ (n : Numbers). slice_get (n h.home.nursery) h.home.index ≡ Some b.number)
               (sym (numbers_mover c.numbers s m now)) h.number;
           below = omega (arith, short, count, numbered);
           serial =
@@ -250,7 +250,7 @@ module _ (k : Table) (job : Job) (input : List ℕ) (t m s : ℕ) (old new : Run
         }
 
     stood : (leaving : Option ℕ) → b.here.input ≡ input →
-        Stood new T.is.froms input t T.is.at leaving (m + i) task (λ id. []) (child_at k (a_round_after (c.interleaving.at s).here.clock t)
+        Stood new T.is.cancelled_from input t T.is.at leaving (m + i) task (λ id. []) (child_at k (a_round_after (c.interleaving.at s).here.clock t)
         (m + i) b)
     stood leaving here =
         record {
@@ -274,19 +274,19 @@ module _ (k : Table) (job : Job) (input : List ℕ) (t m s : ℕ) (old new : Run
             slices =
                 subst (All (IsSlice input)) (sym h.entries) (All-nil (IsSlice input));
           };
-          tracks = tracks_none (IsEntered T.is.at) T.is.froms (scoping_of task new.world) h.own h.froms;
+          tracks = tracks_none (IsEntered T.is.at) T.is.cancelled_from (scoping_of task new.world) h.own h.cancelled_from;
           nurseries = λ id has. absurd (none_owned id (blocks_of task.frames.items) (waits_of task.task_state) no_blocks no_waits has);
         }
 
   -- each task that was started is tied to the one of the definitions that has its serial number
   pub child_follows : ((i : ℕ) (b : Begun) → slice_get T.move.begun i ≡ Some b → b.here.input ≡ input) → (i : ℕ) (task : Task) →
       slice_get T.took.tasks i ≡ Some task →
-      (leaving : Option ℕ) → Follows new T.is.froms input t T.is.at (numbers_then c.numbers s m T.took.numbers_after) leaving (m + i) task
+      (leaving : Option ℕ) → Follows new T.is.cancelled_from input t T.is.at (numbers_then c.numbers s m T.took.numbers_after) leaving (m + i) task
   child_follows inputs i task is leaving =
       let o = begun_at old.world.clock at_begin now new.world.book (blocks_of after.frames.items) (waits_of after.task_state) T.took.tasks
       T.move.begun T.took.begun i task
       is in
-      follows_by new T.is.froms input t T.is.at (numbers_then c.numbers s m now) leaving (m + i) task (λ id. [])
+      follows_by new T.is.cancelled_from input t T.is.at (numbers_then c.numbers s m now) leaving (m + i) task (λ id. [])
       (child_at k (a_round_after (c.interleaving.at s).here.clock t) (m + i) o.0)
       (numbers_child c.numbers s m now i T.below) (T.of_child i o.0 o.1) (stood i task is o.0 o.1 o.2 leaving (inputs i o.0 o.1))
       (subst (HasHome new T.is.at (numbers_then c.numbers s m now) (m + i)) (sym o.2.at_home) (lives_there i task is o.0 o.1 o.2))

@@ -52,13 +52,13 @@ pub home_block : {k : Table} {job : Job} {input : List ℕ} {t m s : ℕ} {old n
     (c : Refines k job input t m None old) →
     Turning k job input t m s old new c.numbers before after stop c.interleaving → (home : Home) →
     HasNurseryOf home.nursery (blocks_of before.frames.items) (waits_of before.task_state) →
-    HasNursery old.world.book home.nursery (λ n. (n.scope ≡ home.scope) × (slice_get n.children home.place ≡ Some None)) →
+    HasNursery old.world.book home.nursery (λ n. (n.scope ≡ home.scope) × (slice_get n.children home.index ≡ Some None)) →
     HasBlock home.nursery (blocks_of before.frames.items)
 home_block c T home (inl has) runs = has
 home_block {old = old} c T home (inr waits) runs =
     let n = finds old.world.book home.nursery _ runs in
     let o = finds old.world.book home.nursery _ (T.over home.nursery waits) in
-    absurd (unsettled n.0 home.place n.2.1 (subst (λ (x : Members). is_settled x ≡ true) (one_of o.0 n.0 (sym o.1 ∙ n.1)) o.2))
+    absurd (unsettled n.0 home.index n.2.1 (subst (λ (x : Members). is_settled x ≡ true) (one_of o.0 n.0 (sym o.1 ∙ n.1)) o.2))
 
 -- that nursery after the turn
 pub grown : {k : Table} {job : Job} {input : List ℕ} {t m s : ℕ} {old new : RunState} {before after : Task} {stop : Stop} →
@@ -98,10 +98,10 @@ mover_home {k} {job} {input} {t} {m} {s} {old} {new} {before} {after} c T u home
       lives = T.code.task_after;
       earlier = subst (λ (p : ℕ). p < u) e h.earlier;
       owned = T.took.nurseries.kept home.nursery block;
-      runs = subst (λ (o : Option Members). IsSomeAnd o (λ x. (x.scope ≡ home.scope) × (slice_get x.children home.place ≡ Some None)))
+      runs = subst (λ (o : Option Members). IsSomeAnd o (λ x. (x.scope ≡ home.scope) × (slice_get x.children home.index ≡ Some None)))
           (sym g.1) (g.2.scope ∙ n.2.0, child);
       number = h.number;
-      stands = ap (λ (f : Numbers). slice_get (f home.nursery) home.place) (numbers_mover c.numbers s m T.took.numbers_after) ∙ number;
+      stands = ap (λ (f : Numbers). slice_get (f home.nursery) home.index) (numbers_mover c.numbers s m T.took.numbers_after) ∙ number;
       below = subst (λ (x : ℕ). h.number < x) (sym (ap (λ (q : Started). q.count) T.of_task))
           (let b : h.number < (c.interleaving.at s).count = below in omega arith);
       serial = ap (λ (q : Started). q.child h.number) T.of_task ∙ (old_child (c.interleaving.at s).count (c.interleaving.at s).child m h.number below
@@ -112,21 +112,21 @@ mover_home {k} {job} {input} {t} {m} {s} {old} {new} {before} {after} c T u home
     block = (mover_owned c T u home h e).0
 
     n : (x : Members) × (nursery_at old.world.book home.nursery ≡ Some x)
-        × ((x.scope ≡ home.scope) × (slice_get x.children home.place ≡ Some None))
+        × ((x.scope ≡ home.scope) × (slice_get x.children home.index ≡ Some None))
     n = finds old.world.book home.nursery _ h.runs
 
     g : (x : Members) × (nursery_at new.world.book home.nursery ≡ Some x)
         × Grown old.world.tick n.0 x (c.numbers s home.nursery) (T.took.numbers_after home.nursery)
     g = grown c T home.nursery block n.0 n.1
 
-    child : slice_get g.0.children home.place ≡ Some None
-    child = ap (λ (es : List End). slice_get es home.place) g.2.children ∙ got_first n.0.children g.2.more home.place None n.2.1
+    child : slice_get g.0.children home.index ≡ Some None
+    child = ap (λ (es : List End). slice_get es home.index) g.2.children ∙ got_first n.0.children g.2.more home.index None n.2.1
 
-    number : slice_get (T.took.numbers_after home.nursery) home.place ≡ Some h.number
+    number : slice_get (T.took.numbers_after home.nursery) home.index ≡ Some h.number
     number =
-        ap (λ (is : List ℕ). slice_get is home.place) g.2.numbers
-        ∙ got_first (c.numbers s home.nursery) g.2.added home.place h.number
-        (subst (λ (p : ℕ). slice_get (c.numbers p home.nursery) home.place ≡ Some h.number) e h.stands)
+        ap (λ (is : List ℕ). slice_get is home.index) g.2.numbers
+        ∙ got_first (c.numbers s home.nursery) g.2.added home.index h.number
+        (subst (λ (p : ℕ). slice_get (c.numbers p home.nursery) home.index ≡ Some h.number) e h.stands)
 
     below : h.number < (c.interleaving.at s).count
     below = subst (λ (p : ℕ). h.number < (c.interleaving.at p).count) e h.below
@@ -144,11 +144,11 @@ else_home {k} {job} {input} {t} {m} {s} {old} {new} {before} {after} c T u home 
       lives = T.code.other_after h.parent low differs ∙ h.lives;
       earlier = h.earlier;
       owned = h.owned;
-      runs = same_nursery (λ x. (x.scope ≡ home.scope) × (slice_get x.children home.place ≡ Some None)) old.world.book new.world.book
+      runs = same_nursery (λ x. (x.scope ≡ home.scope) × (slice_get x.children home.index ≡ Some None)) old.world.book new.world.book
           home.nursery
           (nursery_same c T h.parent h.starter differs h.lives home.nursery h.owned) h.runs;
       number = h.number;
-      stands = ap (λ (f : Numbers). slice_get (f home.nursery) home.place)
+      stands = ap (λ (f : Numbers). slice_get (f home.nursery) home.index)
           (numbers_other c.numbers s m T.took.numbers_after h.parent low differs) ∙ h.stands;
       below = subst (λ (q : Started). h.number < q.count) (sym (T.of_other h.parent low differs)) h.below;
       serial = ap (λ (q : Started). q.child h.number) (T.of_other h.parent low differs) ∙ h.serial;
@@ -193,8 +193,8 @@ home_else {old = old} {before = before} c T u home h differs =
     home.nursery
     (c.follows h.parent h.starter h.lives).goes.opened h.owned in
     let same : x.scope.id ≡ home.scope = sym x.same ∙ (ap (λ (y : Members). y.scope) (one_of x.nursery n.0 (sym x.at ∙ n.1)) ∙ n.2.0) in (
-      subst (IsOpen old.world.scopes) same (own_open c h.parent h.starter h.lives x.scope x.place x.got),
-      subst (λ (key : ℕ). AreOthers key before.own.items) same (else_own c T h.parent h.starter differs h.lives x.scope x.place x.got),
+      subst (IsOpen old.world.scopes) same (own_open c h.parent h.starter h.lives x.scope x.index x.got),
+      subst (λ (key : ℕ). AreOthers key before.own.items) same (else_own c T h.parent h.starter differs h.lives x.scope x.index x.got),
     )
 
 -- that of a nursery of the mover's is open after the turn
@@ -213,7 +213,7 @@ mover_open {new = new} {after = after} c T u home h e =
     let same : x.scope.id ≡ home.scope = sym x.same ∙ (ap (λ (y : Members). y.scope) (one_of x.nursery n.0 (sym x.at ∙ n.1)) ∙ n.2.0) in
     subst (IsOpen new.world.scopes) same
     (open_around new.world.scopes T.code.sound_after.chain (scope_of after) x.scope.id
-    (own_around (outer_of new.world.scopes (scope_of after)) after.own.items _ x.scope x.place T.code.fits_after.runs.first x.got))
+    (own_around (outer_of new.world.scopes (scope_of after)) after.own.items _ x.scope x.index T.code.fits_after.runs.first x.got))
 
 -- so the scope of each home stays open
 pub home_open : {k : Table} {job : Job} {input : List ℕ} {t m s : ℕ} {old new : RunState} {before after : Task} {stop : Stop} →

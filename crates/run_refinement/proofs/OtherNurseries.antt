@@ -27,19 +27,19 @@ pub record HasScope (book : NurseryBook) (own : List Own) (id : ℕ) : Type 0 wh
   pub nursery : Members
   pub at : nursery_at book id ≡ Some nursery
   pub scope : Own
-  pub place : ℕ
-  pub got : slice_get own place ≡ Some scope
+  pub index : ℕ
+  pub got : slice_get own index ≡ Some scope
   pub same : nursery.scope ≡ scope.id
 
 one_more : {book : NurseryBook} {own : List Own} {id : ℕ} → (o : Own) → HasScope book own id → HasScope book (o ∷ own) id
-one_more o h = record { nursery = h.nursery; at = h.at; scope = h.scope; place = suc h.place; got = h.got; same = h.same }
+one_more o h = record { nursery = h.nursery; at = h.at; scope = h.scope; index = suc h.index; got = h.got; same = h.same }
 
 the_first : (Q : Members → Type 0) (labels : Labels) (book : NurseryBook) (o : Own) (own : List Own) (key id : ℕ) → key ≡ id →
     HasNursery book key (λ n. IsMine labels o n × Q n) →
     HasScope book (o ∷ own) id
 the_first Q labels book o own key id e h =
     let n = finds book key _ h in
-    record { nursery = n.0; at = sym (ap (nursery_at book) e) ∙ n.1; scope = o; place = zero; got = refl; same = n.2.0.scope }
+    record { nursery = n.0; at = sym (ap (nursery_at book) e) ∙ n.1; scope = o; index = zero; got = refl; same = n.2.0.scope }
 
 -- each nursery of a task has a scope that the task opened
 pub scope_of_nursery : (labels : Labels) (book : NurseryBook) (bs : List Block) (own : List Own) (waits : Option ℕ) (id : ℕ) →
@@ -78,8 +78,8 @@ pub nurseries_stay : (labels : Labels) (book new : NurseryBook) (bs cs : List Bl
 nurseries_stay labels book new bs cs own mine waits waited tree opened stay fits others are id has =
     let h = scope_of_nursery labels book cs mine waited id fits has in
     nursery_stays labels book new bs own waits tree opened stay id h.nursery h.at
-    (subst (IsOpen tree) (sym h.same) (are h.scope h.place h.got))
-    (subst (λ (k : ℕ). AreOthers k own) (sym h.same) (others h.scope h.place h.got))
+    (subst (IsOpen tree) (sym h.same) (are h.scope h.index h.got))
+    (subst (λ (k : ℕ). AreOthers k own) (sym h.same) (others h.scope h.index h.got))
     ∙ sym h.at
 
 -- what is true of a nursery is so in each book in which it is the same

@@ -13,7 +13,7 @@ use Rattle.job_meaning.specs.Log.{Table}
 use Rattle.job_meaning.specs.Rest as rest
 use Rattle.turn_semantics.specs.Midway.{Place, Begun}
 use Rattle.turn_semantics.specs.Placed.{outer_places, HasChild, HasChildAfter}
-use Rattle.turn_semantics.specs.Steps.{froms_after}
+use Rattle.turn_semantics.specs.Steps.{cancelled_from_after}
 use Rattle.turn_semantics.specs.Turned.{Starts}
 use Rattle.task_machine.specs.declared.stop.Stop.{Stop}
 use Rattle.task_machine.specs.declared.task.Home.{Home}
@@ -40,38 +40,38 @@ use Rattle.run_refinement.proofs.Found.{finds}
 
 -- ---- numbers of children
 
-place_among : (i : ℕ) (is : List ℕ) → IsAmong i is → (place : ℕ) × (slice_get is place ≡ Some i)
-place_among i [] a = absurd a
-place_among i (j ∷ is) (inl e) = (zero, ap (λ (x : ℕ). Some x) (sym e))
-place_among i (j ∷ is) (inr a) = let r = place_among i is a in (suc r.0, r.1)
+index_among : (i : ℕ) (is : List ℕ) → IsAmong i is → (index : ℕ) × (slice_get is index ≡ Some i)
+index_among i [] a = absurd a
+index_among i (j ∷ is) (inl e) = (zero, ap (λ (x : ℕ). Some x) (sym e))
+index_among i (j ∷ is) (inr a) = let r = index_among i is a in (suc r.0, r.1)
 
-among_place : (i : ℕ) (is : List ℕ) (place : ℕ) → slice_get is place ≡ Some i → IsAmong i is
-among_place i [] place e = not_both refl e
-among_place i (j ∷ is) zero e = inl (sym (one_of j i e))
-among_place i (j ∷ is) (suc place) e = inr (among_place i is place e)
+among_index : (i : ℕ) (is : List ℕ) (index : ℕ) → slice_get is index ≡ Some i → IsAmong i is
+among_index i [] index e = not_both refl e
+among_index i (j ∷ is) zero e = inl (sym (one_of j i e))
+among_index i (j ∷ is) (suc index) e = inr (among_index i is index e)
 
 -- children that begin are numbered on from those before
-begins_late : (id place number n : ℕ) (es : List rest.Event) (ts : List Task) (bs : List Begun) → Starts n es bs →
-    BeginsAt id place number ts bs → n ≤ number
-begins_late id place number n es [] bs s b = absurd b
-begins_late id place number n es (t ∷ ts) [] s b = absurd b
-begins_late id place number n [] (t ∷ ts) (b ∷ bs) s h = absurd s
-begins_late id place number n (rest.noted u e ∷ es) (t ∷ ts) (b ∷ bs) s h = begins_late id place number n es (t ∷ ts) (b ∷ bs) s h
-begins_late id place number n (rest.signs l u ∷ es) (t ∷ ts) (b ∷ bs) s h = begins_late id place number n es (t ∷ ts) (b ∷ bs) s h
-begins_late id place number n (rest.enters l u d ∷ es) (t ∷ ts) (b ∷ bs) s h = begins_late id place number n es (t ∷ ts) (b ∷ bs) s h
-begins_late id place number n (rest.starts i l u ∷ es) (t ∷ ts) (b ∷ bs) s (inl h) = let e : n ≡ number = sym s.1 ∙ h.1 in omega arith
-begins_late id place number n (rest.starts i l u ∷ es) (t ∷ ts) (b ∷ bs) s (inr h) = let e : suc n ≤ number =
-    begins_late id place number (suc n) es ts bs s.3 h in omega arith
+begins_late : (id index number n : ℕ) (es : List rest.Event) (ts : List Task) (bs : List Begun) → Starts n es bs →
+    BeginsAt id index number ts bs → n ≤ number
+begins_late id index number n es [] bs s b = absurd b
+begins_late id index number n es (t ∷ ts) [] s b = absurd b
+begins_late id index number n [] (t ∷ ts) (b ∷ bs) s h = absurd s
+begins_late id index number n (rest.noted u e ∷ es) (t ∷ ts) (b ∷ bs) s h = begins_late id index number n es (t ∷ ts) (b ∷ bs) s h
+begins_late id index number n (rest.signs l u ∷ es) (t ∷ ts) (b ∷ bs) s h = begins_late id index number n es (t ∷ ts) (b ∷ bs) s h
+begins_late id index number n (rest.enters l u d ∷ es) (t ∷ ts) (b ∷ bs) s h = begins_late id index number n es (t ∷ ts) (b ∷ bs) s h
+begins_late id index number n (rest.starts i l u ∷ es) (t ∷ ts) (b ∷ bs) s (inl h) = let e : n ≡ number = sym s.1 ∙ h.1 in omega arith
+begins_late id index number n (rest.starts i l u ∷ es) (t ∷ ts) (b ∷ bs) s (inr h) = let e : suc n ≤ number =
+    begins_late id index number (suc n) es ts bs s.3 h in omega arith
 
 -- ---- a child's home is the nursery that has its number
 
 -- a task that has not ended and is a member of a nursery at a place has its home there
 pub member_home : {k : Table} {job : Job} {input : List ℕ} {t m : ℕ} {old : RunState} → (c : Refines k job input t m None old) →
-    (u : ℕ) (task : Task) → old.task u ≡ Some task → (last id place : ℕ) (e : Option End) →
-    IsMember old c.interleaving.at last id place u e → home_of task ≡ Some (id, place)
-member_home c u task is last id place None h = absurd h
-member_home c u task is last id place (Some None) h = ap home_of (one_of task h.0 (sym is ∙ h.1)) ∙ h.2
-member_home c u task is last id place (Some (Some exc)) h =
+    (u : ℕ) (task : Task) → old.task u ≡ Some task → (last id index : ℕ) (e : Option End) →
+    IsMember old c.interleaving.at last id index u e → home_of task ≡ Some (id, index)
+member_home c u task is last id index None h = absurd h
+member_home c u task is last id index (Some None) h = ap home_of (one_of task h.0 (sym is ∙ h.1)) ∙ h.2
+member_home c u task is last id index (Some (Some exc)) h =
     let alive : live (c.interleaving.at u).rest.stopped ≡ true = (c.follows u task is).lives (λ e. not_both refl e) in
     let ended : live (c.interleaving.at u).rest.stopped ≡ false = ap live h.4 in
     absurd (let clash : true ≡ false = sym alive ∙ ended in cc)
@@ -81,11 +81,11 @@ pub home_is : {k : Table} {job : Job} {input : List ℕ} {t m s : ℕ} {old new 
     (c : Refines k job input t m None old) →
     (T : Turning k job input t m s old new c.numbers before after stop c.interleaving) → (u : ℕ) (task : Task) → old.task u ≡ Some task →
     (home : Home) → task.home ≡ Some home →
-    (h : LivesIn old c.interleaving.at c.numbers u home) → h.parent ≡ s → (id place : ℕ) →
+    (h : LivesIn old c.interleaving.at c.numbers u home) → h.parent ≡ s → (id index : ℕ) →
     HasNurseryOf id (blocks_of after.frames.items) (waits_of after.task_state) →
-    slice_get (T.took.numbers_after id) place ≡ Some h.number → id ≡ home.nursery
-home_is {k} {job} {input} {t} {m} {s} {old} {new} {before} {after} c T u task is home at_home h e id place has got =
-    by_case (T.took.nurseries.covered id place h.number has got)
+    slice_get (T.took.numbers_after id) index ≡ Some h.number → id ≡ home.nursery
+home_is {k} {job} {input} {t} {m} {s} {old} {new} {before} {after} c T u task is home at_home h e id index has got =
+    by_case (T.took.nurseries.covered id index h.number has got)
   where
     below : h.number < (c.interleaving.at s).count
     below = subst (λ (p : ℕ). h.number < (c.interleaving.at p).count) e h.below
@@ -93,20 +93,20 @@ home_is {k} {job} {input} {t} {m} {s} {old} {new} {before} {after} c T u task is
     serial : (c.interleaving.at s).child h.number ≡ u
     serial = subst (λ (p : ℕ). (c.interleaving.at p).child h.number ≡ u) e h.serial
 
-    by_case : (HasBlock id (blocks_of before.frames.items) × (slice_get (c.numbers s id) place ≡ Some h.number))
-        ⊎ BeginsAt id place h.number T.took.tasks T.move.begun → id ≡ home.nursery
+    by_case : (HasBlock id (blocks_of before.frames.items) × (slice_get (c.numbers s id) index ≡ Some h.number))
+        ⊎ BeginsAt id index h.number T.took.tasks T.move.begun → id ≡ home.nursery
     by_case (inl x) =
         let n = finds old.world.book id _ ((c.follows s before T.code.task).nurseries id (inl x.0)) in
-        let member : IsMember old c.interleaving.at n.0.last id place u (slice_get n.0.children place) =
-        subst (λ (p : ℕ). IsMember old c.interleaving.at n.0.last id place p (slice_get n.0.children place)) serial
-        (n.2.members place h.number x.1).1 in
-        let same : Some (id, place) ≡ Some (home.nursery, home.place) =
-        sym (member_home c u task is n.0.last id place (slice_get n.0.children place) member)
-        ∙ ap (option_map (λ (y : Home). (y.nursery, y.place))) at_home in
-        ap (λ (z : ℕ × ℕ). z.0) (one_of (id, place) (home.nursery, home.place) same)
+        let member : IsMember old c.interleaving.at n.0.last id index u (slice_get n.0.children index) =
+        subst (λ (p : ℕ). IsMember old c.interleaving.at n.0.last id index p (slice_get n.0.children index)) serial
+        (n.2.members index h.number x.1).1 in
+        let same : Some (id, index) ≡ Some (home.nursery, home.index) =
+        sym (member_home c u task is n.0.last id index (slice_get n.0.children index) member)
+        ∙ ap (option_map (λ (y : Home). (y.nursery, y.index))) at_home in
+        ap (λ (z : ℕ × ℕ). z.0) (one_of (id, index) (home.nursery, home.index) same)
     by_case (inr b) =
         let late : (c.interleaving.at s).count ≤ h.number =
-        begins_late id place h.number (c.interleaving.at s).count T.move.made T.took.tasks T.move.begun T.promise.starts b in
+        begins_late id index h.number (c.interleaving.at s).count T.move.made T.took.tasks T.move.begun T.promise.starts b in
         let low : h.number < (c.interleaving.at s).count = below in
         absurd (omega arith)
 
@@ -118,14 +118,14 @@ mover_places : {k : Table} {job : Job} {input : List ℕ} {t m s : ℕ} {old new
     (T : Turning k job input t m s old new c.numbers before after stop c.interleaving) → (u : ℕ) (task : Task) → old.task u ≡ Some task →
     (home : Home) → task.home ≡ Some home →
     (h : LivesIn old c.interleaving.at c.numbers u home) → h.parent ≡ s → (ps : List Place) →
-    AreAt (label_at old.world) (event_at old.world) c.interleaving.froms (outer_of old.world.scopes (Some home.scope)) ps →
-    AreAt (label_at new.world) (event_at new.world) (froms_after c.interleaving.froms T.move.made) (outer_of new.world.scopes (Some home.scope)) ps
+    AreAt (label_at old.world) (event_at old.world) c.interleaving.cancelled_from (outer_of old.world.scopes (Some home.scope)) ps →
+    AreAt (label_at new.world) (event_at new.world) (cancelled_from_after c.interleaving.cancelled_from T.move.made) (outer_of new.world.scopes (Some home.scope)) ps
 mover_places {k} {job} {input} {t} {m} {s} {old} {new} {before} {after} {stop} c T u task is home at_home h e ps at =
-    subst (λ (x : Stack). AreAt (label_at new.world) (event_at new.world) (froms_after f T.move.made) x ps)
+    subst (λ (x : Stack). AreAt (label_at new.world) (event_at new.world) (cancelled_from_after f T.move.made) x ps)
     (sym (outer_is new.world.scopes home.scope now.0 (ap (stack_of new.world.scopes) (sym last) ∙ now.1))) now.2
   where
     f : Table
-    f = c.interleaving.froms
+    f = c.interleaving.cancelled_from
 
     q : Started
     q = c.interleaving.at s
@@ -134,8 +134,8 @@ mover_places {k} {job} {input} {t} {m} {s} {old} {new} {before} {after} {stop} c
     follows = c.follows s before T.code.task
 
     among : IsAmong h.number (c.numbers s home.nursery)
-    among = among_place h.number (c.numbers s home.nursery) home.place
-        (subst (λ (p : ℕ). slice_get (c.numbers p home.nursery) home.place ≡ Some h.number) e h.stands)
+    among = among_index h.number (c.numbers s home.nursery) home.index
+        (subst (λ (p : ℕ). slice_get (c.numbers p home.nursery) home.index ≡ Some h.number) e h.stands)
 
     housed : Housed (label_at old.world) (event_at old.world) old.world.book f home.nursery h.number (frames_of (c.numbers s) before.frames.items)
         (outer_of old.world.scopes (scope_of before)) (outer_places (Some q.rest.stopped) q.places)
@@ -178,23 +178,23 @@ mover_places {k} {job} {input} {t} {m} {s} {old} {new} {before} {after} {stop} c
     task_state = subst (StopsAs old.world.clock T.took.numbers_after new.world.book before.part stop after.task_state) T.stops
         T.took.moves.1
 
-    there : Found (label_at new.world) (event_at new.world) new.world.book (froms_after f T.move.made) T.took.numbers_after (blocks_of after.frames.items)
+    there : Found (label_at new.world) (event_at new.world) new.world.book (cancelled_from_after f T.move.made) T.took.numbers_after (blocks_of after.frames.items)
         (waits_of after.task_state) (outer_of new.world.scopes (scope_of after)) h.number ps
     there =
-        found (label_at new.world) (event_at new.world) new.world.book (froms_after f T.move.made) T.took.numbers_after after.frames.items after.own.items
+        found (label_at new.world) (event_at new.world) new.world.book (cancelled_from_after f T.move.made) T.took.numbers_after after.frames.items after.own.items
         (waits_of after.task_state) T.stopped _
         (outer_of new.world.scopes (scope_of after)) T.move.places T.code.fits_after.runs.opened
         (is_stop T.took.numbers_after new.world.book after.task_state T.stopped task_state.0) T.took.places T.code.fits_after.runs.first
         h.number ps stays
 
-    now : (st : Stack) × (stack_of new.world.scopes there.scope.id ≡ Some st) × AreAt (label_at new.world) (event_at new.world) (froms_after f T.move.made) st ps
-    now = stack_here (label_at new.world) (event_at new.world) (froms_after f T.move.made) new.world.scopes (scope_of after) there.scope.id ps
+    now : (st : Stack) × (stack_of new.world.scopes there.scope.id ≡ Some st) × AreAt (label_at new.world) (event_at new.world) (cancelled_from_after f T.move.made) st ps
+    now = stack_here (label_at new.world) (event_at new.world) (cancelled_from_after f T.move.made) new.world.scopes (scope_of after) there.scope.id ps
         T.code.sound_after.chain there.at
 
     last : there.scope.id ≡ home.scope
     last =
-        let place = place_among h.number (T.took.numbers_after there.id) there.among in
-        let id : there.id ≡ home.nursery = home_is c T u task is home at_home h e there.id place.0 there.has place.1 in
+        let index = index_among h.number (T.took.numbers_after there.id) there.among in
+        let id : there.id ≡ home.nursery = home_is c T u task is home at_home h e there.id index.0 there.has index.1 in
         let n = finds new.world.book home.nursery _ (mover_home c T u home h e).runs in
         let x = finds new.world.book there.id _ there.nursery in
         sym x.2 ∙ (ap (λ (y : Members). y.scope) (one_of x.0 n.0 (sym x.1 ∙ (ap (nursery_at new.world.book) id ∙ n.1))) ∙ n.2.0)
@@ -203,35 +203,35 @@ nowhere : (labels more : Labels) (events others : Events) (f g : Table) (ps : Li
 nowhere labels more events others f g [] a = a
 nowhere labels more events others f g (p ∷ ps) a = absurd a
 
--- after a turn the places of every other task are those of its stack, by the new froms
+-- after a turn the places of every other task are those of its stack, by the new moments of cancellation
 pub places_other : {k : Table} {job : Job} {input : List ℕ} {t m s : ℕ} {old new : RunState} {before after : Task} {stop : Stop} →
     (c : Refines k job input t m None old) →
     (T : Turning k job input t m s old new c.numbers before after stop c.interleaving) → ActsOf c T → (u : ℕ) (task : Task) → u ≢ s →
     old.task u ≡ Some task →
-    AreAt (label_at new.world) (event_at new.world) (froms_after c.interleaving.froms T.move.made) (outer_of new.world.scopes (scope_of task)) (c.interleaving.at u).places
+    AreAt (label_at new.world) (event_at new.world) (cancelled_from_after c.interleaving.cancelled_from T.move.made) (outer_of new.world.scopes (scope_of task)) (c.interleaving.at u).places
 places_other {k} {job} {input} {t} {m} {s} {old} {new} {before} {after} c T a u task differs is =
     by_own task.own.items refl (c.follows u task is).stands.places
   where
     f : Table
-    f = c.interleaving.froms
+    f = c.interleaving.cancelled_from
 
     ps : List Place
     ps = (c.interleaving.at u).places
 
     by_home : (home : Option Home) → task.home ≡ home → HasHome old c.interleaving.at c.numbers u home →
         AreAt (label_at old.world) (event_at old.world) f (outer_of old.world.scopes (option_map (λ (h : Home). h.scope) home)) ps →
-        AreAt (label_at new.world) (event_at new.world) (froms_after f T.move.made) (outer_of new.world.scopes (option_map (λ (h : Home). h.scope) home)) ps
-    by_home None e h at = nowhere (label_at old.world) (label_at new.world) (event_at old.world) (event_at new.world) f (froms_after f T.move.made) ps at
+        AreAt (label_at new.world) (event_at new.world) (cancelled_from_after f T.move.made) (outer_of new.world.scopes (option_map (λ (h : Home). h.scope) home)) ps
+    by_home None e h at = nowhere (label_at old.world) (label_at new.world) (event_at old.world) (event_at new.world) f (cancelled_from_after f T.move.made) ps at
     by_home (Some home) e h at = by_parent (same_or h.parent s)
       where
-        by_parent : (h.parent ≡ s) ⊎ (h.parent ≢ s) → AreAt (label_at new.world) (event_at new.world) (froms_after f T.move.made)
+        by_parent : (h.parent ≡ s) ⊎ (h.parent ≢ s) → AreAt (label_at new.world) (event_at new.world) (cancelled_from_after f T.move.made)
             (outer_of new.world.scopes (Some home.scope)) ps
         by_parent (inl g) = mover_places c T u task is home e h g ps at
         by_parent (inr other) = let x = home_else c T u home h other in places_stay a f home.scope ps x.0 x.1 at
 
     by_own : (own : List Own) → task.own.items ≡ own → AreAt (label_at old.world) (event_at old.world) f
         (outer_of old.world.scopes (last_or (home_scope task) (map (λ (o : Own). o.id) own))) ps →
-        AreAt (label_at new.world) (event_at new.world) (froms_after f T.move.made) (outer_of new.world.scopes
+        AreAt (label_at new.world) (event_at new.world) (cancelled_from_after f T.move.made) (outer_of new.world.scopes
         (last_or (home_scope task) (map (λ (o : Own). o.id) own))) ps
     by_own [] e at = by_home task.home refl (c.follows u task is).home at
     by_own (x ∷ own) e at =

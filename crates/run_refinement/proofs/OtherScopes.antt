@@ -1,4 +1,5 @@
--- How a turn leaves the scopes of another task: they are open inside the same ones, with the same places by the new froms.
+-- How a turn leaves the scopes of another task: they are open inside the same ones, with the same places by the new moments of
+-- cancellation.
 use Rattle.std.proofs.Common.{◌≡◌, ℕ, zero, suc, Option, Some, None, List, [], ◌∷◌, ◌++◌, map, refl, ap, sym, ◌∙◌, subst}
 use Rattle.std.specs.Prelude.{slice_get, IsSome}
 use Rattle.std.specs.List.{last_or}
@@ -10,7 +11,7 @@ use Rattle.job_meaning.specs.Log.{Table}
 use Rattle.job_meaning.specs.Rest.{Event}
 use Rattle.task_machine.specs.declared.entry.ScopeFrom.{ScopeFrom}
 use Rattle.turn_semantics.specs.Midway.{Place}
-use Rattle.turn_semantics.specs.Steps.{froms_after}
+use Rattle.turn_semantics.specs.Steps.{cancelled_from_after}
 use Rattle.task_machine.specs.declared.task.Own.{Own}
 use Rattle.task_machine.specs.Acts.{Scoping, Acts, kept_from}
 use Rattle.task_machine.specs.Fitting.{AreOthers}
@@ -19,7 +20,7 @@ use Rattle.task_machine.specs.Stacked.{AreAt}
 use Rattle.run_refinement.specs.RunState.{Tracks, IsPast}
 use Rattle.run_refinement.specs.Turn.{IsSound, AreNew}
 use Rattle.run_refinement.proofs.ActsKeep.{Apart, HasKnown, not_both, not_closed, is_open}
-use Rattle.run_refinement.proofs.ActsFroms.{unmoved, StandsAt, stays_at}
+use Rattle.run_refinement.proofs.ActsCancelledFrom.{unmoved, StandsAt, stays_at}
 use Rattle.run_refinement.proofs.ActsOthers.{IsKept, kept_acts}
 use Rattle.run_refinement.proofs.ActsStay.{SameLevels, Stays, stays}
 use Rattle.run_refinement.proofs.LabelsApart.{from_entered, sound_of}
@@ -64,37 +65,37 @@ key_stays_open {s = s} {u = u} a key i others =
 -- a stack of another task still corresponds to these places
 pub places_stay : {known : Label → Type 0} {t : ℕ} {s u : Scoping} {es : List Event} → Acted known t s u es →
     (f : Table) (key : ℕ) (ps : List Place) → IsOpen s.tree key → AreOthers key s.own →
-    AreAt s.labels s.events f (outer_of s.tree (Some key)) ps → AreAt u.labels u.events (froms_after f es) (outer_of u.tree (Some key)) ps
+    AreAt s.labels s.events f (outer_of s.tree (Some key)) ps → AreAt u.labels u.events (cancelled_from_after f es) (outer_of u.tree (Some key)) ps
 places_stay {known} {t} {s} {u} {es} a f key ps i others at =
-    subst (λ (x : Stack). AreAt u.labels u.events (froms_after f es) x ps) (sym (outer_is u.tree key after.0 after.1)) after.2
+    subst (λ (x : Stack). AreAt u.labels u.events (cancelled_from_after f es) x ps) (sym (outer_is u.tree key after.0 after.1)) after.2
   where
     st : (x : Stack) × (stack_of s.tree key ≡ Some x)
     st = open_stack s.tree key i
 
-    after : StandsAt key (froms_after f es) ps u
+    after : StandsAt key (cancelled_from_after f es) ps u
     after = stays_at known f key st.0 ps a.acts (sound_of s a.sound) a.apart a.has a.new st.1 others
         (subst (λ (x : Stack). AreAt s.labels s.events f x ps) (outer_is s.tree key st.0 st.1) at)
 
 -- ---- what a task tracks
 
 abbrev pub with_own : Scoping → List Own → List ScopeFrom → Scoping
-with_own s own froms =
-    record { tree = s.tree; labels = s.labels; events = s.events; set = s.set; own = own; froms = froms }
+with_own s own cancelled_from =
+    record { tree = s.tree; labels = s.labels; events = s.events; set = s.set; own = own; cancelled_from = cancelled_from }
 
--- the froms of another task are those of the world after the turn
+-- the moments of cancellation of another task are those of the world after the turn
 pub tracks_other : {known : Label → Type 0} {t : ℕ} {s u : Scoping} {es : List Event} → Acted known t s u es →
-    (was now : Label → Type 0) (f : Table) (own : List Own) (froms : List ScopeFrom)
+    (was now : Label → Type 0) (f : Table) (own : List Own) (cancelled_from : List ScopeFrom)
     (entered : List Label) → AreElse own s.own → ((l : Label) → IsAmong l entered → known l) → ((l : Label) → IsAmong l entered → now l) →
-    Tracks was f (with_own s own froms) entered → Tracks now (froms_after f es) (with_own u own froms) entered
-tracks_other {known} {t} {s} {u} {es} a was now f own froms entered others mine more h =
+    Tracks was f (with_own s own cancelled_from) entered → Tracks now (cancelled_from_after f es) (with_own u own cancelled_from) entered
+tracks_other {known} {t} {s} {u} {es} a was now f own cancelled_from entered others mine more h =
     record { labels = h.labels; differ = h.differ; named = named; kept = kept; left = left }
   where
-    after : (o : Own) (i : ℕ) → slice_get own i ≡ Some o → (l : Label) × (s.labels o.id ≡ Some l) × IsKept (froms_after f es) u o.id l
+    after : (o : Own) (i : ℕ) → slice_get own i ≡ Some o → (l : Label) × (s.labels o.id ≡ Some l) × IsKept (cancelled_from_after f es) u o.id l
     after o i e =
         let k = h.kept o i e in
         (k.1, k.3, kept_acts known f o.id k.1 a.acts (sound_of s a.sound) a.apart a.has a.new (others o i e) (k.0, k.2, k.3, k.4))
 
-    named : (o : Own) (i : ℕ) → slice_get own i ≡ Some o → (x : ScopeFrom) × (slice_get froms o.at ≡ Some x)
+    named : (o : Own) (i : ℕ) → slice_get own i ≡ Some o → (x : ScopeFrom) × (slice_get cancelled_from o.at ≡ Some x)
         × (u.labels o.id ≡ Some x.label)
     named o i e =
         let n = h.named o i e in
@@ -103,10 +104,10 @@ tracks_other {known} {t} {s} {u} {es} a was now f own froms entered others mine 
 
     kept : (o : Own) (i : ℕ) → slice_get own i ≡ Some o →
         (st : Stack) × (l : Label) × (stack_of u.tree o.id ≡ Some st) × (u.labels o.id ≡ Some l)
-        × (kept_from (u.events o.id) st ≡ froms_after f es l)
+        × (kept_from (u.events o.id) st ≡ cancelled_from_after f es l)
     kept o i e = let k = after o i e in (k.2.0, k.0, k.2.1, k.2.2, k.2.3)
 
-    left : (i : ℕ) (x : ScopeFrom) → slice_get froms i ≡ Some x → IsPast i own → (x.seen ≡ froms_after f es x.label)
+    left : (i : ℕ) (x : ScopeFrom) → slice_get cancelled_from i ≡ Some x → IsPast i own → (x.seen ≡ cancelled_from_after f es x.label)
         × ((key : ℕ) → u.labels key ≡ Some x.label → ⊥) × now x.label
     left i x e past =
         let c = h.left i x e past in
@@ -137,10 +138,10 @@ pub own_places_stay : {known : Label → Type 0} {t : ℕ} {s u : Scoping} {es :
     (f : Table) (home : Option ℕ) (x : Own) (own : List Own) (ps : List Place) →
     AreElse (x ∷ own) s.own → ((o : Own) (i : ℕ) → slice_get (x ∷ own) i ≡ Some o → IsOpen s.tree o.id) →
     AreAt s.labels s.events f (outer_of s.tree (last_or home (map (λ (o : Own). o.id) (x ∷ own)))) ps →
-    AreAt u.labels u.events (froms_after f es) (outer_of u.tree (last_or home (map (λ (o : Own). o.id) (x ∷ own)))) ps
+    AreAt u.labels u.events (cancelled_from_after f es) (outer_of u.tree (last_or home (map (λ (o : Own). o.id) (x ∷ own)))) ps
 own_places_stay {known} {t} {s} {u} {es} a f home x own ps others are at =
     let o = last_is x own in
-    subst (λ (k : Option ℕ). AreAt u.labels u.events (froms_after f es) (outer_of u.tree k) ps) (sym o.3)
+    subst (λ (k : Option ℕ). AreAt u.labels u.events (cancelled_from_after f es) (outer_of u.tree k) ps) (sym o.3)
     (places_stay a f o.0.id ps (are o.0 o.1 o.2) (others o.0 o.1 o.2)
     (subst (λ (k : Option ℕ). AreAt s.labels s.events f (outer_of s.tree k) ps) o.3 at))
 

@@ -32,7 +32,7 @@ use Rattle.run_refinement.specs.Turn.{IsEntered, numbers_then, leaving_by}
 use Rattle.run_refinement.specs.Turning.{Turning}
 use Rattle.run_refinement.proofs.ActsKeep.{not_both, same_or}
 use Rattle.run_refinement.proofs.EventsStay.{event_kept}
-use Rattle.run_refinement.proofs.RunStates.{Stood, follows_by, gone_below}
+use Rattle.run_refinement.proofs.RunStates.{Stood, follows_by, ended_task_below}
 use Rattle.run_refinement.proofs.StateTurn.{ActsOf, else_own, own_open, nursery_same}
 use Rattle.run_refinement.proofs.OtherHomes.{home_stays, home_open}
 use Rattle.run_refinement.proofs.OtherNurseries.{same_nursery, opened_stays, task_state_stays}
@@ -49,12 +49,12 @@ module _ (k : Table) (job : Job) (input : List ℕ) (t m s : ℕ) (old new : Run
   -- ---- which tasks are in a nursery
 
   -- a task that is in a nursery is there still, be it the mover or another
-  running_stays : (last id place serial : ℕ) → IsMember old c.interleaving.at last id place serial (Some None) →
-      (serial ≡ s) ⊎ (serial ≢ s) → IsMember new T.is.at last id place serial (Some None)
-  running_stays last id place serial h (inl e) =
+  running_stays : (last id index serial : ℕ) → IsMember old c.interleaving.at last id index serial (Some None) →
+      (serial ≡ s) ⊎ (serial ≢ s) → IsMember new T.is.at last id index serial (Some None)
+  running_stays last id index serial h (inl e) =
       let mine : h.0 ≡ before = one_of h.0 before (sym h.1 ∙ (ap old.task e ∙ T.code.task)) in
       (after, ap new.task e ∙ T.code.task_after, ap (λ (z : Task). home_of z) T.code.stays ∙ (sym (ap (λ (z : Task). home_of z) mine) ∙ h.2))
-  running_stays last id place serial h (inr differs) = (h.0, T.code.other_after serial (below_of c serial h.0 h.1) differs ∙ h.1, h.2)
+  running_stays last id index serial h (inr differs) = (h.0, T.code.other_after serial (below_of c serial h.0 h.1) differs ∙ h.1, h.2)
 
   -- a task that has ended is as it was
   ended_stays : (serial u : ℕ) (exc : Option Exc) → serial < m → (c.interleaving.at serial).rest.stopped ≡ rest.at_end u exc →
@@ -73,22 +73,22 @@ module _ (k : Table) (job : Job) (input : List ℕ) (t m s : ℕ) (old new : Run
           cc
 
   -- what is a member stays one
-  member_stays : (last id place serial : ℕ) (e : Option End) → IsMember old c.interleaving.at last id place serial e →
-      IsMember new T.is.at last id place serial e
-  member_stays last id place serial None h = absurd h
-  member_stays last id place serial (Some None) h = running_stays last id place serial h (same_or serial s)
-  member_stays last id place serial (Some (Some exc)) h =
-      (h.0, h.1, T.code.gone_after serial ∙ h.2, h.3, ended_stays serial h.1 exc (gone_below k job input t m None old c serial h.0 h.2) h.4)
+  member_stays : (last id index serial : ℕ) (e : Option End) → IsMember old c.interleaving.at last id index serial e →
+      IsMember new T.is.at last id index serial e
+  member_stays last id index serial None h = absurd h
+  member_stays last id index serial (Some None) h = running_stays last id index serial h (same_or serial s)
+  member_stays last id index serial (Some (Some exc)) h =
+      (h.0, h.1, T.code.ended_task_after serial ∙ h.2, h.3, ended_stays serial h.1 exc (ended_task_below k job input t m None old c serial h.0 h.2) h.4)
 
-  member_below : (last id place serial : ℕ) (e : Option End) → IsMember old c.interleaving.at last id place serial e → serial < m
-  member_below last id place serial None h = absurd h
-  member_below last id place serial (Some None) h = below_of c serial h.0 h.1
-  member_below last id place serial (Some (Some exc)) h = gone_below k job input t m None old c serial h.0 h.2
+  member_below : (last id index serial : ℕ) (e : Option End) → IsMember old c.interleaving.at last id index serial e → serial < m
+  member_below last id index serial None h = absurd h
+  member_below last id index serial (Some None) h = below_of c serial h.0 h.1
+  member_below last id index serial (Some (Some exc)) h = ended_task_below k job input t m None old c serial h.0 h.2
 
   -- ---- one other task
 
   module _ (a : ActsOf c T) (u : ℕ) (below : u < m) (differs : u ≢ s) (task : Task) (is : old.task u ≡ Some task) where
-    was : Follows old c.interleaving.froms input t c.interleaving.at c.numbers None u task
+    was : Follows old c.interleaving.cancelled_from input t c.interleaving.at c.numbers None u task
     was = c.follows u task is
 
     same : T.is.at u ≡ c.interleaving.at u
@@ -104,10 +104,10 @@ module _ (k : Table) (job : Job) (input : List ℕ) (t m s : ℕ) (old new : Run
         nursery_at new.world.book id ≡ nursery_at old.world.book id
     nursery = nursery_same c T u task differs is
 
-    tracks : Tracks (IsEntered T.is.at) T.is.froms (scoping_of task new.world) (entered_made (c.interleaving.at u).made)
+    tracks : Tracks (IsEntered T.is.at) T.is.cancelled_from (scoping_of task new.world) (entered_made (c.interleaving.at u).made)
     tracks =
-        subst (λ (f : Table). Tracks (IsEntered T.is.at) f (scoping_of task new.world) (entered_made (c.interleaving.at u).made)) (sym T.froms)
-        (tracks_other a (IsEntered c.interleaving.at) (IsEntered T.is.at) c.interleaving.froms task.own.items task.froms.items
+        subst (λ (f : Table). Tracks (IsEntered T.is.at) f (scoping_of task new.world) (entered_made (c.interleaving.at u).made)) (sym T.cancelled_from)
+        (tracks_other a (IsEntered c.interleaving.at) (IsEntered T.is.at) c.interleaving.cancelled_from task.own.items task.cancelled_from.items
         (entered_made (c.interleaving.at u).made) others (λ l h. (u, h))
         (λ l h. (u, subst (λ (q : Started). IsAmong l (entered_made q.made)) (sym same) h)) was.tracks)
 
@@ -116,7 +116,7 @@ module _ (k : Table) (job : Job) (input : List ℕ) (t m s : ℕ) (old new : Run
     label_same o i got =
         let x = tracks.named o i got in
         let y = was.tracks.named o i got in
-        x.2 ∙ (ap (λ (z : ScopeFrom). Some z.label) (same_got task.froms.items o.at x.0 y.0 x.1 y.1) ∙ sym y.2)
+        x.2 ∙ (ap (λ (z : ScopeFrom). Some z.label) (same_got task.cancelled_from.items o.at x.0 y.0 x.1 y.1) ∙ sym y.2)
 
     home : ForSome (home_scope task) (IsOpen new.world.scopes)
     home = home_open c T a u task.home was.home
@@ -129,20 +129,20 @@ module _ (k : Table) (job : Job) (input : List ℕ) (t m s : ℕ) (old new : Run
           home = home;
           scope = scope_stays a (home_scope task) task.own.items others opens home;
           first = first_stays a (home_scope task) task.own.items others opens was.goes.home was.goes.first;
-          froms = was.goes.froms;
+          cancelled_from = was.goes.cancelled_from;
           opened =
               opened_stays (label_at old.world) (label_at new.world) old.world.book new.world.book (blocks_of task.frames.items)
               task.own.items (waits_of task.task_state) label_same nursery
               was.goes.opened;
         }
 
-    places : AreAt (label_at new.world) (event_at new.world) T.is.froms (outer_of new.world.scopes (scope_of task)) (c.interleaving.at u).places
+    places : AreAt (label_at new.world) (event_at new.world) T.is.cancelled_from (outer_of new.world.scopes (scope_of task)) (c.interleaving.at u).places
     places =
         subst (λ (f : Table). AreAt (label_at new.world) (event_at new.world) f (outer_of new.world.scopes (scope_of task)) (c.interleaving.at u).places)
-        (sym T.froms)
+        (sym T.cancelled_from)
         (places_other c T a u task differs is)
 
-    stands : Stands (state_of task new.world) T.is.froms (c.numbers u) (Some (c.interleaving.at u).rest.stopped) (c.interleaving.at u).places
+    stands : Stands (state_of task new.world) T.is.cancelled_from (c.numbers u) (Some (c.interleaving.at u).rest.stopped) (c.interleaving.at u).places
     stands =
         record {
           places = places;
@@ -170,9 +170,9 @@ module _ (k : Table) (job : Job) (input : List ℕ) (t m s : ℕ) (old new : Run
               long = h.long;
               last = h.last;
               members =
-                  λ place number got.
-                  let one = h.members place number got in
-                  (one.0, member_stays n.last id place ((c.interleaving.at u).child number) (slice_get n.children place) one.1);
+                  λ index number got.
+                  let one = h.members index number got in
+                  (one.0, member_stays n.last id index ((c.interleaving.at u).child number) (slice_get n.children index) one.1);
             }
 
     clock : new.world.clock ≡ old.world.clock
@@ -202,14 +202,14 @@ module _ (k : Table) (job : Job) (input : List ℕ) (t m s : ℕ) (old new : Run
         by_either (inl now) = inl now
         by_either (inr x) =
             inr (record {
-              place = x.place;
+              index = x.index;
               number = x.number;
               is = x.is;
               exc = x.exc;
               ended =
                   ended_stays ((c.interleaving.at u).child x.number) n.0.last x.exc
-                  (member_below n.0.last id x.place ((c.interleaving.at u).child x.number) (slice_get n.0.children x.place)
-                  (all.members x.place x.number x.is).1) x.ended;
+                  (member_below n.0.last id x.index ((c.interleaving.at u).child x.number) (slice_get n.0.children x.index)
+                  (all.members x.index x.number x.is).1) x.ended;
             })
     last_after (ToBegin at) e h = tt
     last_after (Asked kernel purpose) e h = tt
@@ -218,7 +218,7 @@ module _ (k : Table) (job : Job) (input : List ℕ) (t m s : ℕ) (old new : Run
     last_after (GivingUp since) e h = tt
     last_after Over e h = tt
 
-    stood : Stood new T.is.froms input t T.is.at (leaving_by stop s) u task (c.numbers u) (c.interleaving.at u)
+    stood : Stood new T.is.cancelled_from input t T.is.at (leaving_by stop s) u task (c.numbers u) (c.interleaving.at u)
     stood =
         record {
           here = ap (λ (z : Clock). here_of z task) clock ∙ was.here;
@@ -238,8 +238,8 @@ module _ (k : Table) (job : Job) (input : List ℕ) (t m s : ℕ) (old new : Run
         }
 
     -- Another task follows after the turn what it followed before.
-    pub others_follow : Follows new T.is.froms input t T.is.at (numbers_then c.numbers s m T.took.numbers_after) (leaving_by stop s) u task
+    pub others_follow : Follows new T.is.cancelled_from input t T.is.at (numbers_then c.numbers s m T.took.numbers_after) (leaving_by stop s) u task
     others_follow =
-        follows_by new T.is.froms input t T.is.at (numbers_then c.numbers s m T.took.numbers_after) (leaving_by stop s) u task (c.numbers u)
+        follows_by new T.is.cancelled_from input t T.is.at (numbers_then c.numbers s m T.took.numbers_after) (leaving_by stop s) u task (c.numbers u)
         (c.interleaving.at u)
         (numbers_other c.numbers s m T.took.numbers_after u below differs) same stood (home_stays c T u task.home below was.home)

@@ -9,19 +9,19 @@ use Rattle.job_meaning.specs.Log.{Table}
 use Rattle.job_meaning.specs.Moments.{clock_of, tick_of, a_round_after}
 use Rattle.job_meaning.specs.declared.clock.Clock.{Clock}
 use Rattle.job_meaning.specs.Walk.{Here}
-use Rattle.job_meaning.specs.Meaning.{root_label, root_here, meaning_table, meaning_records, meaning_froms, meaning_end, froms_by}
+use Rattle.job_meaning.specs.Meaning.{root_label, root_here, meaning_table, meaning_records, meaning_cancelled_from, meaning_end, cancelled_from_by}
 use Rattle.job_meaning.specs.Shown.{Shown, as_shown, shown_at}
 use Rattle.job_meaning.specs.Rest.{Event, noted, signs, enters, starts, Stopped, to_begin, asking, asleep, waiting_for, giving_up, awaiting, at_end}
 use Rattle.turn_semantics.specs.Midway.{Begun}
 use Rattle.task_machine.specs.Noted.{shown_made}
 use Rattle.interleavings.specs.Interleaving.{Started}
 use Rattle.interleavings.specs.Going.{root_task, task_after_turn, children_from}
-use Rattle.interleavings.specs.Rows.{Row, entries_made, entered_made, children_made, StartsRows, HasRow, records_by, froms_in, DepthFirst}
+use Rattle.interleavings.specs.Rows.{Row, entries_made, entered_made, children_made, StartsRows, HasRow, records_by, cancelled_from_in, DepthFirst}
 use Rattle.interleavings.specs.Runs.{Reached, begun, turn, jump}
 use Rattle.interleavings.proofs.Picking.{front_same}
 use Rattle.interleavings.proofs.Readings.{in_either}
 use Rattle.interleavings.proofs.Running.{runs_are_the_meaning}
-use Rattle.run_refinement.specs.RunState.{RunState, Gone, HasEnded, AreStarted, Refines}
+use Rattle.run_refinement.specs.RunState.{RunState, EndedTask, HasEnded, AreStarted, Refines}
 use Rattle.run_refinement.specs.Over.{ShowsRow, IsOver}
 
 -- ---- the root stays where it began
@@ -90,7 +90,7 @@ row_at clock f start q =
       end = tick_of clock (end_at q.rest.stopped);
       exc = exc_at q.rest.stopped;
       entries = entries_made clock q.made;
-      froms = froms_by f (entered_made q.made);
+      cancelled_from = cancelled_from_by f (entered_made q.made);
       children = children_made q.child q.made;
     }
 
@@ -123,7 +123,7 @@ state_over job input names starting t m state c none =
       rows = rows;
       shows = shows;
       records = λ taken d. (means taken d).0;
-      froms = λ taken d. (means taken d).1;
+      cancelled_from = λ taken d. (means taken d).1;
       end = λ taken d. (means taken d).2;
     }
   where
@@ -131,7 +131,7 @@ state_over job input names starting t m state c none =
     k = meaning_table job input
 
     f : Table
-    f = c.interleaving.froms
+    f = c.interleaving.cancelled_from
 
     clock : Clock
     clock = clock_of job.format
@@ -139,14 +139,14 @@ state_over job input names starting t m state c none =
     rows : ℕ → Row
     rows p = row_at clock f (state.start p) (c.interleaving.at p)
 
-    gone_at : (p : ℕ) → p < m → (g : Gone) × (state.gone p ≡ Some g) × HasEnded clock f input t (c.interleaving.at p) g
-    gone_at p lt = let g = c.ended p lt (none p) in
+    ended_task_at : (p : ℕ) → p < m → (g : EndedTask) × (state.ended_task p ≡ Some g) × HasEnded clock f input t (c.interleaving.at p) g
+    ended_task_at p lt = let g = c.ended p lt (none p) in
         (g.0, g.1, subst (λ (x : Clock). HasEnded x f input t (c.interleaving.at p) g.0) c.clock g.2)
 
     shows : (p : ℕ) → p < m → ShowsRow input state p (rows p)
     shows p lt =
         record {
-          gone = g.0;
+          ended_task = g.0;
           is = g.1;
           label = g.2.label;
           start = refl;
@@ -154,12 +154,12 @@ state_over job input names starting t m state c none =
           exc = sym (ap exc_at g.2.stopped);
           entries = g.2.notes.shown ∙ shown_entries clock input (c.interleaving.at p).made;
           slices = g.2.notes.slices;
-          froms = g.2.froms;
+          cancelled_from = g.2.cancelled_from;
           children = c.children p lt;
         }
       where
-        g : (g : Gone) × (state.gone p ≡ Some g) × HasEnded clock f input t (c.interleaving.at p) g
-        g = gone_at p lt
+        g : (g : EndedTask) × (state.ended_task p ≡ Some g) × HasEnded clock f input t (c.interleaving.at p) g
+        g = ended_task_at p lt
 
     row_of_at : (p : ℕ) → p < m → HasRow clock f rows (c.interleaving.at p)
     row_of_at p lt =
@@ -168,7 +168,7 @@ state_over job input names starting t m state c none =
           ended = ended_row (c.interleaving.at p).rest.stopped g.2.end g.0.exc g.2.stopped ∙ ap (λ (r : Row). at_end g.2.end r.exc) is;
           tick = ap (λ (r : Row). r.end) (sym is) ∙ ap (λ (s : Stopped). tick_of clock (end_at s)) g.2.stopped;
           entries = ap (λ (r : Row). r.entries) (sym is);
-          froms = ap (λ (r : Row). r.froms) (sym is);
+          cancelled_from = ap (λ (r : Row). r.cancelled_from) (sym is);
           children = ap (λ (r : Row). r.children) (sym is);
           starts =
               rows_started clock f state.start c.interleaving.at (c.interleaving.at p).child (c.interleaving.at p).made
@@ -180,8 +180,8 @@ state_over job input names starting t m state c none =
         is : rows p ≡ rows (c.interleaving.at p).serial
         is = ap rows (sym (c.interleaving.has p lt).1)
 
-        g : (g : Gone) × (state.gone p ≡ Some g) × HasEnded clock f input t (c.interleaving.at p) g
-        g = gone_at p lt
+        g : (g : EndedTask) × (state.ended_task p ≡ Some g) × HasEnded clock f input t (c.interleaving.at p) g
+        g = ended_task_at p lt
 
     has_row : (q : Started) → IsAmong q c.interleaving.tasks → HasRow clock f rows q
     has_row q i = let h = c.interleaving.one q i in subst (HasRow clock f rows) (sym h.0) (row_of_at q.serial h.1)
@@ -192,6 +192,6 @@ state_over job input names starting t m state c none =
         ap (λ (h : Here). h.task) ((root_stays k job input f t m c.interleaving.tasks c.interleaving.reached).1 (c.interleaving.at 0) at.0 at.1)
 
     means : (taken : List ℕ) → DepthFirst rows (0 ∷ []) taken →
-        (records_by rows taken ≡ meaning_records job input) × (froms_in rows taken ≡ meaning_froms job input)
+        (records_by rows taken ≡ meaning_records job input) × (cancelled_from_in rows taken ≡ meaning_cancelled_from job input)
         × ((rows 0).end ≡ meaning_end job input)
     means taken d = runs_are_the_meaning job input names starting f t m c.interleaving.tasks c.interleaving.reached rows has_row label c.begun taken d

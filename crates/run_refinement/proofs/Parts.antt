@@ -66,25 +66,25 @@ begun_at clock at numbers book blocks waits (u ∷ ts) (b ∷ bs) h zero task e 
 begun_at clock at numbers book blocks waits (u ∷ ts) (b ∷ bs) h (suc i) task e = begun_at clock at numbers book blocks waits ts bs h.1 i
     task e
 
--- a child that begins at a place of a nursery is one of those begun
-pub record BeginsThere (id place number : ℕ) (ts : List Task) (bs : List Begun) : Type 0 where
+-- a child that begins at an index of a nursery is one of those begun
+pub record BeginsThere (id child_index number : ℕ) (ts : List Task) (bs : List Begun) : Type 0 where
   pub index : ℕ
   pub task : Task
   pub child : Begun
   pub is : slice_get ts index ≡ Some task
   pub begun : slice_get bs index ≡ Some child
-  pub home : home_of task ≡ Some (id, place)
+  pub home : home_of task ≡ Some (id, child_index)
   pub number_is : child.number ≡ number
 
--- a task that begins at a place of a nursery is one of the tasks that were started
-pub begins_there : (id place number : ℕ) (ts : List Task) (bs : List Begun) → BeginsAt id place number ts bs →
-    BeginsThere id place number ts bs
-begins_there id place number [] bs h = absurd h
-begins_there id place number (t ∷ ts) [] h = absurd h
-begins_there id place number (t ∷ ts) (b ∷ bs) (inl h) =
+-- a task that begins at an index of a nursery is one of the tasks that were started
+pub begins_there : (id child_index number : ℕ) (ts : List Task) (bs : List Begun) → BeginsAt id child_index number ts bs →
+    BeginsThere id child_index number ts bs
+begins_there id child_index number [] bs h = absurd h
+begins_there id child_index number (t ∷ ts) [] h = absurd h
+begins_there id child_index number (t ∷ ts) (b ∷ bs) (inl h) =
     record { index = zero; task = t; child = b; is = refl; begun = refl; home = h.0; number_is = h.1 }
-begins_there id place number (t ∷ ts) (b ∷ bs) (inr h) =
-    let r = begins_there id place number ts bs h in
+begins_there id child_index number (t ∷ ts) (b ∷ bs) (inr h) =
+    let r = begins_there id child_index number ts bs h in
     record { index = suc r.index; task = r.task; child = r.child; is = r.is; begun = r.begun; home = r.home; number_is = r.number_is }
 
 -- they are numbered on

@@ -42,13 +42,13 @@ pub still_ready : (k : Table) (job : Job) (input : List ℕ) (t m s : ℕ) (old 
     (stop : Stop) (was : Interleaving k job input t m) →
     IsSettled k job input → GivesNamesOnce job → StartsInNurseries job →
     (turn : Turning k job input t m s old new numbers before after stop was) → (p : ℕ) → p < m → p ≢ s →
-    (own : List Label) → (let now : Now = record { at = t; own = own } in (w : Wake) → MayWake was.froms was.tasks now (was.at p) w
+    (own : List Label) → (let now : Now = record { at = t; own = own } in (w : Wake) → MayWake was.cancelled_from was.tasks now (was.at p) w
     (was.at p).rest.stopped →
-    MayWake turn.is.froms turn.is.tasks now (turn.is.at p) w (turn.is.at p).rest.stopped)
+    MayWake turn.is.cancelled_from turn.is.tasks now (turn.is.at p) w (turn.is.at p).rest.stopped)
 still_ready k job input t m s old new numbers before after stop was settled names starting turn p below differs own w may =
     let now : Now = record { at = t; own = own } in
-    subst (λ (x : Started). MayWake turn.is.froms turn.is.tasks now x w x.rest.stopped) (sym other)
-    (ready_by was.froms turn.is.froms was.tasks turn.is.tasks now q w q.rest.stopped (sym seen_before ∙ seen_after)
+    subst (λ (x : Started). MayWake turn.is.cancelled_from turn.is.tasks now x w x.rest.stopped) (sym other)
+    (ready_by was.cancelled_from turn.is.cancelled_from was.tasks turn.is.tasks now q w q.rest.stopped (sym seen_before ∙ seen_after)
     (λ event since. sym (set_before event since) ∙ set_after event since) over may)
   where
     q : Started
@@ -60,37 +60,37 @@ still_ready k job input t m s old new numbers before after stop was settled name
     IsOn : Table → List Started → Type 0
     IsOn f qs = RunInvariant k f (root_result k job input) qs × AllFrom k qs t × ((x : Started) → IsAmong x qs → AgreesOn t k f x.places)
 
-    on_before : IsOn was.froms was.tasks
-    on_before = runs_keep_invariant k job input settled names starting was.froms t m was.tasks was.reached
+    on_before : IsOn was.cancelled_from was.tasks
+    on_before = runs_keep_invariant k job input settled names starting was.cancelled_from t m was.tasks was.reached
 
-    on_after : IsOn turn.is.froms turn.is.tasks
-    on_after = runs_keep_invariant k job input settled names starting turn.is.froms t (m + length turn.move.begun) turn.is.tasks turn.is.reached
+    on_after : IsOn turn.is.cancelled_from turn.is.tasks
+    on_after = runs_keep_invariant k job input settled names starting turn.is.cancelled_from t (m + length turn.move.begun) turn.is.tasks turn.is.reached
 
     less : p < m + length turn.move.begun
     less = omega (arith, below)
 
-    agrees_before : AgreesOn t k was.froms q.places
+    agrees_before : AgreesOn t k was.cancelled_from q.places
     agrees_before = on_before.2 q (was.has p below).0
 
-    agrees_after : AgreesOn t k turn.is.froms q.places
+    agrees_after : AgreesOn t k turn.is.cancelled_from q.places
     agrees_after = on_after.2 q (subst (λ (x : Started). IsAmong x turn.is.tasks) other (turn.is.has p less).0)
 
-    seen_before : seen (stack_at k q.places).scopes t ≡ seen (stack_at was.froms q.places).scopes t
-    seen_before = seen_near (suc t) (stack_at k q.places).scopes (stack_at was.froms q.places).scopes t
-        (near_places t k was.froms q.places agrees_before).0 (omega arith)
+    seen_before : seen (stack_at k q.places).scopes t ≡ seen (stack_at was.cancelled_from q.places).scopes t
+    seen_before = seen_near (suc t) (stack_at k q.places).scopes (stack_at was.cancelled_from q.places).scopes t
+        (near_places t k was.cancelled_from q.places agrees_before).0 (omega arith)
 
-    seen_after : seen (stack_at k q.places).scopes t ≡ seen (stack_at turn.is.froms q.places).scopes t
-    seen_after = seen_near (suc t) (stack_at k q.places).scopes (stack_at turn.is.froms q.places).scopes t
-        (near_places t k turn.is.froms q.places agrees_after).0 (omega arith)
+    seen_after : seen (stack_at k q.places).scopes t ≡ seen (stack_at turn.is.cancelled_from q.places).scopes t
+    seen_after = seen_near (suc t) (stack_at k q.places).scopes (stack_at turn.is.cancelled_from q.places).scopes t
+        (near_places t k turn.is.cancelled_from q.places agrees_after).0 (omega arith)
 
-    -- an event is set in the same moment by the table and by the froms, as far as now
+    -- an event is set in the same moment by the table and by the moments of cancellation, as far as now
     set_before : (event : List ℕ) (since : ℕ) →
-        min (suc t) (ends_at q.here.clock k event since q.places) ≡ min (suc t) (ends_at q.here.clock was.froms event since q.places)
-    set_before event since = ends_near q.here.clock t since k was.froms event q.places agrees_before
+        min (suc t) (ends_at q.here.clock k event since q.places) ≡ min (suc t) (ends_at q.here.clock was.cancelled_from event since q.places)
+    set_before event since = ends_near q.here.clock t since k was.cancelled_from event q.places agrees_before
 
     set_after : (event : List ℕ) (since : ℕ) →
-        min (suc t) (ends_at q.here.clock k event since q.places) ≡ min (suc t) (ends_at q.here.clock turn.is.froms event since q.places)
-    set_after event since = ends_near q.here.clock t since k turn.is.froms event q.places agrees_after
+        min (suc t) (ends_at q.here.clock k event since q.places) ≡ min (suc t) (ends_at q.here.clock turn.is.cancelled_from event since q.places)
+    set_after event since = ends_near q.here.clock t since k turn.is.cancelled_from event q.places agrees_after
 
     -- the task that had its turn had not ended
     alive : (u : ℕ) (e : Option Exc) → (was.at s).rest.stopped ≡ at_end u e → ⊥

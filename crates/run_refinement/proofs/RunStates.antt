@@ -21,7 +21,7 @@ use Rattle.task_machine.specs.Waking.{IsInRangeTaskState}
 use Rattle.task_machine.specs.Worlds.{label_at}
 use Rattle.interleavings.specs.Interleaving.{Started, live}
 use Rattle.interleavings.specs.Rows.{entered_made}
-use Rattle.run_refinement.specs.RunState.{RunState, Gone, Notes, Tracks, CanGoOn, HasHome, HasMembers, IsSince, LastEnds, Follows, OpenedBy, Refines}
+use Rattle.run_refinement.specs.RunState.{RunState, EndedTask, Notes, Tracks, CanGoOn, HasHome, HasMembers, IsSince, LastEnds, Follows, OpenedBy, Refines}
 use Rattle.run_refinement.specs.Turn.{IsEntered}
 use Rattle.run_refinement.proofs.ActsKeep.{not_both}
 use Rattle.run_refinement.proofs.Parts.{own_or}
@@ -89,8 +89,8 @@ follows_by state f input t at numbers leaving s task n q e g h home =
 module _ (k : Table) (job : Job) (input : List ℕ) (t m : ℕ) (leaving : Option ℕ) (state : RunState) (c : Refines k job input t m leaving state)
   where
     -- no task has a later serial number than those given
-    pub gone_below : (s : ℕ) (g : Gone) → state.gone s ≡ Some g → s < m
-    gone_below s g e = by_order (cases_lt s m)
+    pub ended_task_below : (s : ℕ) (g : EndedTask) → state.ended_task s ≡ Some g → s < m
+    ended_task_below s g e = by_order (cases_lt s m)
       where
         by_order : (s < m) ⊎ (m ≤ s) → s < m
         by_order (inl h) = h
@@ -107,7 +107,7 @@ module _ (k : Table) (job : Job) (input : List ℕ) (t m : ℕ) (leaving : Optio
         by_own (inl others) =
             absurd (has_scope (label_at state.world) state.world.book (blocks_of a.frames.items) a.own.items (waits_of a.task_state) id n
             (c.follows s a e).goes.opened has at others)
-        by_own (inr h) = record { task = a; lives = e; place = h.0; scope = h.1; own = h.2; is = h.3 }
+        by_own (inr h) = record { task = a; lives = e; index = h.0; scope = h.1; own = h.2; is = h.3 }
 
     -- so no two tasks have the same nursery
     pub one_nursery : (s u : ℕ) (a b : Task) → state.task s ≡ Some a → state.task u ≡ Some b → (id : ℕ) (n : Nursery) →
@@ -116,18 +116,18 @@ module _ (k : Table) (job : Job) (input : List ℕ) (t m : ℕ) (leaving : Optio
     one_nursery s u a b e f id n has too at = c.apart n.scope s u (owner s a e id n has at) (owner u b f id n too at)
 
     -- and the task whose nursery is another's home is the earlier
-    pub home_earlier : (p : ℕ) (a : Task) → state.task p ≡ Some a → (id place : ℕ) → home_of a ≡ Some (id, place) → (u : ℕ) (b : Task) →
+    pub home_earlier : (p : ℕ) (a : Task) → state.task p ≡ Some a → (id index : ℕ) → home_of a ≡ Some (id, index) → (u : ℕ) (b : Task) →
         state.task u ≡ Some b →
         HasNurseryOf id (blocks_of b.frames.items) (waits_of b.task_state) → u < p
-    home_earlier p a e id place at u b f has = by_home a.home refl (c.follows p a e).home
+    home_earlier p a e id index at u b f has = by_home a.home refl (c.follows p a e).home
       where
         by_home : (h : Option Home) → a.home ≡ h → HasHome state c.interleaving.at c.numbers p h → u < p
         by_home None g h =
-            let none : home_of a ≡ None = ap (option_map (λ (x : Home). (x.nursery, x.place))) g in
+            let none : home_of a ≡ None = ap (option_map (λ (x : Home). (x.nursery, x.index))) g in
             absurd (not_both none at)
         by_home (Some home) g l =
-            let here : home_of a ≡ Some (home.nursery, home.place) = ap (option_map (λ (x : Home). (x.nursery, x.place))) g in
-            let same : home.nursery ≡ id = ap (λ (z : ℕ × ℕ). z.0) (one_of (home.nursery, home.place) (id, place) (sym here ∙ at)) in
+            let here : home_of a ≡ Some (home.nursery, home.index) = ap (option_map (λ (x : Home). (x.nursery, x.index))) g in
+            let same : home.nursery ≡ id = ap (λ (z : ℕ × ℕ). z.0) (one_of (home.nursery, home.index) (id, index) (sym here ∙ at)) in
             let n = finds state.world.book home.nursery _ l.runs in
             let one : l.parent ≡ u =
             one_nursery l.parent u l.starter b l.lives f home.nursery n.0 l.owned

@@ -53,7 +53,7 @@ pub shows_still : {k : Table} {job : Job} {input : List ℕ} {t m s : ℕ} {old 
     IsSettled k job input → GivesNamesOnce job → StartsInNurseries job →
     (c : Refines k job input t m None old) → (T : Turning k job input t m s old new c.numbers before after stop c.interleaving) → (u : ℕ) → u < m →
     u ≢ s → (task : Task) → old.task u ≡ Some task →
-    Follows new T.is.froms input t T.is.at (numbers_then c.numbers s m T.took.numbers_after) (leaving_by stop s) u task → (key : ℕ) →
+    Follows new T.is.cancelled_from input t T.is.at (numbers_then c.numbers s m T.took.numbers_after) (leaving_by stop s) u task → (key : ℕ) →
     scope_of task ≡ Some key → (kept : Tick) →
     Shows old.world.scopes key kept → Shows new.world.scopes key kept
 shows_still {k} {job} {input} {t} {m} {s} {old} {new} {before} {after} {stop} settled names starting c T u below differs task lives now key
@@ -69,7 +69,7 @@ shows_still {k} {job} {input} {t} {m} {s} {old} {new} {before} {after} {stop} se
 
     was : (l : Label) × (label_at old.world key ≡ Some l) × (first_label q.places ≡ Some l)
     was =
-        scope_label (label_at old.world) (event_at old.world) c.interleaving.froms old.world.scopes (scope_of task) key q.places T.code.sound.own is h.stack h.opened
+        scope_label (label_at old.world) (event_at old.world) c.interleaving.cancelled_from old.world.scopes (scope_of task) key q.places T.code.sound.own is h.stack h.opened
         (c.follows u task lives).stands.places
 
     after_stack : (st : Stack) × (stack_of new.world.scopes key ≡ Some st)
@@ -77,7 +77,7 @@ shows_still {k} {job} {input} {t} {m} {s} {old} {new} {before} {after} {stop} se
 
     then : (l : Label) × (label_at new.world key ≡ Some l) × (first_label (T.is.at u).places ≡ Some l)
     then =
-        scope_label (label_at new.world) (event_at new.world) T.is.froms new.world.scopes (scope_of task) key (T.is.at u).places T.code.sound_after.own is
+        scope_label (label_at new.world) (event_at new.world) T.is.cancelled_from new.world.scopes (scope_of task) key (T.is.at u).places T.code.sound_after.own is
         after_stack.0 after_stack.1 now.stands.places
 
     same : then.0 ≡ was.0

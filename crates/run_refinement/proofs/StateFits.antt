@@ -60,9 +60,9 @@ among_either k (x ∷ ks) ms (inr i) = by_rest (among_either k ks ms i)
 
 -- a key among those of own scopes is that of one of them
 record IsOwnAt (own : List Own) (key : ℕ) : Type 0 where
-  pub place : ℕ
+  pub index : ℕ
   pub scope : Own
-  pub at : slice_get own place ≡ Some scope
+  pub at : slice_get own index ≡ Some scope
   pub is : scope.id ≡ key
 
 own_last : (own : List Own) (o x : Own) (i : ℕ) → slice_get own i ≡ Some x → slice_get (o ∷ own) (suc i) ≡ Some x
@@ -73,8 +73,8 @@ own_among [] key i = absurd i
 own_among (o ∷ own) key i = by_part (among_either key (keys_in own) (o.id ∷ []) i) (λ j. own_among own key j)
   where
     by_part : IsAmong key (keys_in own) ⊎ IsAmong key (o.id ∷ []) → (IsAmong key (keys_in own) → IsOwnAt own key) → IsOwnAt (o ∷ own) key
-    by_part (inl j) rest = let r = rest j in record { place = suc r.place; scope = r.scope; at = r.at; is = r.is }
-    by_part (inr (inl e)) rest = record { place = 0; scope = o; at = refl; is = sym e }
+    by_part (inl j) rest = let r = rest j in record { index = suc r.index; scope = r.scope; at = r.at; is = r.is }
+    by_part (inr (inl e)) rest = record { index = 0; scope = o; at = refl; is = sym e }
     by_part (inr (inr e)) rest = absurd e
 
 key_among : (key : ℕ) (st : Stack) → IsKey key st → IsAmong key (keys_of st)
@@ -171,11 +171,11 @@ own_stack tree chain apart home own first opened n o e =
 
 -- the task opened it, and if a child of the nursery runs, one runs in it and in each scope of the task that encloses it
 pub record NurseryOwn (book : NurseryBook) (bs : List Block) (own : List Own) (waits : Option ℕ) (id : ℕ) (n : Nursery) : Type 0 where
-  pub place : ℕ
+  pub index : ℕ
   pub scope : Own
-  pub at : slice_get own place ≡ Some scope
+  pub at : slice_get own index ≡ Some scope
   pub is : n.scope ≡ scope.id
-  pub runs : AnyRuns n.children → (i : ℕ) → i ≤ place → RunsIn book bs i waits
+  pub runs : AnyRuns n.children → (i : ℕ) → i ≤ index → RunsIn book bs i waits
 
 -- of a nursery further in
 later_own : (book : NurseryBook) (b : Block) (bs : List Block) (o : Own) (own : List Own) (waits : Option ℕ) (id : ℕ) (n : Nursery) →
@@ -183,9 +183,9 @@ later_own : (book : NurseryBook) (b : Block) (bs : List Block) (o : Own) (own : 
     NurseryOwn book bs own waits id n →
     NurseryOwn book (b ∷ bs) (o ∷ own) waits id n
 later_own book b bs o own waits id n first later h =
-    record { place = suc h.place; scope = h.scope; at = h.at; is = h.is; runs = runs }
+    record { index = suc h.index; scope = h.scope; at = h.at; is = h.is; runs = runs }
   where
-    runs : AnyRuns n.children → (i : ℕ) → i ≤ suc h.place → RunsIn book (b ∷ bs) i waits
+    runs : AnyRuns n.children → (i : ℕ) → i ≤ suc h.index → RunsIn book (b ∷ bs) i waits
     runs r zero le = first (h.runs r 0 (omega arith))
     runs r (suc i) le = later i (h.runs r i (omega (arith, le)))
 
@@ -201,7 +201,7 @@ nursery_own labels book [] (o ∷ own) (Some key) id n h (inr w) e =
     let same : key ≡ id = (let f : Some key ≡ Some id = w in cc) in
     let at : nursery_at book key ≡ Some n = ap (nursery_at book) same ∙ e in
     record {
-      place = 0;
+      index = 0;
       scope = o;
       at = refl;
       is = (gives book key n _ at h.1).0.scope;
@@ -213,7 +213,7 @@ nursery_own labels book (a_scope ∷ bs) (o ∷ own) waits id n h has e =
     later_own book a_scope bs o own waits id n (λ r. r) (λ i r. r) (nursery_own labels book bs own waits id n h.2 has e)
 nursery_own labels book (a_nursery key ∷ bs) (o ∷ own) waits id n h (inl (inl is)) e =
     let at : nursery_at book key ≡ Some n = ap (nursery_at book) (sym is) ∙ e in
-    record { place = 0; scope = o; at = refl; is = (gives book key n _ at h.0).0.scope; runs = first at }
+    record { index = 0; scope = o; at = refl; is = (gives book key n _ at h.0).0.scope; runs = first at }
   where
     first : nursery_at book key ≡ Some n → AnyRuns n.children → (i : ℕ) → i ≤ 0 → RunsIn book (a_nursery key ∷ bs) i waits
     first at r zero le = inl (puts book key n (λ m. AnyRuns m.children) at r)
@@ -223,11 +223,11 @@ nursery_own labels book (a_nursery key ∷ bs) (o ∷ own) waits id n h (inl (in
 nursery_own labels book (a_nursery key ∷ bs) (o ∷ own) waits id n h (inr w) e =
     later_own book (a_nursery key) bs o own waits id n (λ r. inr r) (λ i r. r) (nursery_own labels book bs own waits id n h.2 (inr w) e)
 
-one_runs : (es : List End) (place : ℕ) → slice_get es place ≡ Some None → AnyRuns es
-one_runs [] place e = absurd (let f : None ≡ Some None = e in cc)
-one_runs (None ∷ es) place e = tt
+one_runs : (es : List End) (index : ℕ) → slice_get es index ≡ Some None → AnyRuns es
+one_runs [] index e = absurd (let f : None ≡ Some None = e in cc)
+one_runs (None ∷ es) index e = tt
 one_runs (Some x ∷ es) zero e = absurd (let f : Some (Some x) ≡ Some None = e in cc)
-one_runs (Some x ∷ es) (suc place) e = one_runs es place e
+one_runs (Some x ∷ es) (suc index) e = one_runs es index e
 
 -- a range has no more bytes than its buffer
 bytes_few : (buffer : List ℕ) (from to : ℕ) → length (slice_range buffer from to) ≤ length buffer
@@ -249,7 +249,7 @@ module _ (k : Table) (job : Job) (input : List ℕ) (t m : ℕ) (leaving : Optio
 
   opened_by : (s : ℕ) (task : Task) → state.task s ≡ Some task → (n : ℕ) (o : Own) → slice_get task.own.items n ≡ Some o →
       OpenedBy state o.id s
-  opened_by s task e n o at = record { task = task; lives = e; place = n; scope = o; own = at; is = refl }
+  opened_by s task e n o at = record { task = task; lives = e; index = n; scope = o; own = at; is = refl }
 
   -- a key in the stack of a task's scope that is none of the task's encloses its home
   beyond : (s : ℕ) (task : Task) (e : state.task s ≡ Some task) (n : ℕ) (o : Own) (at : slice_get task.own.items n ≡ Some o) (key : ℕ) →
@@ -263,9 +263,9 @@ module _ (k : Table) (job : Job) (input : List ℕ) (t m : ℕ) (leaving : Optio
       mine : IsAmong key (keys_in w.split.before) → ⊥
       mine j =
           let f = own_among w.split.before key j in
-          never (subst (λ (x : ℕ). OpenedBy state x s) f.is (opened_by s task e f.place f.scope
-          (subst (λ (os : List Own). slice_get os f.place ≡ Some f.scope) (sym w.split.is)
-          (got_first w.split.before (o ∷ w.split.following) f.place f.scope f.at))))
+          never (subst (λ (x : ℕ). OpenedBy state x s) f.is (opened_by s task e f.index f.scope
+          (subst (λ (os : List Own). slice_get os f.index ≡ Some f.scope) (sym w.split.is)
+          (got_first w.split.before (o ∷ w.split.following) f.index f.scope f.at))))
 
       by_part : IsAmong key (keys_in w.split.before) ⊎ IsAmong key (keys_of (outer_of state.world.scopes (home_scope task))) →
           IsAmong key (keys_of (outer_of state.world.scopes (home_scope task)))
@@ -323,8 +323,8 @@ module _ (k : Table) (job : Job) (input : List ℕ) (t m : ℕ) (leaving : Optio
             l = subst (λ (h : Option Home). HasHome state c.interleaving.at c.numbers u h) f (c.follows u task e).home
 
             nursery : (n : Nursery) × (nursery_at state.world.book home.nursery ≡ Some n)
-                × ((n.scope ≡ home.scope) × (slice_get n.children home.place ≡ Some None))
-            nursery = finds state.world.book home.nursery (λ n. (n.scope ≡ home.scope) × (slice_get n.children home.place ≡ Some None))
+                × ((n.scope ≡ home.scope) × (slice_get n.children home.index ≡ Some None))
+            nursery = finds state.world.book home.nursery (λ n. (n.scope ≡ home.scope) × (slice_get n.children home.index ≡ Some None))
                 l.runs
 
             own : NurseryOwn state.world.book (blocks_of l.starter.frames.items) l.starter.own.items (waits_of l.starter.task_state) home.nursery
@@ -334,8 +334,8 @@ module _ (k : Table) (job : Job) (input : List ℕ) (t m : ℕ) (leaving : Optio
                 (waits_of l.starter.task_state) home.nursery nursery.0
                 (c.follows l.parent l.starter l.lives).goes.opened l.owned nursery.1
 
-            w : OwnStack state.world.scopes (home_scope l.starter) l.starter.own.items own.scope own.place
-            w = stack_by l.parent l.starter l.lives own.place own.scope own.at
+            w : OwnStack state.world.scopes (home_scope l.starter) l.starter.own.items own.scope own.index
+            w = stack_by l.parent l.starter l.lives own.index own.scope own.at
 
             around : outer_of state.world.scopes (home_scope task) ≡ w.level ∷ w.following
             around =
@@ -348,19 +348,19 @@ module _ (k : Table) (job : Job) (input : List ℕ) (t m : ℕ) (leaving : Optio
 
             by_parent : (b : Bool) → (l.parent == s) ≡ b → RunsIn state.world.book (blocks_of mine.frames.items) i (waits_of mine.task_state)
             by_parent true g =
-                in_mine l.parent l.starter l.lives (eqb-true l.parent s g) own.place own.scope own.at there
-                (own.runs (one_runs nursery.0.children home.place nursery.2.1))
+                in_mine l.parent l.starter l.lives (eqb-true l.parent s g) own.index own.scope own.at there
+                (own.runs (one_runs nursery.0.children home.index nursery.2.1))
             by_parent false g =
                 let other : l.parent ≢ s = λ h. absurd (let x : true ≡ false = sym (eq-eqb l.parent s h) ∙ g in cc) in
                 further l.parent l.starter (let h = l.earlier in omega (arith, h, lt)) other l.lives
-                (beyond l.parent l.starter l.lives own.place own.scope own.at o.id there (of_another l.parent other))
+                (beyond l.parent l.starter l.lives own.index own.scope own.at o.id there (of_another l.parent other))
 
   -- so it is with each scope of another task inside one of a task's
   others_run : (s : ℕ) (mine : Task) → state.task s ≡ Some mine →
       OthersRun state.world.scopes state.world.book (blocks_of mine.frames.items) mine.own.items (waits_of mine.task_state)
   others_run s mine lives key st e others i o at within =
       runs_around s mine lives i o at (suc by.0) by.0 by.1.task (omega arith) differs by.1.lives
-      (beyond by.0 by.1.task by.1.lives by.1.place by.1.scope by.1.own o.id among (of_another s mine lives i o at by.0 differs))
+      (beyond by.0 by.1.task by.1.lives by.1.index by.1.scope by.1.own o.id among (of_another s mine lives i o at by.0 differs))
     where
       by : (u : ℕ) × OpenedBy state key u
       by = c.owned key (subst IsSome (sym e) refl)
@@ -378,11 +378,11 @@ module _ (k : Table) (job : Job) (input : List ℕ) (t m : ℕ) (leaving : Optio
       differs : by.0 ≢ s
       differs f =
           let same : by.1.task ≡ mine = one_of by.1.task mine (sym by.1.lives ∙ ap state.task f ∙ lives) in
-          no_other mine.own.items by.1.place by.1.scope (subst (λ (x : Task). slice_get x.own.items by.1.place ≡ Some by.1.scope) same
+          no_other mine.own.items by.1.index by.1.scope (subst (λ (x : Task). slice_get x.own.items by.1.index ≡ Some by.1.scope) same
           by.1.own) by.1.is others
 
-      w : OwnStack state.world.scopes (home_scope by.1.task) by.1.task.own.items by.1.scope by.1.place
-      w = stack_by by.0 by.1.task by.1.lives by.1.place by.1.scope by.1.own
+      w : OwnStack state.world.scopes (home_scope by.1.task) by.1.task.own.items by.1.scope by.1.index
+      w = stack_by by.0 by.1.task by.1.lives by.1.index by.1.scope by.1.own
 
       among : IsAmong o.id (keys_of (w.level ∷ w.following))
       among =

@@ -62,8 +62,8 @@ else_own {s = s} {old = old} {before = before} c T u task differs is o i got = b
         AreOthers o.id before.own.items
     by_own (inl a) = a
     by_own (inr x) =
-        let mine : OpenedBy old o.id s = record { task = before; lives = T.code.task; place = x.0; scope = x.1; own = x.2; is = x.3 } in
-        let theirs : OpenedBy old o.id u = record { task = task; lives = is; place = i; scope = o; own = got; is = refl } in
+        let mine : OpenedBy old o.id s = record { task = before; lives = T.code.task; index = x.0; scope = x.1; own = x.2; is = x.3 } in
+        let theirs : OpenedBy old o.id u = record { task = task; lives = is; index = i; scope = o; own = got; is = refl } in
         absurd (differs (sym (c.apart o.id s u mine theirs)))
 
 -- each of its scopes is open

@@ -19,7 +19,7 @@ use Rattle.job_meaning.specs.Rest.{Stopped, asleep, waiting_for, giving_up, awai
 use Rattle.nursery_book.specs.Book.{HasNursery}
 use Rattle.nursery_book.specs.declared.book.NurseryBook.{NurseryBook}
 use Rattle.turn_semantics.specs.Midway.{Place, stack_at}
-use Rattle.turn_semantics.specs.Steps.{froms_after}
+use Rattle.turn_semantics.specs.Steps.{cancelled_from_after}
 use Rattle.turn_semantics.specs.Names.{names_at, OwnNames}
 use Rattle.turn_semantics.specs.Placed.{PlacedAfter}
 use Rattle.turn_semantics.specs.Turned.{StopsAt, FallsAsleep as FallsAsleepFor}
@@ -33,7 +33,7 @@ use Rattle.task_machine.specs.declared.world.World.{World}
 use Rattle.task_machine.specs.Stacked.{AreAt, AwaitsEvent}
 use Rattle.task_machine.specs.Standing.{BodyEnds, now_for}
 use Rattle.task_machine.specs.States.{state_of}
-use Rattle.task_machine.specs.Stops.{Numbers, IsTaskState, IsTold, StopsAs}
+use Rattle.task_machine.specs.Stops.{Numbers, IsTaskState, IsReturned, StopsAs}
 use Rattle.task_machine.specs.Tasks.{scope_of}
 use Rattle.task_machine.specs.Waking.{wake_in, IsInRangeTaskState}
 use Rattle.task_machine.specs.Worlds.{label_at, event_at}
@@ -55,34 +55,34 @@ use Rattle.run_refinement.proofs.Turned.{state_turned}
 -- ---- what a stop says
 
 -- where the task stopped corresponds to its blocked state and to what was returned, now
-pub record IsToldNow (clock there : Clock) (numbers : Numbers) (book : NurseryBook) (part : Part) (stop : Stop) (task_state : TaskState)
+pub record IsReturnedNow (clock there : Clock) (numbers : Numbers) (book : NurseryBook) (part : Part) (stop : Stop) (task_state : TaskState)
     (t : ℕ)
-    (froms : Table) (ps : List Place) (s : Stopped) : Type 0 where
+    (cancelled_from : Table) (ps : List Place) (s : Stopped) : Type 0 where
   pub blocks_on : IsTaskState numbers book task_state s
-  pub told : IsTold clock part stop task_state s
-  pub now : StopsAt there t froms (Some s) ps
+  pub returned : IsReturned clock part stop task_state s
+  pub now : StopsAt there t cancelled_from (Some s) ps
 
 -- how the code stopped and how the definitions did, put together in one record
-told_now : (clock there : Clock) (numbers : Numbers) (book : NurseryBook) (part : Part) (stop : Stop) (task_state : TaskState) (t : ℕ)
-    (froms : Table) (ps : List Place) (o : Option Stopped) (s : Stopped) → o ≡ Some s →
-    StopsAs clock numbers book part stop task_state o → StopsAt there t froms o ps →
-    IsToldNow clock there numbers book part stop task_state t froms ps s
-told_now clock there numbers book part stop task_state t froms ps o s e stops now =
+returned_now : (clock there : Clock) (numbers : Numbers) (book : NurseryBook) (part : Part) (stop : Stop) (task_state : TaskState) (t : ℕ)
+    (cancelled_from : Table) (ps : List Place) (o : Option Stopped) (s : Stopped) → o ≡ Some s →
+    StopsAs clock numbers book part stop task_state o → StopsAt there t cancelled_from o ps →
+    IsReturnedNow clock there numbers book part stop task_state t cancelled_from ps s
+returned_now clock there numbers book part stop task_state t cancelled_from ps o s e stops now =
     let both = subst (λ (x : Option Stopped). StopsAs clock numbers book part stop task_state x) e stops in
-    record { blocks_on = both.0; told = both.1; now = subst (λ (x : Option Stopped). StopsAt there t froms x ps) e now }
+    record { blocks_on = both.0; returned = both.1; now = subst (λ (x : Option Stopped). StopsAt there t cancelled_from x ps) e now }
 
 -- a task that ended did so now
 pub ends_now : (clock there : Clock) (numbers : Numbers) (book : NurseryBook) (part : Part) (stop : Stop) (task_state : TaskState) (t : ℕ)
-    (froms : Table) (ps : List Place) (s : Stopped) →
-    IsToldNow clock there numbers book part stop task_state t froms ps s → (q : Started) → q.rest.stopped ≡ s → EndsAs stop t q
-ends_now clock there numbers book part (Ask request) task_state t froms ps s h q e = tt
-ends_now clock there numbers book part (Sleep due) task_state t froms ps s h q e = tt
-ends_now clock there numbers book part (WaitFor event) task_state t froms ps s h q e = tt
-ends_now clock there numbers book part (GiveUp due) task_state t froms ps s h q e = tt
-ends_now clock there numbers book part (Wait id) task_state t froms ps s h q e = tt
-ends_now clock there numbers book part (Ended exc) Over t froms ps (at_end u x) h q e =
-    e ∙ (ap (λ (v : ℕ). at_end v x) h.now ∙ ap (λ (y : Option Exc). at_end t y) (sym h.told))
-ends_now clock there numbers book part (Ended exc) _ t froms ps _ h q e = absurd h.told
+    (cancelled_from : Table) (ps : List Place) (s : Stopped) →
+    IsReturnedNow clock there numbers book part stop task_state t cancelled_from ps s → (q : Started) → q.rest.stopped ≡ s → EndsAs stop t q
+ends_now clock there numbers book part (Ask request) task_state t cancelled_from ps s h q e = tt
+ends_now clock there numbers book part (Sleep due) task_state t cancelled_from ps s h q e = tt
+ends_now clock there numbers book part (WaitFor event) task_state t cancelled_from ps s h q e = tt
+ends_now clock there numbers book part (GiveUp due) task_state t cancelled_from ps s h q e = tt
+ends_now clock there numbers book part (Wait id) task_state t cancelled_from ps s h q e = tt
+ends_now clock there numbers book part (Ended exc) Over t cancelled_from ps (at_end u x) h q e =
+    e ∙ (ap (λ (v : ℕ). at_end v x) h.now ∙ ap (λ (y : Option Exc). at_end t y) (sym h.returned))
+ends_now clock there numbers book part (Ended exc) _ t cancelled_from ps _ h q e = absurd h.returned
 
 -- a sleep that a task falls into ends later
 ends_later : (clock : Clock) (n t : ℕ) (seen_now : Bool) → FallsAsleepFor clock n seen_now → t < wakes_at clock n t
@@ -106,75 +106,75 @@ record WaitsIn (world : World) (task : Task) (task_state : TaskState) (s : Stopp
 
 -- and what the stop says is so
 says_now : (clock there : Clock) (numbers : Numbers) (book : NurseryBook) (part : Part) (stop : Stop) (task_state : TaskState) (t : ℕ)
-    (froms : Table) (ps : List Place) (s : Stopped) →
-    IsToldNow clock there numbers book part stop task_state t froms ps s → (world : World) (task : Task) → task.task_state ≡ task_state →
+    (cancelled_from : Table) (ps : List Place) (s : Stopped) →
+    IsReturnedNow clock there numbers book part stop task_state t cancelled_from ps s → (world : World) (task : Task) → task.task_state ≡ task_state →
     task.part ≡ part → world.tick ≡ t → world.clock ≡ clock → there ≡ clock →
-    AreAt (label_at world) (event_at world) froms (outer_of world.scopes (scope_of task)) ps → IsInRangeTaskState task_state → book ≡ world.book →
+    AreAt (label_at world) (event_at world) cancelled_from (outer_of world.scopes (scope_of task)) ps → IsInRangeTaskState task_state → book ≡ world.book →
     BodyEnds task_state book → WaitsIn world task task_state s ps → StopSays world task stop
-says_now clock there numbers book part (Ask request) (Asked kernel purpose) t froms ps s h world task e of tick ticking same at in_range held ends w =
-    record { purpose = purpose; task_state = e ∙ ap (λ (k : Kernel). Asked k purpose) (sym h.told.0); part = h.told.1 ∙ sym of }
-says_now clock there numbers book part (Ask request) _ t froms ps s h world task e of tick ticking same at in_range held ends w = absurd h.told
-says_now clock there numbers book part (Sleep due) (Asleep paced ticks since) t froms ps (asleep p n u) h world task e of tick ticking same
+says_now clock there numbers book part (Ask request) (Asked kernel purpose) t cancelled_from ps s h world task e of tick ticking same at in_range held ends w =
+    record { purpose = purpose; task_state = e ∙ ap (λ (k : Kernel). Asked k purpose) (sym h.returned.0); part = h.returned.1 ∙ sym of }
+says_now clock there numbers book part (Ask request) _ t cancelled_from ps s h world task e of tick ticking same at in_range held ends w = absurd h.returned
+says_now clock there numbers book part (Sleep due) (Asleep paced ticks since) t cancelled_from ps (asleep p n u) h world task e of tick ticking same
     at
     in_range held ends w =
     let is : since ≡ world.tick = h.blocks_on.2 ∙ (h.now.0 ∙ sym tick) in
-    let told : due ≡ wakes_at world.clock ticks world.tick =
-    h.told ∙ ap (λ (x : Clock). wakes_at x ticks since) (sym ticking) ∙ ap (wakes_at world.clock ticks) is in
-    let falls : FallsAsleepFor world.clock ticks (seen (stack_at froms ps).scopes t) =
-    subst (λ (x : Clock). FallsAsleepFor x ticks (seen (stack_at froms ps).scopes t)) (same ∙ sym ticking)
-    (subst (λ (v : ℕ). FallsAsleepFor there v (seen (stack_at froms ps).scopes t)) (sym h.blocks_on.1) h.now.1) in
+    let returned : due ≡ wakes_at world.clock ticks world.tick =
+    h.returned ∙ ap (λ (x : Clock). wakes_at x ticks since) (sym ticking) ∙ ap (wakes_at world.clock ticks) is in
+    let falls : FallsAsleepFor world.clock ticks (seen (stack_at cancelled_from ps).scopes t) =
+    subst (λ (x : Clock). FallsAsleepFor x ticks (seen (stack_at cancelled_from ps).scopes t)) (same ∙ sym ticking)
+    (subst (λ (v : ℕ). FallsAsleepFor there v (seen (stack_at cancelled_from ps).scopes t)) (sym h.blocks_on.1) h.now.1) in
     record {
       paced = paced;
       ticks = ticks;
       task_state = e ∙ ap (λ (v : ℕ). Asleep paced ticks v) is;
       short = in_range;
-      due_is = told;
-      later = subst (λ (v : ℕ). world.tick < v) (sym told) (ends_later world.clock ticks world.tick (seen (stack_at froms ps).scopes t) falls);
+      due_is = returned;
+      later = subst (λ (v : ℕ). world.tick < v) (sym returned) (ends_later world.clock ticks world.tick (seen (stack_at cancelled_from ps).scopes t) falls);
       unseen =
-          sees_none world.clock ticks (seen (stack_at froms ps).scopes t) (seen (outer_of world.scopes (scope_of task)) world.tick)
+          sees_none world.clock ticks (seen (stack_at cancelled_from ps).scopes t) (seen (outer_of world.scopes (scope_of task)) world.tick)
           (ap (λ (v : ℕ). seen (outer_of world.scopes (scope_of task)) v) tick
-          ∙ seen_at (label_at world) (event_at world) froms (outer_of world.scopes (scope_of task)) ps t at) falls;
+          ∙ seen_at (label_at world) (event_at world) cancelled_from (outer_of world.scopes (scope_of task)) ps t at) falls;
     }
-says_now clock there numbers book part (Sleep due) (Asleep paced ticks since) t froms ps _ h world task e of tick ticking same at in_range held ends w =
+says_now clock there numbers book part (Sleep due) (Asleep paced ticks since) t cancelled_from ps _ h world task e of tick ticking same at in_range held ends w =
     absurd h.blocks_on
-says_now clock there numbers book part (Sleep due) _ t froms ps s h world task e of tick ticking same at in_range held ends w = absurd h.told
-says_now clock there numbers book part (WaitFor event) (Waiting key since) t froms ps (waiting_for name u) h world task e of tick ticking same at
+says_now clock there numbers book part (Sleep due) _ t cancelled_from ps s h world task e of tick ticking same at in_range held ends w = absurd h.returned
+says_now clock there numbers book part (WaitFor event) (Waiting key since) t cancelled_from ps (waiting_for name u) h world task e of tick ticking same at
     in_range held ends w =
     let is : since ≡ world.tick = h.blocks_on ∙ (h.now ∙ sym tick) in
     let set =
-    (awaited_set (label_at world) (event_at world) froms (outer_of world.scopes (scope_of task)) ps key name world.clock since w.own at w.event.0
+    (awaited_set (label_at world) (event_at world) cancelled_from (outer_of world.scopes (scope_of task)) ps key name world.clock since w.own at w.event.0
     w.event.1 w.some).1 in
     record {
-      task_state = e ∙ (ap (λ (n : ℕ). Waiting n since) (sym h.told) ∙ ap (λ (v : ℕ). Waiting event v) is);
+      task_state = e ∙ (ap (λ (n : ℕ). Waiting n since) (sym h.returned) ∙ ap (λ (v : ℕ). Waiting event v) is);
       set = set.0;
-      is_event = ap (event_at world) h.told ∙ set.1;
+      is_event = ap (event_at world) h.returned ∙ set.1;
     }
-says_now clock there numbers book part (WaitFor event) (Waiting key since) t froms ps _ h world task e of tick ticking same at in_range held
+says_now clock there numbers book part (WaitFor event) (Waiting key since) t cancelled_from ps _ h world task e of tick ticking same at in_range held
     ends w =
     absurd h.blocks_on
-says_now clock there numbers book part (WaitFor event) _ t froms ps s h world task e of tick ticking same at in_range held ends w = absurd h.told
-says_now clock there numbers book part (GiveUp due) (GivingUp since) t froms ps (giving_up u) h world task e of tick ticking same at
+says_now clock there numbers book part (WaitFor event) _ t cancelled_from ps s h world task e of tick ticking same at in_range held ends w = absurd h.returned
+says_now clock there numbers book part (GiveUp due) (GivingUp since) t cancelled_from ps (giving_up u) h world task e of tick ticking same at
     in_range held ends w =
     let is : since ≡ world.tick = h.blocks_on ∙ (h.now ∙ sym tick) in
-    record { task_state = e ∙ ap (λ (v : ℕ). GivingUp v) is; due_is = h.told ∙ ap suc is }
-says_now clock there numbers book part (GiveUp due) (GivingUp since) t froms ps _ h world task e of tick ticking same at in_range held ends w =
+    record { task_state = e ∙ ap (λ (v : ℕ). GivingUp v) is; due_is = h.returned ∙ ap suc is }
+says_now clock there numbers book part (GiveUp due) (GivingUp since) t cancelled_from ps _ h world task e of tick ticking same at in_range held ends w =
     absurd h.blocks_on
-says_now clock there numbers book part (GiveUp due) _ t froms ps s h world task e of tick ticking same at in_range held ends w = absurd h.told
-says_now clock there numbers book part (Wait id) (Awaits key since) t froms ps (awaiting children u x) h world task e of tick ticking same
+says_now clock there numbers book part (GiveUp due) _ t cancelled_from ps s h world task e of tick ticking same at in_range held ends w = absurd h.returned
+says_now clock there numbers book part (Wait id) (Awaits key since) t cancelled_from ps (awaiting children u x) h world task e of tick ticking same
     at
     in_range held ends w =
     let is : since ≡ world.tick = h.blocks_on.1 ∙ (h.now ∙ sym tick) in
     record {
-      task_state = e ∙ (ap (λ (n : ℕ). Awaits n since) (sym h.told) ∙ ap (λ (v : ℕ). Awaits id v) is);
+      task_state = e ∙ (ap (λ (n : ℕ). Awaits n since) (sym h.returned) ∙ ap (λ (v : ℕ). Awaits id v) is);
       last =
           subst (λ (v : ℕ). HasNursery world.book id (λ n. n.last ≡ v)) is
           (subst (λ (b : NurseryBook). HasNursery b id (λ n. n.last ≡ since)) held
-          (subst (λ (n : ℕ). HasNursery book n (λ m. m.last ≡ since)) (sym h.told) ends));
+          (subst (λ (n : ℕ). HasNursery book n (λ m. m.last ≡ since)) (sym h.returned) ends));
     }
-says_now clock there numbers book part (Wait id) (Awaits key since) t froms ps _ h world task e of tick ticking same at in_range held ends w =
+says_now clock there numbers book part (Wait id) (Awaits key since) t cancelled_from ps _ h world task e of tick ticking same at in_range held ends w =
     absurd h.blocks_on
-says_now clock there numbers book part (Wait id) _ t froms ps s h world task e of tick ticking same at in_range held ends w = absurd h.told
-says_now clock there numbers book part (Ended exc) task_state t froms ps s h world task e of tick ticking same at in_range held ends w = tt
+says_now clock there numbers book part (Wait id) _ t cancelled_from ps s h world task e of tick ticking same at in_range held ends w = absurd h.returned
+says_now clock there numbers book part (Ended exc) task_state t cancelled_from ps s h world task e of tick ticking same at in_range held ends w = tt
 
 -- ---- a turn
 
@@ -183,7 +183,7 @@ pub other_follows : (k : Table) (job : Job) (input : List ℕ) (t m s : ℕ) (ol
     IsSettled k job input → GivesNamesOnce job →
     StartsInNurseries job → (c : Refines k job input t m None old) →
     (T : Turning k job input t m s old new c.numbers before after stop c.interleaving) → (u : ℕ) → u < m → u ≢ s →
-    (task : Task) → old.task u ≡ Some task → Follows new T.is.froms input t T.is.at (numbers_then c.numbers s m T.took.numbers_after)
+    (task : Task) → old.task u ≡ Some task → Follows new T.is.cancelled_from input t T.is.at (numbers_then c.numbers s m T.took.numbers_after)
     (leaving_by stop s) u task
 other_follows k job input t m s old new before after stop settled names starting c T u below differs task is =
     others_follow k job input t m s old new before after stop c T (acted c T settled names starting) u below differs task is
@@ -192,7 +192,7 @@ module _ (k : Table) (job : Job) (input : List ℕ) (t m s : ℕ) (old new : Run
     (settled : IsSettled k job input)
     (names : GivesNamesOnce job) (starting : StartsInNurseries job) (c : Refines k job input t m None old)
     (x : TakesTurn t m s old new before after wake stop)
-    (may : MayWake c.interleaving.froms c.interleaving.tasks (record { at = t; own = (now_for wake (state_of before old.world)).own })
+    (may : MayWake c.interleaving.cancelled_from c.interleaving.tasks (record { at = t; own = (now_for wake (state_of before old.world)).own })
     (c.interleaving.at s) (wake_in old.world.book before.task_state wake) (c.interleaving.at s).rest.stopped)
   where
     -- what the code says of it is all that is known of a turn
@@ -210,20 +210,20 @@ module _ (k : Table) (job : Job) (input : List ℕ) (t m s : ℕ) (old new : Run
         started = turn.took.started ∙ ap (λ (ts : List Task). ts ++ turn.took.tasks) x.none_left
 
     module _ (T : Turning k job input t m s old new c.numbers before after stop c.interleaving) where
-      told : IsToldNow old.world.clock (c.interleaving.at s).here.clock T.took.numbers_after new.world.book before.part stop
-          after.task_state t (froms_after c.interleaving.froms T.move.made)
+      returned : IsReturnedNow old.world.clock (c.interleaving.at s).here.clock T.took.numbers_after new.world.book before.part stop
+          after.task_state t (cancelled_from_after c.interleaving.cancelled_from T.move.made)
           T.move.places T.stopped
-      told =
-          told_now old.world.clock (c.interleaving.at s).here.clock T.took.numbers_after new.world.book before.part stop after.task_state t
-          (froms_after c.interleaving.froms T.move.made) T.move.places
+      returned =
+          returned_now old.world.clock (c.interleaving.at s).here.clock T.took.numbers_after new.world.book before.part stop after.task_state t
+          (cancelled_from_after c.interleaving.cancelled_from T.move.made) T.move.places
           T.move.stopped T.stopped T.stops T.took.moves.1
           T.promise.stops
 
       now : EndsAs stop t (T.is.at s)
       now =
           ends_now old.world.clock (c.interleaving.at s).here.clock T.took.numbers_after new.world.book before.part stop after.task_state t
-          (froms_after c.interleaving.froms T.move.made) T.move.places
-          T.stopped told (T.is.at s)
+          (cancelled_from_after c.interleaving.cancelled_from T.move.made) T.move.places
+          T.stopped returned (T.is.at s)
           (ap (λ (q : Started). q.rest.stopped) T.of_task)
 
       step : StoppedIn k job input t (m + length T.move.begun) s stop new
@@ -251,8 +251,8 @@ module _ (k : Table) (job : Job) (input : List ℕ) (t m s : ℕ) (old new : Run
       says : StopSays new.world after stop
       says =
           says_now old.world.clock (c.interleaving.at s).here.clock T.took.numbers_after new.world.book before.part stop after.task_state t
-          (froms_after c.interleaving.froms T.move.made) T.move.places
-          T.stopped told new.world after refl
+          (cancelled_from_after c.interleaving.cancelled_from T.move.made) T.move.places
+          T.stopped returned new.world after refl
           (ap (λ (z : Task). z.part) T.code.stays) (ap (λ (w : World). w.tick) T.code.world ∙ c.tick)
           (ap (λ (w : World). w.clock) T.code.world) (sym (ap (λ (h : Here). h.clock) (c.follows s before T.code.task).here)) T.took.places
           T.code.in_range refl T.took.last waits

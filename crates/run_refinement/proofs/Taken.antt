@@ -62,15 +62,15 @@ tasks_long {old = old} {new = new} {after = after} T =
 
 -- ---- a turn of the definitions, at the moment, the point and the frames of a task
 
-took_at : (v s u : State) (stop : Stop) (froms : Table) (numbers : Numbers) (n : ℕ) (w : wakes.Wake) (stopped : rest.Stopped)
+took_at : (v s u : State) (stop : Stop) (cancelled_from : Table) (numbers : Numbers) (n : ℕ) (w : wakes.Wake) (stopped : rest.Stopped)
     (ps : List Place) (count : ℕ) (was now : Now) (here : Here) (fs : List rest.Frame) → was ≡ now → here_at s ≡ here →
     frames_of numbers s.frames ≡ fs →
-    TookTo v u stop froms numbers (turn_from n froms was (here_at s) w stopped (frames_of numbers s.frames) ps count) →
-    TookTo v u stop froms numbers (turn_from n froms now here w stopped fs ps count)
-took_at v s u stop froms numbers n w stopped ps count was now here fs moment at held h =
-    subst (λ (gs : List rest.Frame). TookTo v u stop froms numbers (turn_from n froms now here w stopped gs ps count)) held
-    (subst (λ (x : Here). TookTo v u stop froms numbers (turn_from n froms now x w stopped (frames_of numbers s.frames) ps count)) at
-    (subst (λ (x : Now). TookTo v u stop froms numbers (turn_from n froms x (here_at s) w stopped (frames_of numbers s.frames) ps count))
+    TookTo v u stop cancelled_from numbers (turn_from n cancelled_from was (here_at s) w stopped (frames_of numbers s.frames) ps count) →
+    TookTo v u stop cancelled_from numbers (turn_from n cancelled_from now here w stopped fs ps count)
+took_at v s u stop cancelled_from numbers n w stopped ps count was now here fs moment at held h =
+    subst (λ (gs : List rest.Frame). TookTo v u stop cancelled_from numbers (turn_from n cancelled_from now here w stopped gs ps count)) held
+    (subst (λ (x : Here). TookTo v u stop cancelled_from numbers (turn_from n cancelled_from now x w stopped (frames_of numbers s.frames) ps count)) at
+    (subst (λ (x : Now). TookTo v u stop cancelled_from numbers (turn_from n cancelled_from x (here_at s) w stopped (frames_of numbers s.frames) ps count))
     moment
     h))
 
@@ -86,7 +86,7 @@ now_at_tick Settled s t e = ap (λ (m : ℕ). only_at m) e
 pub turning : (k : Table) (job : Job) (input : List ℕ) (t m s : ℕ) (old new : RunState) (before after : Task) (wake : Wake) (stop : Stop) →
     IsSettled k job input → GivesNamesOnce job → StartsInNurseries job → (c : Refines k job input t m None old) →
     TakesTurn t m s old new before after wake stop → Fits (state_of before old.world) (waits_of before.task_state) →
-    MayWake c.interleaving.froms c.interleaving.tasks (record { at = t; own = (now_for wake (state_of before old.world)).own })
+    MayWake c.interleaving.cancelled_from c.interleaving.tasks (record { at = t; own = (now_for wake (state_of before old.world)).own })
     (c.interleaving.at s) (wake_in old.world.book before.task_state wake)
     (c.interleaving.at s).rest.stopped →
     Turning k job input t m s old new c.numbers before after stop c.interleaving
@@ -105,14 +105,14 @@ turning k job input t m s old new before after wake stop settled names starting 
       stops = at_stop.1;
       took = took;
       promise = promise;
-      names = turn_stays_new turn.steps now q.here c.interleaving.froms w q.rest q.places q.count can
+      names = turn_stays_new turn.steps now q.here c.interleaving.cancelled_from w q.rest q.places q.count can
           (subst (λ (gs : List rest.Frame). NewIn gs (outer_places (Some q.rest.stopped) q.places)) f.frames f.stands.new) f.stands.own;
       fresh = fresh_after k job input t m s now.own c.interleaving o at_stop.0 settled names starting less went;
-      inputs = on_at q.here.input o.begun (turn_on_input turn.steps c.interleaving.froms now q.here w q.rest.stopped q.rest.frames q.places
+      inputs = on_at q.here.input o.begun (turn_on_input turn.steps c.interleaving.cancelled_from now q.here w q.rest.stopped q.rest.frames q.places
           q.count);
       is = went.is;
       counts = went.counts;
-      froms = went.froms;
+      cancelled_from = went.cancelled_from;
       of_task = went.of_task;
       of_child = went.of_child;
       of_other = went.of_other;
@@ -125,7 +125,7 @@ turning k job input t m s old new before after wake stop settled names starting 
     q : Started
     q = c.interleaving.at s
 
-    f : Follows old c.interleaving.froms input t c.interleaving.at c.numbers None s before
+    f : Follows old c.interleaving.cancelled_from input t c.interleaving.at c.numbers None s before
     f = c.follows s before code.task
 
     less : s < m
@@ -138,26 +138,26 @@ turning k job input t m s old new before after wake stop settled names starting 
     w = wake_in old.world.book before.task_state wake
 
     can : CanWake w q.rest.stopped
-    can = may_can c.interleaving.froms c.interleaving.tasks now q w q.rest.stopped may
+    can = may_can c.interleaving.cancelled_from c.interleaving.tasks now q w q.rest.stopped may
 
-    turn : TookTurn (state_of before old.world) (state_of after new.world) wake stop c.interleaving.froms (c.numbers s) q.rest.stopped q.places q.count
-    turn = code.turn c.interleaving.froms (c.numbers s) q.places q.count q.rest.stopped f.task_state f.stands
+    turn : TookTurn (state_of before old.world) (state_of after new.world) wake stop c.interleaving.cancelled_from (c.numbers s) q.rest.stopped q.places q.count
+    turn = code.turn c.interleaving.cancelled_from (c.numbers s) q.places q.count q.rest.stopped f.task_state f.stands
 
     o : Move
-    o = turn_from turn.steps c.interleaving.froms now q.here w q.rest.stopped q.rest.frames q.places q.count
+    o = turn_from turn.steps c.interleaving.cancelled_from now q.here w q.rest.stopped q.rest.frames q.places q.count
 
-    took : TookTo (woken_at wake (state_of before old.world)) (state_of after new.world) stop c.interleaving.froms (c.numbers s) o
+    took : TookTo (woken_at wake (state_of before old.world)) (state_of after new.world) stop c.interleaving.cancelled_from (c.numbers s) o
     took =
-        took_at (woken_at wake (state_of before old.world)) (state_of before old.world) (state_of after new.world) stop c.interleaving.froms
+        took_at (woken_at wake (state_of before old.world)) (state_of before old.world) (state_of after new.world) stop c.interleaving.cancelled_from
         (c.numbers s) turn.steps w q.rest.stopped q.places q.count (now_for wake (state_of before old.world)) now q.here q.rest.frames
         (now_at_tick wake (state_of before old.world) t c.tick) f.here f.frames turn.took
 
     at_stop : (x : rest.Stopped) × (o.stopped ≡ Some x) × IsTaskState took.numbers_after new.world.book after.task_state x
     at_stop = stop_of old.world.clock took.numbers_after new.world.book before.part stop after.task_state o took.moves
 
-    promise : TurnsOver q.stop now q.here c.interleaving.froms w q.rest q.places q.count o
+    promise : TurnsOver q.stop now q.here c.interleaving.cancelled_from w q.rest q.places q.count o
     promise =
-        turned_from turn.steps q.stop now q.here c.interleaving.froms w q.rest q.places q.count can
+        turned_from turn.steps q.stop now q.here c.interleaving.cancelled_from w q.rest q.places q.count can
         (subst (λ (gs : List rest.Frame). PlacedStop q.rest.stopped gs q.places) f.frames f.stands.placed)
 
     went : WentOn k job input t m s now.own c.interleaving o at_stop.0

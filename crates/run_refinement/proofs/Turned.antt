@@ -11,7 +11,7 @@ use Rattle.job_tree.specs.Starting.{StartsInNurseries}
 use Rattle.job_tree.specs.Tree.{Tree as Job}
 use Rattle.job_meaning.specs.Follow.{IsSettled}
 use Rattle.job_meaning.specs.Log.{Table}
-use Rattle.job_meaning.specs.Meaning.{From, froms_by}
+use Rattle.job_meaning.specs.Meaning.{From, cancelled_from_by}
 use Rattle.job_meaning.specs.Moments.{tick_of, a_round_after}
 use Rattle.job_meaning.specs.declared.clock.Clock.{Clock}
 use Rattle.job_meaning.specs.Walk.{Here}
@@ -31,11 +31,11 @@ use Rattle.interleavings.specs.Going.{root_result, child_from}
 use Rattle.interleavings.specs.Rows.{entered_made}
 use Rattle.interleavings.proofs.Running.{runs_keep_invariant}
 use Rattle.interleavings.proofs.Turning.{old_child, later_child}
-use Rattle.run_refinement.specs.RunState.{RunState, Gone, Follows, HasEnded, AreStarted, OpenedBy, Refines}
+use Rattle.run_refinement.specs.RunState.{RunState, EndedTask, Follows, HasEnded, AreStarted, OpenedBy, Refines}
 use Rattle.run_refinement.specs.Turn.{IsEntered, numbers_then, leaving_by}
 use Rattle.run_refinement.specs.Turning.{Turning}
 use Rattle.run_refinement.proofs.ActsKeep.{not_both, same_or}
-use Rattle.run_refinement.proofs.ActsFroms.{unmoved}
+use Rattle.run_refinement.proofs.ActsCancelledFrom.{unmoved}
 use Rattle.run_refinement.proofs.ActsEvents.{events_acts, soon_acts}
 use Rattle.run_refinement.proofs.ActsOthers.{labelled_acts}
 use Rattle.run_refinement.proofs.ActsStay.{Stays, stays, IsElse, else_acts}
@@ -51,14 +51,14 @@ use Rattle.task_machine.proofs.Stacked.{one_of}
 use Rattle.run_refinement.proofs.Found.{below_length, past_length, nth}
 use Rattle.run_refinement.proofs.Taken.{tasks_long}
 
--- ---- froms
+-- ---- moments of cancellation
 
--- two tables with the same froms of these labels
-pub froms_same : (f g : Table) (ls : List Label) → ((l : Label) → IsAmong l ls → g l ≡ f l) → froms_by g ls ≡ froms_by f ls
-froms_same f g [] same = refl
-froms_same f g (l ∷ ls) same =
-    ap (λ (d : Option ℕ). record { label = l; seen = d } ∷ froms_by g ls) (same l (inl refl))
-    ∙ ap (λ (fs : List From). record { label = l; seen = f l } ∷ fs) (froms_same f g ls (λ x i. same x (inr i)))
+-- two tables with the same moments of cancellation of these labels
+pub cancelled_from_same : (f g : Table) (ls : List Label) → ((l : Label) → IsAmong l ls → g l ≡ f l) → cancelled_from_by g ls ≡ cancelled_from_by f ls
+cancelled_from_same f g [] same = refl
+cancelled_from_same f g (l ∷ ls) same =
+    ap (λ (d : Option ℕ). record { label = l; seen = d } ∷ cancelled_from_by g ls) (same l (inl refl))
+    ∙ ap (λ (fs : List From). record { label = l; seen = f l } ∷ fs) (cancelled_from_same f g ls (λ x i. same x (inr i)))
 
 -- ---- what was started
 
@@ -125,8 +125,8 @@ module _ (k : Table) (job : Job) (input : List ℕ) (t m s : ℕ) (old new : Run
   abbrev q : Started
   q = c.interleaving.at s
 
-  on : RunInvariant k c.interleaving.froms (root_result k job input) c.interleaving.tasks
-  on = (runs_keep_invariant k job input settled names starting c.interleaving.froms t m c.interleaving.tasks c.interleaving.reached).0
+  on : RunInvariant k c.interleaving.cancelled_from (root_result k job input) c.interleaving.tasks
+  on = (runs_keep_invariant k job input settled names starting c.interleaving.cancelled_from t m c.interleaving.tasks c.interleaving.reached).0
 
   clock : new.world.clock ≡ old.world.clock
   clock = ap (λ (w : World). w.clock) T.code.world
@@ -160,23 +160,23 @@ module _ (k : Table) (job : Job) (input : List ℕ) (t m s : ℕ) (old new : Run
       (opened_entered c key x.0 l x.1 e) i in
       not_both ended (ap old.task (sym same) ∙ x.1.lives)
 
-  ended_other : (p : ℕ) → p < m → p ≢ s → old.task p ≡ None → (g : Gone) × (new.gone p ≡ Some g) × HasEnded old.world.clock T.is.froms input
+  ended_other : (p : ℕ) → p < m → p ≢ s → old.task p ≡ None → (g : EndedTask) × (new.ended_task p ≡ Some g) × HasEnded old.world.clock T.is.cancelled_from input
       t (T.is.at p) g
   ended_other p below differs e = (
     g.0,
-    T.code.gone_after p ∙ g.1,
-    subst (λ (x : Started). HasEnded old.world.clock T.is.froms input t x g.0)
+    T.code.ended_task_after p ∙ g.1,
+    subst (λ (x : Started). HasEnded old.world.clock T.is.cancelled_from input t x g.0)
         (sym (T.of_other p below differs)) still,
   )
     where
-      g : (g : Gone) × (old.gone p ≡ Some g) × HasEnded old.world.clock c.interleaving.froms input t (c.interleaving.at p) g
+      g : (g : EndedTask) × (old.ended_task p ≡ Some g) × HasEnded old.world.clock c.interleaving.cancelled_from input t (c.interleaving.at p) g
       g = c.ended p below e
 
-      same_from : (l : Label) → IsAmong l (entered_made (c.interleaving.at p).made) → T.is.froms l ≡ c.interleaving.froms l
-      same_from l i = ap (λ (f : Table). f l) T.froms
-          ∙ (unmoved (IsEntered c.interleaving.at) c.interleaving.froms l T.took.acts (none_has p below e l i) (p, i) T.fresh).0
+      same_from : (l : Label) → IsAmong l (entered_made (c.interleaving.at p).made) → T.is.cancelled_from l ≡ c.interleaving.cancelled_from l
+      same_from l i = ap (λ (f : Table). f l) T.cancelled_from
+          ∙ (unmoved (IsEntered c.interleaving.at) c.interleaving.cancelled_from l T.took.acts (none_has p below e l i) (p, i) T.fresh).0
 
-      still : HasEnded old.world.clock T.is.froms input t (c.interleaving.at p) g.0
+      still : HasEnded old.world.clock T.is.cancelled_from input t (c.interleaving.at p) g.0
       still =
           record {
             label = g.2.label;
@@ -185,14 +185,14 @@ module _ (k : Table) (job : Job) (input : List ℕ) (t m s : ℕ) (old new : Run
             tick = g.2.tick;
             before = g.2.before;
             notes = g.2.notes;
-            froms = g.2.froms ∙ sym (froms_same c.interleaving.froms T.is.froms (entered_made (c.interleaving.at p).made) same_from);
+            cancelled_from = g.2.cancelled_from ∙ sym (cancelled_from_same c.interleaving.cancelled_from T.is.cancelled_from (entered_made (c.interleaving.at p).made) same_from);
           }
 
-  ended_after : (p : ℕ) → p < m + length T.move.begun → new.task p ≡ None → (g : Gone) × (new.gone p ≡ Some g)
-      × HasEnded old.world.clock T.is.froms input t (T.is.at p) g
+  ended_after : (p : ℕ) → p < m + length T.move.begun → new.task p ≡ None → (g : EndedTask) × (new.ended_task p ≡ Some g)
+      × HasEnded old.world.clock T.is.cancelled_from input t (T.is.at p) g
   ended_after p less e = by_whose (whose p)
     where
-      by_whose : Whose p → (g : Gone) × (new.gone p ≡ Some g) × HasEnded old.world.clock T.is.froms input t (T.is.at p) g
+      by_whose : Whose p → (g : EndedTask) × (new.ended_task p ≡ Some g) × HasEnded old.world.clock T.is.cancelled_from input t (T.is.at p) g
       by_whose (inl is) = absurd (not_both e (ap new.task is ∙ T.code.task_after))
       by_whose (inr (inl o)) = ended_other p o.0 o.1 (sym (T.code.other_after p o.0 o.1) ∙ e)
       by_whose (inr (inr i)) =
@@ -207,15 +207,15 @@ module _ (k : Table) (job : Job) (input : List ℕ) (t m s : ℕ) (old new : Run
   differs_by : (key p : ℕ) → AreOthers key before.own.items → OpenedBy old key p → p ≢ s
   differs_by key p others o e =
       let is : o.task ≡ before = one_of o.task before (sym o.lives ∙ (ap old.task e ∙ T.code.task)) in
-      all_got (λ (x : Own). x.id ≢ key) before.own.items o.place o.scope others
-      (sym (ap (λ (z : Task). slice_get z.own.items o.place) is) ∙ o.own) o.is
+      all_got (λ (x : Own). x.id ≢ key) before.own.items o.index o.scope others
+      (sym (ap (λ (z : Task). slice_get z.own.items o.index) is) ∙ o.own) o.is
 
   opened_on : (key p : ℕ) → p ≢ s → OpenedBy old key p → OpenedBy new key p
   opened_on key p differs o =
       record {
         task = o.task;
         lives = T.code.other_after p (below_of c p o.task o.lives) differs ∙ o.lives;
-        place = o.place;
+        index = o.index;
         scope = o.scope;
         own = o.own;
         is = o.is;
@@ -226,7 +226,7 @@ module _ (k : Table) (job : Job) (input : List ℕ) (t m s : ℕ) (old new : Run
       record {
         task = o.task;
         lives = sym (T.code.other_after p below differs) ∙ o.lives;
-        place = o.place;
+        index = o.index;
         scope = o.scope;
         own = o.own;
         is =
@@ -242,22 +242,22 @@ module _ (k : Table) (job : Job) (input : List ℕ) (t m s : ℕ) (old new : Run
           let was : IsElse key (scoping_of before old.world) = else_acts T.took.acts (opens, others) in
           let x = c.owned key was.0 in
           (x.0, opened_on key x.0 (differs_by key x.0 was.1 x.1) x.1)
-      by_own (inr h) = (s, record { task = after; lives = T.code.task_after; place = h.0; scope = h.1; own = h.2; is = h.3 })
+      by_own (inr h) = (s, record { task = after; lives = T.code.task_after; index = h.0; scope = h.1; own = h.2; is = h.3 })
 
   -- no scope is the task's and that of another
   not_both_own : (key u : ℕ) → u < m → u ≢ s → OpenedBy new key s → OpenedBy new key u → ⊥
   not_both_own key u below differs mine theirs =
-      all_got (λ (x : Own). x.id ≢ key) after.own.items mine.place mine.scope stay.others
-      (sym (ap (λ (z : Task). slice_get z.own.items mine.place) is) ∙ mine.own) mine.is
+      all_got (λ (x : Own). x.id ≢ key) after.own.items mine.index mine.scope stay.others
+      (sym (ap (λ (z : Task). slice_get z.own.items mine.index) is) ∙ mine.own) mine.is
     where
       o : OpenedBy old key u
       o = opened_back key u below differs theirs
 
       others : AreOthers key before.own.items
-      others = subst (λ (i : ℕ). AreOthers i before.own.items) o.is (else_own c T u o.task differs o.lives o.scope o.place o.own)
+      others = subst (λ (i : ℕ). AreOthers i before.own.items) o.is (else_own c T u o.task differs o.lives o.scope o.index o.own)
 
       opens : IsOpen old.world.scopes key
-      opens = subst (IsOpen old.world.scopes) o.is (own_open c u o.task o.lives o.scope o.place o.own)
+      opens = subst (IsOpen old.world.scopes) o.is (own_open c u o.task o.lives o.scope o.index o.own)
 
       st : (x : Stack) × (stack_of old.world.scopes key ≡ Some x)
       st = open_stack old.world.scopes key opens
@@ -274,7 +274,7 @@ module _ (k : Table) (job : Job) (input : List ℕ) (t m s : ℕ) (old new : Run
       let b = begun_at old.world.clock (a_round_after old.world.clock old.world.tick) T.took.numbers_after new.world.book
       (blocks_of after.frames.items) (waits_of after.task_state) T.took.tasks T.move.begun
       T.took.begun i o.task (sym (T.child_after i) ∙ o.lives) in
-      not_both refl (sym (ap (λ (os : List Own). slice_get os o.place) b.2.own) ∙ o.own)
+      not_both refl (sym (ap (λ (os : List Own). slice_get os o.index) b.2.own) ∙ o.own)
 
   apart_after : (key p u : ℕ) → OpenedBy new key p → OpenedBy new key u → p ≡ u
   apart_after key p u a b = by_both (whose p) (whose u)
@@ -363,21 +363,21 @@ module _ (k : Table) (job : Job) (input : List ℕ) (t m s : ℕ) (old new : Run
   -- ---- all of it
 
   module _ (others : (u : ℕ) → u < m → u ≢ s → (task : Task) → old.task u ≡ Some task →
-      Follows new T.is.froms input t T.is.at numbers (leaving_by stop s) u task) where
+      Follows new T.is.cancelled_from input t T.is.at numbers (leaving_by stop s) u task) where
     follows_after : (p : ℕ) (task : Task) → new.task p ≡ Some task →
-        Follows new T.is.froms input t T.is.at numbers (leaving_by stop s) p task
+        Follows new T.is.cancelled_from input t T.is.at numbers (leaving_by stop s) p task
     follows_after p task e = by_whose (whose p)
       where
-        by_whose : Whose p → Follows new T.is.froms input t T.is.at numbers (leaving_by stop s) p task
+        by_whose : Whose p → Follows new T.is.cancelled_from input t T.is.at numbers (leaving_by stop s) p task
         by_whose (inl is) =
-            subst (λ (u : ℕ). Follows new T.is.froms input t T.is.at numbers (leaving_by stop s) u task) (sym is)
-            (subst (λ (x : Task). Follows new T.is.froms input t T.is.at numbers (leaving_by stop s) s x)
+            subst (λ (u : ℕ). Follows new T.is.cancelled_from input t T.is.at numbers (leaving_by stop s) u task) (sym is)
+            (subst (λ (x : Task). Follows new T.is.cancelled_from input t T.is.at numbers (leaving_by stop s) s x)
             (one_of after task (sym T.code.task_after ∙ (ap new.task (sym is) ∙ e)))
             (mover_follows k job input t m s old new before after stop c T (λ u le. ap entered_made (c.interleaving.none u le))
             (labels_apart c settled names starting) (labels_known c)))
         by_whose (inr (inl o)) = others p o.0 o.1 task (sym (T.code.other_after p o.0 o.1) ∙ e)
         by_whose (inr (inr i)) =
-            subst (λ (u : ℕ). Follows new T.is.froms input t T.is.at numbers (leaving_by stop s) u task) i.1
+            subst (λ (u : ℕ). Follows new T.is.cancelled_from input t T.is.at numbers (leaving_by stop s) u task) i.1
             (child_follows k job input t m s old new before after stop c T
             (λ j b begun. T.inputs j b begun ∙ (c.follows s before T.code.task).input_is) i.0 task
             (sym (T.child_after i.0) ∙ (ap new.task i.1 ∙ e)) (leaving_by stop s))
@@ -393,9 +393,9 @@ module _ (k : Table) (job : Job) (input : List ℕ) (t m s : ℕ) (old new : Run
         small = c.small;
         some = (let first : 0 < m = c.some in omega (arith, first));
         begun = T.code.start_after 0 c.some ∙ c.begun;
-        unborn = λ p le. (none_born p le, T.code.gone_after p ∙ (c.unborn p (omega (arith, le))).1);
+        unborn = λ p le. (none_born p le, T.code.ended_task_after p ∙ (c.unborn p (omega (arith, le))).1);
         ended = λ p less e. let g = ended_after p less e in
-            (g.0, g.1, subst (λ (x : Clock). HasEnded x T.is.froms input t (T.is.at p) g.0) (sym clock) g.2);
+            (g.0, g.1, subst (λ (x : Clock). HasEnded x T.is.cancelled_from input t (T.is.at p) g.0) (sym clock) g.2);
         follows = follows_after;
         owned = owned_after;
         apart = apart_after;
@@ -418,7 +418,7 @@ pub state_turned : {k : Table} {job : Job} {input : List ℕ} {t m s : ℕ} {old
     (T : Turning k job input t m s old new c.numbers before after stop c.interleaving) → IsSettled k job input → GivesNamesOnce job →
     StartsInNurseries job →
     ((u : ℕ) → u < m → u ≢ s → (task : Task) → old.task u ≡ Some task →
-    Follows new T.is.froms input t T.is.at (numbers_then c.numbers s m T.took.numbers_after) (leaving_by stop s) u task) →
+    Follows new T.is.cancelled_from input t T.is.at (numbers_then c.numbers s m T.took.numbers_after) (leaving_by stop s) u task) →
     (x : Refines k job input t (m + length T.move.begun) (leaving_by stop s) new) × (x.interleaving.at ≡ T.is.at)
 state_turned {k} {job} {input} {t} {m} {s} {old} {new} {before} {after} {stop} c T settled names starting others =
     state_after k job input t m s old new before after stop settled names starting c T others

@@ -35,7 +35,7 @@ pub record IsRootTask (job : Job) (input : List ℕ) (task : Task) : Type 0 wher
   pub own : task.own.items ≡ []
   pub task_state : task.task_state ≡ ToBegin 0
   pub entries : task.entries.items ≡ []
-  pub froms : task.froms.items ≡ []
+  pub cancelled_from : task.cancelled_from.items ≡ []
   pub cancelled : task.cancelled.items ≡ []
 
 -- the root is the only task of the program, in a new world, and no turn was taken
@@ -45,7 +45,7 @@ pub record IsNewRunState (job : Job) (input : List ℕ) (state : RunState) : Typ
   pub is_root : IsRootTask job input root
   pub first : state.task 0 ≡ Some root
   pub others : (p : ℕ) → state.task (suc p) ≡ None
-  pub gone : (p : ℕ) → state.gone p ≡ None
+  pub ended_task : (p : ℕ) → state.ended_task p ≡ None
   pub start : state.start 0 ≡ 0
   pub children : state.children 0 ≡ []
   pub turns : state.turns ≡ 0

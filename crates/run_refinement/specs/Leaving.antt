@@ -11,10 +11,10 @@ use Rattle.task_machine.specs.declared.task.Task.{Task}
 use Rattle.interleavings.specs.Interleaving.{Started}
 use Rattle.run_refinement.specs.RunState.{RunState}
 
--- the child's place in its nursery has its end, in this moment; the root has no nursery
-abbrev pub EndIsTold : ℕ → NurseryBook → NurseryBook → Option Home → Option Exc → Type 0
-EndIsTold t old new None exc = new ≡ old
-EndIsTold t old new (Some home) exc = Changes old new home.nursery (with_child home.place exc t)
+-- the child's index in its nursery has its end, in this moment; the root has no nursery
+abbrev pub EndIsRecorded : ℕ → NurseryBook → NurseryBook → Option Home → Option Exc → Type 0
+EndIsRecorded t old new None exc = new ≡ old
+EndIsRecorded t old new (Some home) exc = Changes old new home.nursery (with_child home.index exc t)
 
 -- The task with this serial number has ended in this moment, with this exception or none. All other tasks
 -- stay.
@@ -23,16 +23,16 @@ pub record Leaving (t s : ℕ) (old new : RunState) (q : Started) (task : Task) 
   pub ended : q.rest.stopped ≡ rest.at_end t exc
   pub world : new.world ≡ record old.world { book = new.world.book }
   pub turns : new.turns ≡ old.turns
-  pub told : EndIsTold t old.world.book new.world.book task.home exc
+  pub recorded : EndIsRecorded t old.world.book new.world.book task.home exc
   pub left : new.task s ≡ None
-  pub kept : new.gone s ≡ Some (record {
+  pub kept : new.ended_task s ≡ Some (record {
     label = task.label;
     end = tick_of old.world.clock t;
     exc = exc;
     entries =
         task.entries.items;
-    froms = task.froms.items;
+    cancelled_from = task.cancelled_from.items;
   })
-  pub others : (p : ℕ) → p ≢ s → (new.task p ≡ old.task p) × (new.gone p ≡ old.gone p)
+  pub others : (p : ℕ) → p ≢ s → (new.task p ≡ old.task p) × (new.ended_task p ≡ old.ended_task p)
   pub start : (p : ℕ) → new.start p ≡ old.start p
   pub children : (p : ℕ) → new.children p ≡ old.children p

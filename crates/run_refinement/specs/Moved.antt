@@ -8,7 +8,7 @@ use Rattle.run_refinement.specs.RunState.{RunState}
 pub record SameTasks (old new : RunState) : Type 0 where
   pub turns : new.turns ≡ old.turns
   pub task : (p : ℕ) → new.task p ≡ old.task p
-  pub gone : (p : ℕ) → new.gone p ≡ old.gone p
+  pub ended_task : (p : ℕ) → new.ended_task p ≡ old.ended_task p
   pub start : (p : ℕ) → new.start p ≡ old.start p
   pub children : (p : ℕ) → new.children p ≡ old.children p
 

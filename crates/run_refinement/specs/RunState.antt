@@ -13,7 +13,7 @@ use Rattle.job_tree.specs.Tree.{Tree as Job}
 use Rattle.job_meaning.specs.Log.{Table}
 use Rattle.job_meaning.specs.Moments.{clock_of, tick_of, Now, only_at}
 use Rattle.job_meaning.specs.declared.clock.Clock.{Clock}
-use Rattle.job_meaning.specs.Meaning.{froms_by}
+use Rattle.job_meaning.specs.Meaning.{cancelled_from_by}
 use Rattle.job_meaning.specs.Rest as rest
 use Rattle.job_meaning.specs.declared.limits.TheConstants.{MAX_INPUT}
 use Rattle.task_machine.specs.States.{state_of}
@@ -43,12 +43,12 @@ abbrev pub AreApart : List Started → Type 0
 AreApart [] = Unit {0}
 AreApart (q ∷ qs) = ((x : Started) → IsAmong x qs → x.serial ≢ q.serial) × AreApart qs
 
--- A run reaches these froms and this moment with m tasks, whose serial numbers are those below m. The task at a number that no
--- task has has done nothing.
+-- A run reaches these moments of cancellation and this moment with m tasks, whose serial numbers are those below m. The task at a
+-- number that no task has has done nothing.
 pub record Interleaving (k : Table) (job : Job) (input : List ℕ) (t m : ℕ) : Type 0 where
-  pub froms : Table
+  pub cancelled_from : Table
   pub tasks : List Started
-  pub reached : Reached k job input froms t m tasks
+  pub reached : Reached k job input cancelled_from t m tasks
   pub at : ℕ → Started
   pub has : (s : ℕ) → s < m → IsAmong (at s) tasks × ((at s).serial ≡ s)
   pub one : (q : Started) → IsAmong q tasks → (q ≡ at q.serial) × (q.serial < m)
@@ -58,12 +58,12 @@ pub record Interleaving (k : Table) (job : Job) (input : List ℕ) (t m : ℕ) :
 -- ---- what the code holds
 
 -- what is kept of a task that has ended, with its tick
-pub record Gone : Type 0 where
+pub record EndedTask : Type 0 where
   pub label : Label
   pub end : ℕ
   pub exc : Option Exc
   pub entries : List Entry
-  pub froms : List ScopeFrom
+  pub cancelled_from : List ScopeFrom
 
 -- the world of a run, how many turns its tasks had, and by its serial number each task that has not ended, and what is kept of
 -- each that has, with the tick in which each was started, and the serial numbers of its children in order
@@ -71,7 +71,7 @@ pub record RunState : Type 0 where
   pub world : World
   pub turns : ℕ
   pub task : ℕ → Option Task
-  pub gone : ℕ → Option Gone
+  pub ended_task : ℕ → Option EndedTask
   pub start : ℕ → ℕ
   pub children : ℕ → List ℕ
 
@@ -87,29 +87,29 @@ abbrev pub Differ : List Own → Type 0
 Differ [] = Unit {0}
 Differ (o ∷ own) = AreOthers o.id own × Differ own
 
--- this index among the froms of a task is that of no scope that encloses it
+-- this index among the moments of cancellation of a task is that of no scope that encloses it
 abbrev pub IsPast : ℕ → List Own → Type 0
 IsPast i own = All (λ (o : Own). o.at ≢ i) own
 
--- The froms of a task are those of the labels that it entered. A scope that encloses it has its label at its index, and the
--- label's from; and that of a scope that it left was kept, whose label no scope has now.
+-- The moments of cancellation of a task are those of the labels that it entered. A scope that encloses it has its label at its
+-- index, and the label's from; and that of a scope that it left was kept, whose label no scope has now.
 pub record Tracks (known : Label → Type 0) (f : Table) (s : Scoping) (entered : List Label) : Type 0 where
-  pub labels : map (λ (x : ScopeFrom). x.label) s.froms ≡ entered
+  pub labels : map (λ (x : ScopeFrom). x.label) s.cancelled_from ≡ entered
   pub differ : Differ s.own
-  pub named : (o : Own) (i : ℕ) → slice_get s.own i ≡ Some o → (x : ScopeFrom) × (slice_get s.froms o.at ≡ Some x)
+  pub named : (o : Own) (i : ℕ) → slice_get s.own i ≡ Some o → (x : ScopeFrom) × (slice_get s.cancelled_from o.at ≡ Some x)
       × (s.labels o.id ≡ Some x.label)
   pub kept :
       (o : Own) (i : ℕ) → slice_get s.own i ≡ Some o →
       (st : Stack) × (l : Label) × (stack_of s.tree o.id ≡ Some st) × (s.labels o.id ≡ Some l) × (kept_from (s.events o.id) st ≡ f l)
   pub left :
-      (i : ℕ) (x : ScopeFrom) → slice_get s.froms i ≡ Some x → IsPast i s.own →
+      (i : ℕ) (x : ScopeFrom) → slice_get s.cancelled_from i ≡ Some x → IsPast i s.own →
       (x.seen ≡ f x.label) × ((key : ℕ) → s.labels key ≡ Some x.label → ⊥) × known x.label
 
 -- Between its turns a task can run what it has left, and its scopes and nurseries are open: all that a turn requires of it,
 -- except for the scopes of other tasks (`Fits`).
 abbrev pub CanGoOn : Task → World → Type 0
 CanGoOn task world =
-    CanRun task.frames.items (home_scope task) task.own.items (length task.froms.items) world.scopes (label_at world) world.book
+    CanRun task.frames.items (home_scope task) task.own.items (length task.cancelled_from.items) world.scopes (label_at world) world.book
     (waits_of task.task_state)
 
 -- The home of a task that was started by another, which has not ended: one of the other's nurseries, in which this task runs at
@@ -120,9 +120,9 @@ pub record LivesIn (state : RunState) (at : ℕ → Started) (numbers : ℕ → 
   pub lives : state.task parent ≡ Some starter
   pub earlier : parent < s
   pub owned : HasNurseryOf home.nursery (blocks_of starter.frames.items) (waits_of starter.task_state)
-  pub runs : HasNursery state.world.book home.nursery (λ n. (n.scope ≡ home.scope) × (slice_get n.children home.place ≡ Some None))
+  pub runs : HasNursery state.world.book home.nursery (λ n. (n.scope ≡ home.scope) × (slice_get n.children home.index ≡ Some None))
   pub number : ℕ
-  pub stands : slice_get (numbers parent home.nursery) home.place ≡ Some number
+  pub stands : slice_get (numbers parent home.nursery) home.index ≡ Some number
   pub below : number < (at parent).count
   pub serial : (at parent).child number ≡ s
 
@@ -131,12 +131,13 @@ abbrev pub HasHome : RunState → (ℕ → Started) → (ℕ → Numbers) → �
 HasHome state at numbers s None = s ≡ 0
 HasHome state at numbers s (Some home) = LivesIn state at numbers s home
 
--- a member of a nursery at a place: while it runs it is a task with that home, and afterwards one that has ended so, by this moment
+-- a member of a nursery at an index: while it runs it is a task with that home, and afterwards one that has ended so, by this
+-- moment
 abbrev pub IsMember : RunState → (ℕ → Started) → ℕ → ℕ → ℕ → ℕ → Option End → Type 0
-IsMember state at last id place serial None = ⊥
-IsMember state at last id place serial (Some None) = (c : Task) × (state.task serial ≡ Some c) × (home_of c ≡ Some (id, place))
-IsMember state at last id place serial (Some (Some exc)) =
-    (g : Gone) × (end : ℕ) × (state.gone serial ≡ Some g) × (end ≤ last) × ((at serial).rest.stopped ≡ rest.at_end end exc)
+IsMember state at last id index serial None = ⊥
+IsMember state at last id index serial (Some None) = (c : Task) × (state.task serial ≡ Some c) × (home_of c ≡ Some (id, index))
+IsMember state at last id index serial (Some (Some exc)) =
+    (g : EndedTask) × (end : ℕ) × (state.ended_task serial ≡ Some g) × (end ≤ last) × ((at serial).rest.stopped ≡ rest.at_end end exc)
 
 -- Each nursery of a task has as many children as it has numbers there, and each is the task with its serial number. The moment in which
 -- a member ended last is not later than this one.
@@ -144,8 +145,8 @@ pub record HasMembers (state : RunState) (at : ℕ → Started) (t : ℕ) (numbe
   pub long : length (numbers id) ≡ length n.children
   pub last : n.last ≤ t
   pub members :
-      (place number : ℕ) → slice_get (numbers id) place ≡ Some number →
-      (number < q.count) × IsMember state at n.last id place (q.child number) (slice_get n.children place)
+      (index number : ℕ) → slice_get (numbers id) index ≡ Some number →
+      (number < q.count) × IsMember state at n.last id index (q.child number) (slice_get n.children index)
 
 -- Where a task is in time since it stopped: one that has not begun begins in its moment; and for one that asked, what it has cancelled
 -- itself in this moment counts on.
@@ -156,9 +157,9 @@ IsSince t cancelled task_state stop = Unit {0}
 
 -- a child of a nursery of this task ended in this moment
 pub record SomeEnded (at : ℕ → Started) (numbers : Numbers) (q : Started) (id last : ℕ) : Type 0 where
-  pub place : ℕ
+  pub index : ℕ
   pub number : ℕ
-  pub is : slice_get (numbers id) place ≡ Some number
+  pub is : slice_get (numbers id) index ≡ Some number
   pub exc : Option Exc
   pub ended : (at (q.child number)).rest.stopped ≡ rest.at_end last exc
 
@@ -192,14 +193,14 @@ pub record Follows (state : RunState) (f : Table) (input : List ℕ) (t : ℕ) (
         HasNursery state.world.book id (λ n. HasMembers state at t (numbers s) (at s) id n)
 
 -- one that has ended
-pub record HasEnded (clock : Clock) (f : Table) (input : List ℕ) (t : ℕ) (q : Started) (g : Gone) : Type 0 where
+pub record HasEnded (clock : Clock) (f : Table) (input : List ℕ) (t : ℕ) (q : Started) (g : EndedTask) : Type 0 where
   pub label : g.label ≡ q.here.task
   pub end : ℕ
   pub stopped : q.rest.stopped ≡ rest.at_end end g.exc
   pub tick : g.end ≡ tick_of clock end
   pub before : end ≤ t
   pub notes : Notes clock input q.made g.entries
-  pub froms : map from_of g.froms ≡ froms_by f (entered_made q.made)
+  pub cancelled_from : map from_of g.cancelled_from ≡ cancelled_from_by f (entered_made q.made)
 
 -- ---- all tasks
 
@@ -216,9 +217,9 @@ AreStarted clock start at child (rest.starts i l t ∷ es) =
 pub record OpenedBy (state : RunState) (key s : ℕ) : Type 0 where
   pub task : Task
   pub lives : state.task s ≡ Some task
-  pub place : ℕ
+  pub index : ℕ
   pub scope : Own
-  pub own : slice_get task.own.items place ≡ Some scope
+  pub own : slice_get task.own.items index ≡ Some scope
   pub is : scope.id ≡ key
 
 -- The tasks of the program are a run of the definitions in this moment with m tasks, where a table is followed. One task may have
@@ -233,10 +234,10 @@ pub record Refines (k : Table) (job : Job) (input : List ℕ) (t m : ℕ) (leavi
   pub some : 0 < m
   pub begun : state.start 0 ≡ 0
   -- each task has ended, or has not
-  pub unborn : (s : ℕ) → m ≤ s → (state.task s ≡ None) × (state.gone s ≡ None)
-  pub ended : (s : ℕ) → s < m → state.task s ≡ None → (g : Gone) × (state.gone s ≡ Some g) × HasEnded state.world.clock interleaving.froms
+  pub unborn : (s : ℕ) → m ≤ s → (state.task s ≡ None) × (state.ended_task s ≡ None)
+  pub ended : (s : ℕ) → s < m → state.task s ≡ None → (g : EndedTask) × (state.ended_task s ≡ Some g) × HasEnded state.world.clock interleaving.cancelled_from
       input t (interleaving.at s) g
-  pub follows : (s : ℕ) (task : Task) → state.task s ≡ Some task → Follows state interleaving.froms input t interleaving.at numbers leaving s task
+  pub follows : (s : ℕ) (task : Task) → state.task s ≡ Some task → Follows state interleaving.cancelled_from input t interleaving.at numbers leaving s task
   -- each open scope belongs to exactly one task; it has a label, and no other scope has the same one
   pub owned : (key : ℕ) → IsOpen state.world.scopes key → (s : ℕ) × OpenedBy state key s
   pub apart : (key s u : ℕ) → OpenedBy state key s → OpenedBy state key u → s ≡ u

@@ -42,7 +42,7 @@ pub record TakesTurn (t m s : ℕ) (old new : RunState) (before after : Task) (w
         own = after.own;
         task_state = after.task_state;
         entries = after.entries;
-        froms = after.froms;
+        cancelled_from = after.cancelled_from;
         cancelled = after.cancelled;
       }
   pub world :
@@ -67,7 +67,7 @@ pub record TakesTurn (t m s : ℕ) (old new : RunState) (before after : Task) (w
   pub task_after : new.task s ≡ Some after
   pub child_after : (i : ℕ) → new.task (m + i) ≡ slice_get new.world.started.items i
   pub other_after : (p : ℕ) → p < m → p ≢ s → new.task p ≡ old.task p
-  pub gone_after : (p : ℕ) → new.gone p ≡ old.gone p
+  pub ended_task_after : (p : ℕ) → new.ended_task p ≡ old.ended_task p
   pub start_after : (p : ℕ) → p < m → new.start p ≡ old.start p
   pub start_child : (i : ℕ) → i < length new.world.started.items → new.start (m + i) ≡ tick_of old.world.clock
       (a_round_after old.world.clock t)

@@ -6,7 +6,7 @@ use Rattle.cancel_scopes.specs.Tree.{Tree, IsOwn, IsChain, IsApart}
 use Rattle.job_meaning.specs.Log.{Table}
 use Rattle.job_meaning.specs.Moments.{only_at}
 use Rattle.job_meaning.specs.Rest as rest
-use Rattle.turn_semantics.specs.Midway.{Begun, none_told, begun_comes_to}
+use Rattle.turn_semantics.specs.Midway.{Begun, no_outcomes, begun_comes_to}
 use Rattle.task_machine.specs.declared.stop.Stop.{Stop}
 use Rattle.task_machine.specs.declared.stop.Stop.TheVariants.{Ask, Sleep, WaitFor, GiveUp, Wait, Ended}
 use Rattle.task_machine.specs.Stops.{Numbers}
@@ -43,7 +43,7 @@ child_at k t s b =
       made = [];
       count = 0;
       child = (λ i. 0);
-      told = none_told;
+      outcomes = no_outcomes;
       final_result = begun_comes_to k t b;
       left = (begun_comes_to k t b).log;
     }

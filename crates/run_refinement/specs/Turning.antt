@@ -9,7 +9,7 @@ use Rattle.job_meaning.specs.Moments.{tick_of, a_round_after}
 use Rattle.job_meaning.specs.Rest as rest
 use Rattle.turn_semantics.specs.Midway.{Begun, Move}
 use Rattle.turn_semantics.specs.Names.{StaysNew}
-use Rattle.turn_semantics.specs.Steps.{froms_after}
+use Rattle.turn_semantics.specs.Steps.{cancelled_from_after}
 use Rattle.turn_semantics.specs.Turned.{TurnsOver}
 use Rattle.turn_semantics.specs.Wakes.{Wake}
 use Rattle.task_machine.specs.States.{state_of}
@@ -45,8 +45,8 @@ pub record Turning
     pub move : Move
     pub stopped : rest.Stopped
     pub stops : move.stopped ≡ Some stopped
-    pub took : TookTo (woken_at woken_by (state_of before old.world)) (state_of after new.world) stop was.froms (numbers s) move
-    pub promise : TurnsOver (was.at s).stop (record { at = t; own = own }) (was.at s).here was.froms wake (was.at s).rest (was.at s).places
+    pub took : TookTo (woken_at woken_by (state_of before old.world)) (state_of after new.world) stop was.cancelled_from (numbers s) move
+    pub promise : TurnsOver (was.at s).stop (record { at = t; own = own }) (was.at s).here was.cancelled_from wake (was.at s).rest (was.at s).places
         (was.at s).count move
     pub names : StaysNew move
     pub fresh : AreNew (IsEntered was.at) move.made
@@ -54,7 +54,7 @@ pub record Turning
     -- the run after it
     pub is : Interleaving k job input t (m + length move.begun)
     pub counts : turns_taken is.reached ≡ turns_taken was.reached + 1
-    pub froms : is.froms ≡ froms_after was.froms move.made
+    pub cancelled_from : is.cancelled_from ≡ cancelled_from_after was.cancelled_from move.made
     pub of_task : is.at s ≡ task_after_turn k (record { at = t; own = own }) m (was.at s) move stopped
     pub of_child : (i : ℕ) (b : Begun) → slice_get move.begun i ≡ Some b → is.at (m + i) ≡ child_at k
         (a_round_after (was.at s).here.clock t) (m + i) b

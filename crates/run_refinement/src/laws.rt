@@ -29,7 +29,7 @@ ghost use Rattle.run_refinement.specs.Laws.{
 ///   continues; one has a moment in which it continues then, if one has not ended.
 /// * While a task has not ended, the job does not end before the present tick. There are at most twice as many turns as the
 ///   job has steps, plus one, and at most as many tasks that have not ended.
-/// * When all tasks have ended, what is kept of them is the records, the froms and the end that the job means.
+/// * When all tasks have ended, what is kept of them is the records, the moments of cancellation and the end that the job means.
 pub fn law_states()
     ensures begin { RunStatesBegin }
     ensures fit { TasksFit }

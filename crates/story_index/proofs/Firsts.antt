@@ -7,7 +7,7 @@ use Rattle.job_meaning.specs.Log.{Table, same_label}
 use Rattle.job_story.specs.Story.{Happening, enters}
 use Rattle.job_story.specs.Events.{What, starts, happens, ends, Event}
 use Rattle.job_story.specs.Causes.{Cause, Entering, entering_by, entering_of, cause_in, or_later, signed_by}
-use Rattle.job_story.specs.Froms.{table_in}
+use Rattle.job_story.specs.CancelledFrom.{table_in}
 use Rattle.story_index.specs.declared.causes.Causes.{Causes}
 use Rattle.story_index.specs.Found.{entering_in_code, cause_in_code, value_at}
 use Rattle.story_index.specs.Knows.{Knows}
@@ -70,19 +70,19 @@ signed_by_more l from (x ∷ es) e =
 
 -- the index after one more event
 pub knows_more : (old new : Causes) (table : Table) (es : List Event) (e : Event) → Knows old table es →
-    new.froms ≡ old.froms →
+    new.cancelled_from ≡ old.cancelled_from →
     ((l : Label) → option_map entering_in_code (value_at new.entered l)
     ≡ option_or (option_map entering_in_code (value_at old.entered l)) (entering_by l e.what None)) →
-    ((l : Label) (from : ℕ) → table_in old.froms.now l ≡ Some from → option_map cause_in_code (value_at new.signed l)
+    ((l : Label) (from : ℕ) → table_in old.cancelled_from.now l ≡ Some from → option_map cause_in_code (value_at new.signed l)
     ≡ option_or (option_map cause_in_code (value_at old.signed l)) (sign_from l from e)) →
     Knows new table (es ++ e ∷ [])
 knows_more old new table es e known stays entered signed =
     record {
-      froms = λ l. ap (λ f. table_in f.now l) stays ∙ known.froms l;
+      cancelled_from = λ l. ap (λ f. table_in f.now l) stays ∙ known.cancelled_from l;
       entered = λ l.
           entered l ∙ ap (λ o. option_or o (entering_by l e.what None)) (known.entered l) ∙ sym (entering_of_more l es e);
       signed = λ l from is.
-          signed l from (known.froms l ∙ is)
+          signed l from (known.cancelled_from l ∙ is)
           ∙ ap (λ o. option_or o (sign_from l from e)) (known.signed l from is)
           ∙ sym (signed_by_more l from es e);
     }

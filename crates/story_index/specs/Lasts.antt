@@ -6,7 +6,7 @@ use Rattle.indexmap.specs.IndexMap.{IndexMap, get_by}
 use Rattle.indexmap.specs.IndexSet.{IndexSet, contains_by}
 use Rattle.exceptions.specs.Exceptions.{Label}
 use Rattle.job_meaning.specs.Log.{same_label}
-use Rattle.job_story.specs.Events as told
+use Rattle.job_story.specs.Events as story_events
 use Rattle.job_story.specs.declared.event.Event.{Event}
 use Rattle.story_index.specs.Seen.{event_in}
 
@@ -19,5 +19,5 @@ abbrev pub event_at : {S : Type 0} → IndexMap (Bor Label) (Bor Event) S → La
 event_at events l = get_by (λ k. same_label l k.now) events
 
 -- a borrowed event, as the definitions see it, if there is one
-abbrev pub seen_last : Option (Bor Event) → Option told.Event
+abbrev pub seen_last : Option (Bor Event) → Option story_events.Event
 seen_last event = option_map event_in event

@@ -3,7 +3,7 @@ ghost use Rattle.std.specs.Option.{option_map, option_or};
 ghost use Rattle.exceptions.specs.Exceptions as tree;
 ghost use Rattle.job_meaning.specs.Log.{same_label};
 ghost use Rattle.job_story.specs.Causes.{entering_by, cause_in};
-ghost use Rattle.job_story.specs.Froms.{table_in};
+ghost use Rattle.job_story.specs.CancelledFrom.{table_in};
 ghost use Rattle.job_story.specs.Held.{what_of};
 ghost use Rattle.job_story.specs.Tell.{is_from};
 ghost use Rattle.story_index.specs.Found.{entering_in_code, cause_in_code, value_at};
@@ -12,7 +12,7 @@ use crate::causes::Entering;
 use crate::sign::{Cause, sign_of};
 use exceptions::Label;
 use indexmap::IndexMap;
-use job_story::{Event, Froms, Happening, What};
+use job_story::{CancelledFrom, Event, Happening, What};
 use std::alloc::AllocError;
 
 // Records how a label was entered, if the event enters a label that was not entered before.
@@ -42,14 +42,14 @@ pub(crate) fn note_entering<'e>(
     Ok(())
 }
 
-// Records why a label is cancelled, or set, if the event of the story cancels or sets it in the moment before the one from which it is
-// cancelled or set, and no earlier one did so.
+// Records why a label is cancelled, or set, if the event of the story cancels or sets it in the moment before the one from which
+// it is cancelled or set, and no earlier one did so.
 pub(crate) fn note_sign<'e>(
     signed: &mut IndexMap<&'e Label, Cause<'e>>,
-    froms: &Froms,
+    cancelled_from: &CancelledFrom,
     event: &'e Event,
 ) -> Result<(), AllocError>
-    ensures { OnOk result ((l : tree.Label) (from : ℕ) → table_in froms.now l ≡ Some from →
+    ensures { OnOk result ((l : tree.Label) (from : ℕ) → table_in cancelled_from.now l ≡ Some from →
         option_map cause_in_code (value_at signed.new l) ≡ option_or (option_map cause_in_code (value_at signed.old l))
         (if event.entry.now.tick + 1 == from
         then cause_in l event.entry.now.tick event.entry.now.task (what_of event.entry.now.what) else None)) }
@@ -57,7 +57,7 @@ pub(crate) fn note_sign<'e>(
     let Some(sign) = sign_of(event) else {
         return Ok(());
     };
-    if !is_next(event.tick, froms.of(sign.label)) {
+    if !is_next(event.tick, cancelled_from.of(sign.label)) {
         return Ok(());
     }
     put_first(signed, sign.label, sign.cause)?;

@@ -2,7 +2,7 @@ ghost use Rattle.std.specs.Prelude.{◌≡◌, ◌||◌, false, List, length, On
 ghost use Rattle.std.specs.Option.{option_map};
 ghost use Rattle.exceptions.specs.Exceptions as tree;
 ghost use Rattle.job_meaning.specs.Log.{Table};
-ghost use Rattle.job_story.specs.Events as told;
+ghost use Rattle.job_story.specs.Events as story_events;
 ghost use Rattle.job_story.specs.Focus.{causer_of, causers_in, concerned_tasks, is_among, task_of, with_causers};
 ghost use Rattle.job_story.specs.Held.{event_of, what_of};
 ghost use Rattle.story_index.specs.Found.{cause_in_code};
@@ -81,7 +81,7 @@ fn causers<'e>(
     causes: &Causes<'e>,
     tasks: &TaskSet<'e>,
 ) -> Result<TaskSet<'e>, AllocError>
-    ensures { IfOk result (λ added. (table : Table) (all : List told.Event) → Knows causes.now table all → (l : tree.Label) →
+    ensures { IfOk result (λ added. (table : Table) (all : List story_events.Event) → Knows causes.now table all → (l : tree.Label) →
         holds added l ≡ is_added (holds tasks.now) table all l (map event_in events.now)) }
 {
     let mut added = TaskSet::none(alloc);
@@ -98,7 +98,7 @@ fn note_causer<'e>(
     tasks: &TaskSet<'e>,
     event: &Event,
 ) -> Result<(), AllocError>
-    ensures { OnOk result ((table : Table) (all : List told.Event) → Knows causes.now table all → (l : tree.Label) →
+    ensures { OnOk result ((table : Table) (all : List story_events.Event) → Knows causes.now table all → (l : tree.Label) →
         holds added.new l ≡ (holds added.old l || is_added_by (holds tasks.now) table all l (event_of event.now))) }
 {
     if !tasks.holds(&event.task) {
@@ -116,7 +116,7 @@ fn note_causer<'e>(
 
 // Returns the task that caused the event, if the event is a cancellation that a task caused.
 fn causer_of<'e>(causes: &Causes<'e>, what: &What) -> Option<&'e Label>
-    ensures { (table : Table) (all : List told.Event) → Knows causes.now table all →
+    ensures { (table : Table) (all : List story_events.Event) → Knows causes.now table all →
         label_seen result ≡ causer_of table all (what_of what.now) }
 {
     let What::Happens(Happening::IsCancelled { by: Some(by), .. }) = what else {

@@ -2,7 +2,7 @@ ghost use Rattle.std.specs.Prelude.{◌≡◌};
 ghost use Rattle.exceptions.specs.Exceptions as tree;
 ghost use Rattle.exceptions.specs.Held.{exc_of};
 ghost use Rattle.job_story.specs.Causes.{cause_by, cause_if, cause_in};
-ghost use Rattle.job_story.specs.Events as told;
+ghost use Rattle.job_story.specs.Events as story_events;
 ghost use Rattle.job_story.specs.Held.{unboxed_exc, happening_of, what_of};
 ghost use Rattle.job_story.specs.Story as story;
 ghost use Rattle.job_meaning.specs.Log.{same_label};
@@ -72,7 +72,7 @@ pub(crate) fn sign_of<'e>(event: &'e Event) -> Option<Sign<'e>>
 
 // Returns what a happening between the start and the end of a task cancels or sets.
 fn sign_in<'e>(happening: &'e Happening, task: &'e Label, tick: u64) -> Option<Sign<'e>>
-    ensures { (l : tree.Label) → sign_at l result ≡ cause_in l tick task.entry.now (told.happens (happening_of happening.now)) }
+    ensures { (l : tree.Label) → sign_at l result ≡ cause_in l tick task.entry.now (story_events.happens (happening_of happening.now)) }
 {
     match happening {
         Happening::Cancels { label } => sign_cancel(label, task, tick),
@@ -84,7 +84,7 @@ fn sign_in<'e>(happening: &'e Happening, task: &'e Label, tick: u64) -> Option<S
 
 // Returns what a `cancel` step cancels, or `None` if no scope or nursery of its name encloses the task.
 fn sign_cancel<'e>(label: &'e Option<Label>, task: &'e Label, tick: u64) -> Option<Sign<'e>>
-    ensures { (l : tree.Label) → sign_at l result ≡ cause_in l tick task.entry.now (told.happens (story.cancels label.entry.now)) }
+    ensures { (l : tree.Label) → sign_at l result ≡ cause_in l tick task.entry.now (story_events.happens (story.cancels label.entry.now)) }
 {
     let Some(label) = label else {
         return None;
@@ -97,7 +97,7 @@ fn sign_cancel<'e>(label: &'e Option<Label>, task: &'e Label, tick: u64) -> Opti
 
 // Returns what a `set` step sets, or `None` if no event of its name encloses the task.
 fn sign_set<'e>(label: &'e Option<Label>, task: &'e Label, tick: u64) -> Option<Sign<'e>>
-    ensures { (l : tree.Label) → sign_at l result ≡ cause_in l tick task.entry.now (told.happens (story.sets label.entry.now)) }
+    ensures { (l : tree.Label) → sign_at l result ≡ cause_in l tick task.entry.now (story_events.happens (story.sets label.entry.now)) }
 {
     let Some(label) = label else {
         return None;

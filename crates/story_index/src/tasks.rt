@@ -12,8 +12,8 @@ use indexmap::IndexSet;
 use job_story::Event;
 use std::alloc::{AllocError, Global};
 
-/// What is known of the tasks of a story: which tasks have ended, by the events in the order of the walk, and what each did last, by
-/// the events in order. A look-up takes constant time.
+/// What is known of the tasks of a story: which tasks have ended, by the events in the order of the walk, and what each did last,
+/// by the events in order. A look-up takes constant time.
 #[derive(Drop)]
 pub struct Tasks<'s, 'e> {
     /// The last event of each task.
@@ -25,8 +25,8 @@ pub struct Tasks<'s, 'e> {
 }
 
 impl<'s, 'e> Tasks<'s, 'e> {
-    /// Collects the tasks of these events, which are given in order (`sorted`) and in the order of the walk (`walked`), in one pass over
-    /// each. Returns `AllocError` if memory runs out.
+    /// Collects the tasks of these events, which are given in order (`sorted`) and in the order of the walk (`walked`), in one
+    /// pass over each. Returns `AllocError` if memory runs out.
     pub fn of(
         alloc: Global,
         sorted: &'s [&'e Event],

@@ -1,16 +1,16 @@
 ghost use Rattle.std.specs.Prelude.{◌≡◌, map};
 ghost use Rattle.std.specs.Option.{option_map};
 ghost use Rattle.job_story.specs.Causes.{entering_of, cause_of};
-ghost use Rattle.job_story.specs.Froms.{table_in};
+ghost use Rattle.job_story.specs.CancelledFrom.{table_in};
 ghost use Rattle.story_index.specs.Found.{entering_in_code, cause_in_code};
 ghost use Rattle.story_index.specs.Knows.{Knows};
 ghost use Rattle.story_index.specs.Seen.{event_in};
-ghost use Rattle.story_text.specs.Told.{clock_in, events_in, froms_in};
+ghost use Rattle.story_text.specs.Known.{clock_in, events_in, cancelled_from_in};
 
 use crate::known::Known;
 use exceptions::Label;
 use job_meaning::Clock;
-use job_story::{Event, Froms};
+use job_story::{CancelledFrom, Event};
 use story_index::{Cause, Causes, Entering};
 
 impl<'k, 'e> Known<'k, 'e> {
@@ -19,18 +19,18 @@ impl<'k, 'e> Known<'k, 'e> {
     pub fn new(
         clock: Clock,
         events: &'k [&'e Event],
-        froms: &'k Froms,
+        cancelled_from: &'k CancelledFrom,
         causes: &'k Causes<'e>,
     ) -> Known<'k, 'e>
-        requires { Knows causes.now (table_in froms.now) (map event_in events.now) }
+        requires { Knows causes.now (table_in cancelled_from.now) (map event_in events.now) }
         ensures clock { clock_in result ≡ clock }
         ensures events { events_in result ≡ map event_in events.now }
-        ensures froms { froms_in result ≡ table_in froms.now }
+        ensures cancelled_from { cancelled_from_in result ≡ table_in cancelled_from.now }
     {
         Known {
             clock,
             events,
-            froms,
+            cancelled_from,
             causes,
         }
     }
@@ -44,15 +44,15 @@ impl<'k, 'e> Known<'k, 'e> {
 
     // Returns why a scope or nursery is cancelled, or an event of the job set, or `None` if it never is.
     pub(crate) fn cause(&self, label: &Label) -> Option<Cause<'e>>
-        ensures { option_map cause_in_code result ≡ cause_of (froms_in self.now) (events_in self.now) label.now }
+        ensures { option_map cause_in_code result ≡ cause_of (cancelled_from_in self.now) (events_in self.now) label.now }
     {
         self.causes.cause(label)
     }
 
     // Returns the moment from which a scope or nursery is cancelled, or an event of the job set, or `None` if it never is.
     pub(crate) fn from(&self, label: &Label) -> Option<u64>
-        ensures { result ≡ froms_in self.now label.now }
+        ensures { result ≡ cancelled_from_in self.now label.now }
     {
-        self.froms.of(label)
+        self.cancelled_from.of(label)
     }
 }

@@ -1,10 +1,10 @@
 ghost use Rattle.std.specs.Prelude.{map};
-ghost use Rattle.job_story.specs.Froms.{table_in};
+ghost use Rattle.job_story.specs.CancelledFrom.{table_in};
 ghost use Rattle.story_index.specs.Knows.{Knows};
 ghost use Rattle.story_index.specs.Seen.{event_in};
 
 use job_meaning::Clock;
-use job_story::{Event, Froms};
+use job_story::{CancelledFrom, Event};
 use story_index::Causes;
 
 /// What is needed to write the sentences of a story: the clock of its moments, its events in order, the table with the moments
@@ -13,7 +13,7 @@ use story_index::Causes;
 pub struct Known<'k, 'e> {
     pub(crate) clock: Clock,
     pub(crate) events: &'k [&'e Event],
-    pub(crate) froms: &'k Froms,
+    pub(crate) cancelled_from: &'k CancelledFrom,
     pub(crate) causes: &'k Causes<'e>,
-    ghost known: { Knows causes.now (table_in froms.now) (map event_in events.now) },
+    ghost known: { Knows causes.now (table_in cancelled_from.now) (map event_in events.now) },
 }

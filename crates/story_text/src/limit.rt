@@ -1,11 +1,11 @@
 ghost use Rattle.std.specs.Prelude.{◌≡◌, ◌++◌, ◌&&◌, not, [], ◌∷◌, List, IfOk, OnOk, map, codes, decimal};
 ghost use Rattle.exceptions.specs.Exceptions as tree;
-ghost use Rattle.job_story.specs.Froms.{table_in};
+ghost use Rattle.job_story.specs.CancelledFrom.{table_in};
 ghost use Rattle.job_story.specs.Held.{happening_of, what_of};
-ghost use Rattle.job_story.specs.Events as told;
+ghost use Rattle.job_story.specs.Events as story_events;
 ghost use Rattle.job_story.specs.Limit.{has_ended, start_if, is_start, running_in, unset_text, doing_text, last_event, last_text, running_text, kept_text_to};
 ghost use Rattle.job_story.specs.Sentences.{label_width};
-ghost use Rattle.story_text.specs.Told.{clock_in, events_in, froms_in};
+ghost use Rattle.story_text.specs.Known.{clock_in, events_in, cancelled_from_in};
 ghost use Rattle.story_index.specs.Tasks.{sorted_in, walked_in};
 ghost use Rattle.story_index.specs.Lasts.{seen_last};
 ghost use Rattle.story_index.specs.Seen.{event_in};
@@ -17,7 +17,7 @@ use crate::sentences::{push_since, push_until, push_waiting};
 use basics::push_number;
 use exceptions::Label;
 use job_meaning::Clock;
-use job_story::{Event, Froms, Happening, What};
+use job_story::{CancelledFrom, Event, Happening, What};
 use std::alloc::{AllocError, Global};
 use story_index::Tasks;
 
@@ -32,7 +32,7 @@ pub fn kept_text_to<'e>(
     known: &Known<'_, '_>,
 ) -> Result<Vec<u8>, AllocError>
     ensures { IfOk result (λ text. text.items
-        ≡ kept_text_to (clock_in known.now) (froms_in known.now) limit (events_in known.now)
+        ≡ kept_text_to (clock_in known.now) (cancelled_from_in known.now) limit (events_in known.now)
         (map event_in sorted.now) (map event_in walked.now)) }
 {
     let width = label_width(alloc, sorted)?;
@@ -40,27 +40,34 @@ pub fn kept_text_to<'e>(
     push_lines(&mut out, known, sorted, width)?;
     push_limit(&mut out, limit)?;
     let tasks = Tasks::of(alloc, sorted, walked)?;
-    push_running(&mut out, known.clock, known.froms, width, &tasks, walked)?;
+    push_running(
+        &mut out,
+        known.clock,
+        known.cancelled_from,
+        width,
+        &tasks,
+        walked,
+    )?;
     Ok(out)
 }
 
 /// Returns a line for each task that has not ended in these events, with what it is doing, as at the end of `kept_text_to`. The
-/// events are given in order (`sorted`) and in the order of the walk (`walked`), with the clock of their moments, and the table of
-/// the whole story, which says of an event of the job whether it is ever set. Returns `AllocError` if out of memory.
+/// events are given in order (`sorted`) and in the order of the walk (`walked`), with the clock of their moments, and the table
+/// of the whole story, which says of an event of the job whether it is ever set. Returns `AllocError` if out of memory.
 pub fn running_text(
     alloc: Global,
     clock: Clock,
-    froms: &Froms,
+    cancelled_from: &CancelledFrom,
     sorted: &[&Event],
     walked: &[&Event],
 ) -> Result<Vec<u8>, AllocError>
-    ensures { IfOk result (λ text. text.items ≡ running_text clock (table_in froms.now) (label_width (map event_in sorted.now))
+    ensures { IfOk result (λ text. text.items ≡ running_text clock (table_in cancelled_from.now) (label_width (map event_in sorted.now))
         (map event_in sorted.now) (running_in (map event_in walked.now) (map event_in walked.now))) }
 {
     let width = label_width(alloc, sorted)?;
     let tasks = Tasks::of(alloc, sorted, walked)?;
     let mut out = Vec::new(alloc);
-    push_running(&mut out, clock, froms, width, &tasks, walked)?;
+    push_running(&mut out, clock, cancelled_from, width, &tasks, walked)?;
     Ok(out)
 }
 
@@ -77,16 +84,16 @@ fn push_limit(out: &mut Vec<u8>, limit: u64) -> Result<(), AllocError>
 fn push_running(
     out: &mut Vec<u8>,
     clock: Clock,
-    froms: &Froms,
+    cancelled_from: &CancelledFrom,
     width: usize,
     tasks: &Tasks<'_, '_>,
     walked: &[&Event],
 ) -> Result<(), AllocError>
     ensures { OnOk result (out.new.items ≡ out.old.items
-        ++ running_text clock (table_in froms.now) width (sorted_in tasks.now) (running_in (walked_in tasks.now) (map event_in walked.now))) }
+        ++ running_text clock (table_in cancelled_from.now) width (sorted_in tasks.now) (running_in (walked_in tasks.now) (map event_in walked.now))) }
 {
     'walked: for event in walked {
-        push_if_running(out, clock, froms, width, tasks, event)?;
+        push_if_running(out, clock, cancelled_from, width, tasks, event)?;
     }
     Ok(())
 }
@@ -95,19 +102,19 @@ fn push_running(
 fn push_if_running(
     out: &mut Vec<u8>,
     clock: Clock,
-    froms: &Froms,
+    cancelled_from: &CancelledFrom,
     width: usize,
     tasks: &Tasks<'_, '_>,
     event: &Event,
 ) -> Result<(), AllocError>
-    ensures { OnOk result ((others : List tree.Label) → out.new.items ++ running_text clock (table_in froms.now) width (sorted_in tasks.now) others
-        ≡ out.old.items ++ running_text clock (table_in froms.now) width (sorted_in tasks.now)
+    ensures { OnOk result ((others : List tree.Label) → out.new.items ++ running_text clock (table_in cancelled_from.now) width (sorted_in tasks.now) others
+        ≡ out.old.items ++ running_text clock (table_in cancelled_from.now) width (sorted_in tasks.now)
         (start_if (is_start (what_of event.now.what) && not (has_ended event.now.task (walked_in tasks.now))) event.now.task others)) }
 {
     if !tasks.is_running(event) {
         return Ok(());
     }
-    push_task(out, clock, froms, width, tasks, &event.task)?;
+    push_task(out, clock, cancelled_from, width, tasks, &event.task)?;
     Ok(())
 }
 
@@ -115,17 +122,17 @@ fn push_if_running(
 fn push_task(
     out: &mut Vec<u8>,
     clock: Clock,
-    froms: &Froms,
+    cancelled_from: &CancelledFrom,
     width: usize,
     tasks: &Tasks<'_, '_>,
     label: &Label,
 ) -> Result<(), AllocError>
-    ensures { OnOk result (out.new.items ≡ out.old.items ++ running_text clock (table_in froms.now) width (sorted_in tasks.now) (label.now ∷ [])) }
+    ensures { OnOk result (out.new.items ≡ out.old.items ++ running_text clock (table_in cancelled_from.now) width (sorted_in tasks.now) (label.now ∷ [])) }
 {
     out.extend_from_slice(b"  ")?;
     push_padded(out, width, label)?;
     out.extend_from_slice(b"  ")?;
-    push_last(out, clock, froms, tasks.last(label))?;
+    push_last(out, clock, cancelled_from, tasks.last(label))?;
     out.extend_from_slice(b"\n")
 }
 
@@ -133,13 +140,13 @@ fn push_task(
 fn push_last(
     out: &mut Vec<u8>,
     clock: Clock,
-    froms: &Froms,
+    cancelled_from: &CancelledFrom,
     last: Option<&Event>,
 ) -> Result<(), AllocError>
-    ensures { OnOk result (out.new.items ≡ out.old.items ++ last_text clock (table_in froms.now) (seen_last last.entry)) }
+    ensures { OnOk result (out.new.items ≡ out.old.items ++ last_text clock (table_in cancelled_from.now) (seen_last last.entry)) }
 {
     match last {
-        Some(event) => push_doing(out, clock, froms, event.tick, &event.what),
+        Some(event) => push_doing(out, clock, cancelled_from, event.tick, &event.what),
         None => Ok(()),
     }
 }
@@ -148,29 +155,29 @@ fn push_last(
 fn push_doing(
     out: &mut Vec<u8>,
     clock: Clock,
-    froms: &Froms,
+    cancelled_from: &CancelledFrom,
     moment: u64,
     what: &What,
 ) -> Result<(), AllocError>
-    ensures { OnOk result (out.new.items ≡ out.old.items ++ doing_text clock (table_in froms.now) moment (what_of what.now)) }
+    ensures { OnOk result (out.new.items ≡ out.old.items ++ doing_text clock (table_in cancelled_from.now) moment (what_of what.now)) }
 {
     match what {
         What::Starts { .. } => Ok(()),
-        What::Happens(happening) => push_doing_in(out, clock, froms, moment, happening),
+        What::Happens(happening) => push_doing_in(out, clock, cancelled_from, moment, happening),
         What::Ends { .. } => Ok(()),
     }
 }
 
-// The same of what happens to a task between its start and its end.
+// Appends what a task is doing after something has happened to it between its start and its end.
 fn push_doing_in(
     out: &mut Vec<u8>,
     clock: Clock,
-    froms: &Froms,
+    cancelled_from: &CancelledFrom,
     moment: u64,
     happening: &Happening,
 ) -> Result<(), AllocError>
     ensures { OnOk result (out.new.items
-        ≡ out.old.items ++ doing_text clock (table_in froms.now) moment (told.happens (happening_of happening.now))) }
+        ≡ out.old.items ++ doing_text clock (table_in cancelled_from.now) moment (story_events.happens (happening_of happening.now))) }
 {
     match happening {
         Happening::Sleeps { until } => {
@@ -183,7 +190,7 @@ fn push_doing_in(
         }
         Happening::Awaits { event } => {
             push_waiting(out, b"waiting for event ", event, clock, moment)?;
-            push_unset(out, froms.of(event))
+            push_unset(out, cancelled_from.of(event))
         }
         _ => Ok(()),
     }

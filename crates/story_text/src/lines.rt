@@ -1,7 +1,7 @@
 ghost use Rattle.std.specs.Prelude.{◌≡◌, ◌++◌, [], None, IfOk, OnOk, map, max, codes, decimal};
 ghost use Rattle.job_story.specs.Held.{event_of};
 ghost use Rattle.job_story.specs.Sentences.{label_width, tick_text, line_text, lines_text, kept_text};
-ghost use Rattle.story_text.specs.Told.{clock_in, events_in, froms_in};
+ghost use Rattle.story_text.specs.Known.{clock_in, events_in, cancelled_from_in};
 ghost use Rattle.story_index.specs.Seen.{event_in};
 
 use crate::known::Known;
@@ -22,7 +22,7 @@ pub fn kept_text(
     known: &Known<'_, '_>,
 ) -> Result<Vec<u8>, AllocError>
     ensures { IfOk result (λ text. text.items
-        ≡ kept_text (clock_in known.now) (froms_in known.now) (events_in known.now) (map event_in kept.now)) }
+        ≡ kept_text (clock_in known.now) (cancelled_from_in known.now) (events_in known.now) (map event_in kept.now)) }
 {
     let width = label_width(alloc, kept)?;
     let mut out = Vec::new(alloc);
@@ -53,7 +53,7 @@ pub(crate) fn push_lines(
 ) -> Result<(), AllocError>
     ensures { OnOk result (out.new.items
         ≡ out.old.items
-        ++ lines_text (clock_in known.now) (froms_in known.now) (events_in known.now) width None (map event_in events.now)) }
+        ++ lines_text (clock_in known.now) (cancelled_from_in known.now) (events_in known.now) width None (map event_in events.now)) }
 {
     let mut before = None;
     'events: for event in events {
@@ -90,7 +90,7 @@ fn push_line(
     event: &Event,
 ) -> Result<(), AllocError>
     ensures { OnOk result (out.new.items
-        ≡ out.old.items ++ line_text (clock_in known.now) (froms_in known.now) (events_in known.now) width (event_of event.now)) }
+        ≡ out.old.items ++ line_text (clock_in known.now) (cancelled_from_in known.now) (events_in known.now) width (event_of event.now)) }
 {
     out.extend_from_slice(b"  ")?;
     push_padded(out, width, &event.task)?;

@@ -9,7 +9,7 @@ ghost use Rattle.exceptions.specs.Texts.{label_text, exc_text, end_text};
 ghost use Rattle.job_meaning.specs.Clocks.{tick_of};
 ghost use Rattle.job_meaning.specs.declared.clock.Clock.{Clock};
 ghost use Rattle.story_index.specs.Found.{entering_in_code, cause_in_code};
-ghost use Rattle.story_text.specs.Told.{clock_in, events_in, froms_in};
+ghost use Rattle.story_text.specs.Known.{clock_in, events_in, cancelled_from_in};
 
 use crate::known::Known;
 use crate::ticks::next_from;
@@ -29,7 +29,7 @@ pub(crate) fn push_what(
 ) -> Result<(), AllocError>
     ensures { OnOk result (out.new.items
         ≡ out.old.items
-        ++ what_text (clock_in known.now) (froms_in known.now) (events_in known.now) event.now.tick (what_of event.now.what)) }
+        ++ what_text (clock_in known.now) (cancelled_from_in known.now) (events_in known.now) event.now.tick (what_of event.now.what)) }
 {
     match &event.what {
         What::Starts { home, .. } => {
@@ -54,7 +54,7 @@ fn push_happening(
 ) -> Result<(), AllocError>
     ensures { OnOk result (out.new.items
         ≡ out.old.items
-        ++ happening_text (clock_in known.now) (froms_in known.now) (events_in known.now) moment (happening_of happening.now)) }
+        ++ happening_text (clock_in known.now) (cancelled_from_in known.now) (events_in known.now) moment (happening_of happening.now)) }
 {
     match happening {
         Happening::Enters {
@@ -201,7 +201,7 @@ fn push_is_cancelled(
 ) -> Result<(), AllocError>
     ensures { OnOk result (out.new.items
         ≡ out.old.items ++ (codes "is cancelled" ++ cleanup_text in_cleanup ++ during_text (clock_in known.now) (during_of during.now)
-        ++ cancelled_text (clock_in known.now) (froms_in known.now) (events_in known.now) by.now)) }
+        ++ cancelled_text (clock_in known.now) (cancelled_from_in known.now) (events_in known.now) by.now)) }
 {
     out.extend_from_slice(b"is cancelled")?;
     push_cleanup(out, in_cleanup)?;
@@ -263,7 +263,7 @@ pub(crate) fn push_since(out: &mut Vec<u8>, clock: Clock, since: u64) -> Result<
 // Appends the scope or nursery by which a task is cancelled, and why that is cancelled.
 fn push_by(out: &mut Vec<u8>, known: &Known<'_, '_>, by: &Option<Label>) -> Result<(), AllocError>
     ensures { OnOk result (out.new.items
-        ≡ out.old.items ++ cancelled_text (clock_in known.now) (froms_in known.now) (events_in known.now) by.now) }
+        ≡ out.old.items ++ cancelled_text (clock_in known.now) (cancelled_from_in known.now) (events_in known.now) by.now) }
 {
     let Some(label) = by else {
         return Ok(());
@@ -367,7 +367,7 @@ fn push_cancels(
     moment: u64,
 ) -> Result<(), AllocError>
     ensures { OnOk result (out.new.items
-        ≡ out.old.items ++ cancel_text (clock_in known.now) (froms_in known.now) (events_in known.now) label.now moment) }
+        ≡ out.old.items ++ cancel_text (clock_in known.now) (cancelled_from_in known.now) (events_in known.now) label.now moment) }
 {
     let Some(label) = label else {
         return Ok(());
@@ -388,7 +388,7 @@ fn push_sets(
     label: &Option<Label>,
     moment: u64,
 ) -> Result<(), AllocError>
-    ensures { OnOk result (out.new.items ≡ out.old.items ++ set_text (froms_in known.now) label.now moment) }
+    ensures { OnOk result (out.new.items ≡ out.old.items ++ set_text (cancelled_from_in known.now) label.now moment) }
 {
     let Some(label) = label else {
         return Ok(());
@@ -465,7 +465,7 @@ fn push_waits(
 ) -> Result<(), AllocError>
     ensures { OnOk result (out.new.items ≡ out.old.items
         ++ (codes "waits for nursery " ++ label_text nursery.now ++ with_exc (codes " after ") (unboxed_exc exc.now) []
-        ++ sign_text (clock_in known.now) (froms_in known.now) (Some nursery.now) (unboxed_exc exc.now) moment)) }
+        ++ sign_text (clock_in known.now) (cancelled_from_in known.now) (Some nursery.now) (unboxed_exc exc.now) moment)) }
 {
     out.extend_from_slice(b"waits for nursery ")?;
     push_label(out, nursery)?;
@@ -483,7 +483,7 @@ fn push_sign(
     moment: u64,
 ) -> Result<(), AllocError>
     ensures { OnOk result (out.new.items
-        ≡ out.old.items ++ sign_text (clock_in known.now) (froms_in known.now) (Some nursery.now) (unboxed_exc exc.now) moment) }
+        ≡ out.old.items ++ sign_text (clock_in known.now) (cancelled_from_in known.now) (Some nursery.now) (unboxed_exc exc.now) moment) }
 {
     let Some(exc) = exc else {
         return Ok(());
@@ -502,7 +502,7 @@ fn push_from(
     moment: u64,
 ) -> Result<(), AllocError>
     ensures { OnOk result (out.new.items
-        ≡ out.old.items ++ from_text (clock_in known.now) (froms_in known.now) nursery.now moment) }
+        ≡ out.old.items ++ from_text (clock_in known.now) (cancelled_from_in known.now) nursery.now moment) }
 {
     let Some(from) = next_from(known, nursery, moment) else {
         return Ok(());
@@ -522,7 +522,7 @@ fn push_home_sign(
     moment: u64,
 ) -> Result<(), AllocError>
     ensures { OnOk result (out.new.items
-        ≡ out.old.items ++ sign_text (clock_in known.now) (froms_in known.now) home.now (unboxed_exc exc.now) moment) }
+        ≡ out.old.items ++ sign_text (clock_in known.now) (cancelled_from_in known.now) home.now (unboxed_exc exc.now) moment) }
 {
     let Some(nursery) = home else {
         return Ok(());

@@ -3,7 +3,7 @@ use Rattle.std.specs.Prelude.{Option, map}
 use Rattle.std.specs.Borrow.{Bor}
 use Rattle.std.specs.Option.{option_map}
 use Rattle.exceptions.specs.Exceptions.{Label}
-use Rattle.story_text.specs.Told.{clock_in, events_in, froms_in}
+use Rattle.story_text.specs.Known.{clock_in, events_in, cancelled_from_in}
 use Rattle.chart.specs.HeldColumns.{column_of}
 use Rattle.svg.specs.Sheets as sheets
 use Rattle.svg.specs.Rows as rows
@@ -19,7 +19,7 @@ sheet_held sheet =
       columns = map column_of sheet.columns.now;
       less = sheet.less;
       clock = clock_in sheet.known.now;
-      table = froms_in sheet.known.now;
+      table = cancelled_from_in sheet.known.now;
       events = events_in sheet.known.now;
     }
 

@@ -15,7 +15,7 @@ use Rattle.svg.specs.Content.{Content, nothing, text, element, Attribute, attrib
 use Rattle.svg.specs.declared.names.Tag.TheVariants as tags
 use Rattle.svg.specs.declared.names.Attr.TheVariants as attrs
 use Rattle.svg.specs.Sheets.{Sheet, x_at, x_of, x_by, outcome_x, y_of, middle_of, events_title}
-use Rattle.svg.specs.declared.layout.TheConstants.{LEFT, LETTER, MAX_TOLD}
+use Rattle.svg.specs.declared.layout.TheConstants.{LEFT, LETTER, MAX_TITLED}
 
 -- ---- words for the style sheet
 
@@ -73,22 +73,22 @@ event_list None = []
 event_list (Some e) = e ∷ []
 
 -- the events that the title of a bar shows: those of a task, or how a scope or nursery is entered and left
-abbrev pub told_by : What → Bar → List Event
-told_by (starts home lent) bar = bar.own
-told_by _ bar = bar.first ∷ event_list bar.last
+abbrev pub titled_by : What → Bar → List Event
+titled_by (starts home lent) bar = bar.own
+titled_by _ bar = bar.first ∷ event_list bar.last
 
-abbrev pub told_of : Bar → List Event
-told_of bar = told_by bar.first.what bar
+abbrev pub titled_events : Bar → List Event
+titled_events bar = titled_by bar.first.what bar
 
 -- that there are more events than the title shows, if there are
-abbrev pub more_told : ℕ → List ℕ
-more_told n = if nat_le n MAX_TOLD then [] else codes "and " ++ decimal (n - MAX_TOLD) ++ codes " more events\n"
+abbrev pub more_titled : ℕ → List ℕ
+more_titled n = if nat_le n MAX_TITLED then [] else codes "and " ++ decimal (n - MAX_TITLED) ++ codes " more events\n"
 
 abbrev pub bar_title : Sheet → Bar → Content
 bar_title sheet bar =
     element tags.Title []
-    (text (kept_text sheet.clock sheet.table sheet.events (take MAX_TOLD (told_of bar))
-    ++ more_told (length (told_of bar))) nothing) nothing
+    (text (kept_text sheet.clock sheet.table sheet.events (take MAX_TITLED (titled_events bar))
+    ++ more_titled (length (titled_events bar))) nothing) nothing
 
 -- ---- parts of a row
 

@@ -6,7 +6,7 @@ ghost use Rattle.job_story.specs.Limit.{is_start};
 ghost use Rattle.story_index.specs.Found.{cause_in_code};
 ghost use Rattle.story_index.specs.Knows.{Knows};
 ghost use Rattle.story_index.specs.Seen.{event_in};
-ghost use Rattle.story_text.specs.Told.{events_in, froms_in};
+ghost use Rattle.story_text.specs.Known.{events_in, cancelled_from_in};
 ghost use Rattle.chart.specs.HeldBars.{bar_of};
 ghost use Rattle.svg.specs.Content.{Content, content_text};
 ghost use Rattle.svg.specs.Arrows.{source_of, at_moment, arrow, arrow_from, arrow_by, arrow_at, cancelled_at, arrows_to, arrows};
@@ -16,7 +16,7 @@ use crate::culprits::{MAX_DEPTH, culprit};
 use crate::deadlines::push_deadline;
 use crate::shapes::begin_line;
 use crate::sheet::{Sheet, middle_of};
-use crate::titles::push_told;
+use crate::titles::push_title;
 use crate::waits::push_wait_arrows;
 use crate::{Tag, end};
 use chart::Bar;
@@ -32,8 +32,8 @@ pub(crate) struct Source<'e> {
     pub tick: u64,
 }
 
-// Appends an arrow to each of these bars that a task cancelled, a mark to each that its own deadline cancelled, and an arrow to each
-// wait that ends because a task set the event. An arrow comes from the first bar that is the task's.
+// Appends an arrow to each of these bars that a task cancelled, a mark to each that its own deadline cancelled, and an arrow to
+// each wait that ends because a task set the event. An arrow comes from the first bar that is the task's.
 pub(crate) fn push_arrows(
     alloc: Global,
     out: &mut Vec<u8>,
@@ -41,7 +41,7 @@ pub(crate) fn push_arrows(
     causes: &Causes<'_>,
     bars: &[Bar<'_, '_>],
 ) -> Result<(), AllocError>
-    requires { Knows causes.now (froms_in sheet.now.known.now) (events_in sheet.now.known.now) }
+    requires { Knows causes.now (cancelled_from_in sheet.now.known.now) (events_in sheet.now.known.now) }
     ensures { OnOk result ((rest : Content) → out.new.items ++ content_text rest
         ≡ out.old.items ++ content_text (arrows (sheet_held sheet.now) (map bar_of bars.now) 0 (map bar_of bars.now) rest)) }
 {
@@ -53,8 +53,8 @@ pub(crate) fn push_arrows(
     Ok(())
 }
 
-// Appends the arrows to a bar: one if it is that of a scope or nursery and a task cancelled it, or the mark of its deadline, and one
-// to each wait of its task.
+// Appends the arrows to a bar: one if it is that of a scope or nursery and a task cancelled it, or the mark of its deadline, and
+// one to each wait of its task.
 fn push_arrows_to(
     alloc: Global,
     out: &mut Vec<u8>,
@@ -64,7 +64,7 @@ fn push_arrows_to(
     row: usize,
     bar: &Bar<'_, '_>,
 ) -> Result<(), AllocError>
-    requires { Knows causes.now (froms_in sheet.now.known.now) (events_in sheet.now.known.now) }
+    requires { Knows causes.now (cancelled_from_in sheet.now.known.now) (events_in sheet.now.known.now) }
     ensures { OnOk result ((rest : Content) → out.new.items ++ content_text rest
         ≡ out.old.items ++ content_text (arrows_to (sheet_held sheet.now) (map bar_of bars.now) row (bar_of bar.now) rest)) }
 {
@@ -82,7 +82,7 @@ fn push_arrow_to(
     row: usize,
     bar: &Bar<'_, '_>,
 ) -> Result<(), AllocError>
-    requires { Knows causes.now (froms_in sheet.now.known.now) (events_in sheet.now.known.now) }
+    requires { Knows causes.now (cancelled_from_in sheet.now.known.now) (events_in sheet.now.known.now) }
     ensures { OnOk result ((rest : Content) → out.new.items ++ content_text rest ≡ out.old.items
         ++ content_text (arrow_at (sheet_held sheet.now) (map bar_of bars.now) row (what_of bar.now.first.now.what) bar.now.cancelled rest)) }
 {
@@ -104,8 +104,8 @@ fn push_arrow_to(
     )
 }
 
-// Appends a mark to a scope or nursery that is cancelled from a moment on, if its own deadline is the cause, or else an arrow from the
-// task that cancelled it, if there is one.
+// Appends a mark to a scope or nursery that is cancelled from a moment on, if its own deadline is the cause, or else an arrow
+// from the task that cancelled it, if there is one.
 fn push_cancelled_at(
     alloc: Global,
     out: &mut Vec<u8>,
@@ -116,7 +116,7 @@ fn push_cancelled_at(
     moment: u64,
     cause: Option<Cause<'_>>,
 ) -> Result<(), AllocError>
-    requires { Knows causes.now (froms_in sheet.now.known.now) (events_in sheet.now.known.now) }
+    requires { Knows causes.now (cancelled_from_in sheet.now.known.now) (events_in sheet.now.known.now) }
     ensures { OnOk result ((rest : Content) → out.new.items ++ content_text rest ≡ out.old.items
         ++ content_text (cancelled_at (sheet_held sheet.now) (map bar_of bars.now) row moment (option_map cause_in_code cause.entry) rest)) }
 {
@@ -192,7 +192,7 @@ fn push_arrow(
     let events = at_moment(alloc, source.tick, own)?;
     let start = sheet.x_of(source.tick);
     begin_line(out, b"arrow", start, middle_of(from), x, middle_of(row))?;
-    push_told(alloc, out, sheet, events.as_slice())?;
+    push_title(alloc, out, sheet, events.as_slice())?;
     end(out, Tag::Line)
 }
 

@@ -3,19 +3,19 @@ ghost use Rattle.exceptions.specs.Exceptions as tree;
 ghost use Rattle.exceptions.specs.Held.{exc_of};
 ghost use Rattle.cancel_scopes.specs.Sight.{Tick};
 ghost use Rattle.job_story.specs.Story.{enters};
-ghost use Rattle.job_story.specs.Events as told;
+ghost use Rattle.job_story.specs.Events as story_events;
 ghost use Rattle.job_story.specs.Sentences.{kept_text};
 ghost use Rattle.block_exits.specs.Held.{kind_of};
 ghost use Rattle.job_story.specs.Held.{unboxed_exc};
 ghost use Rattle.story_index.specs.Seen.{event_in};
-ghost use Rattle.story_text.specs.Told.{clock_in, events_in, froms_in};
+ghost use Rattle.story_text.specs.Known.{clock_in, events_in, cancelled_from_in};
 ghost use Rattle.chart.specs.HeldBars.{bar_of, event_seen};
 ghost use Rattle.svg.specs.Content.{content_text};
-ghost use Rattle.svg.specs.Rows.{exc_word, end_word, class_by, class_of, size_of, told_of, more_told, bar_title};
+ghost use Rattle.svg.specs.Rows.{exc_word, end_word, class_by, class_of, size_of, titled_events, more_titled, bar_title};
 ghost use Rattle.svg.specs.Held.{sheet_held, size_held};
-ghost use Rattle.svg.specs.declared.layout.TheConstants.{MAX_TOLD};
+ghost use Rattle.svg.specs.declared.layout.TheConstants.{MAX_TITLED};
 
-use crate::layout::MAX_TOLD;
+use crate::layout::MAX_TITLED;
 use crate::shapes::Size;
 use crate::sheet::Sheet;
 use crate::{Tag, begin, end, inside, text};
@@ -64,8 +64,8 @@ pub(crate) fn class_of(bar: &Bar<'_, '_>) -> &'static [u8]
 
 // Returns the class of the bar of a scope or nursery.
 fn block_class(kind: Kind, shield: bool) -> &'static [u8]
-    ensures { (label : tree.Label) (deadline : Tick) (last : Option told.Event) → result.now
-        ≡ class_by (told.happens (enters (kind_of kind) label deadline shield)) last }
+    ensures { (label : tree.Label) (deadline : Tick) (last : Option story_events.Event) → result.now
+        ≡ class_by (story_events.happens (enters (kind_of kind) label deadline shield)) last }
 {
     match kind {
         Kind::Scope { .. } if shield => b"scope shield",
@@ -117,40 +117,40 @@ pub(crate) fn push_bar_title(
 ) -> Result<(), AllocError>
     ensures { OnOk result (out.new.items ≡ out.old.items ++ content_text (bar_title (sheet_held sheet.now) (bar_of bar.now))) }
 {
-    let events = told_of(alloc, bar)?;
-    let told = told_text(alloc, sheet, events.as_slice())?;
+    let events = titled_events(alloc, bar)?;
+    let title = title_text(alloc, sheet, events.as_slice())?;
     begin(out, Tag::Title)?;
     inside(out)?;
-    text(out, told.as_slice())?;
+    text(out, title.as_slice())?;
     end(out, Tag::Title)
 }
 
 // Returns what the story says of the first of these events, and how many more there are.
-fn told_text(
+fn title_text(
     alloc: Global,
     sheet: &Sheet<'_, '_, '_>,
     events: &[&Event],
 ) -> Result<Vec<u8>, AllocError>
-    ensures { IfOk result (λ told. told.items
-        ≡ kept_text (clock_in sheet.now.known.now) (froms_in sheet.now.known.now) (events_in sheet.now.known.now)
-        (take MAX_TOLD (map event_in events.now)) ++ more_told (length (map event_in events.now))) }
+    ensures { IfOk result (λ title. title.items
+        ≡ kept_text (clock_in sheet.now.known.now) (cancelled_from_in sheet.now.known.now) (events_in sheet.now.known.now)
+        (take MAX_TITLED (map event_in events.now)) ++ more_titled (length (map event_in events.now))) }
 {
-    let mut told = kept_text(alloc, first_of(events), sheet.known)?;
-    push_more(&mut told, events.len())?;
-    Ok(told)
+    let mut title = kept_text(alloc, first_of(events), sheet.known)?;
+    push_more(&mut title, events.len())?;
+    Ok(title)
 }
 
 // Returns the first of these events, as many as a title shows.
 fn first_of<'s, 'e>(events: &'s [&'e Event]) -> &'s [&'e Event]
-    ensures { map event_in result.now ≡ take MAX_TOLD (map event_in events.now) }
+    ensures { map event_in result.now ≡ take MAX_TITLED (map event_in events.now) }
 {
-    let (first, _) = events.split_at(MAX_TOLD.min(events.len()));
+    let (first, _) = events.split_at(MAX_TITLED.min(events.len()));
     first
 }
 
 // Returns the events that the title of a bar shows.
-fn told_of<'e>(alloc: Global, bar: &Bar<'_, 'e>) -> Result<Vec<&'e Event>, AllocError>
-    ensures { IfOk result (λ events. map event_in events.items ≡ told_of (bar_of bar.now)) }
+fn titled_events<'e>(alloc: Global, bar: &Bar<'_, 'e>) -> Result<Vec<&'e Event>, AllocError>
+    ensures { IfOk result (λ events. map event_in events.items ≡ titled_events (bar_of bar.now)) }
 {
     if let What::Starts { .. } = bar.first.what {
         return Vec::from_slice(alloc, bar.own);
@@ -165,12 +165,12 @@ fn told_of<'e>(alloc: Global, bar: &Bar<'_, 'e>) -> Result<Vec<&'e Event>, Alloc
 
 // Appends that there are more events than the title shows, if there are.
 fn push_more(out: &mut Vec<u8>, count: usize) -> Result<(), AllocError>
-    ensures { OnOk result (out.new.items ≡ out.old.items ++ more_told count) }
+    ensures { OnOk result (out.new.items ≡ out.old.items ++ more_titled count) }
 {
-    if count <= MAX_TOLD {
+    if count <= MAX_TITLED {
         return Ok(());
     }
-    push_left(out, (count - MAX_TOLD) as u64)
+    push_left(out, (count - MAX_TITLED) as u64)
 }
 
 // Appends how many more events there are.

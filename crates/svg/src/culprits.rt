@@ -4,7 +4,7 @@ ghost use Rattle.job_story.specs.Held.{what_of, event_of};
 ghost use Rattle.story_index.specs.Found.{cause_in_code};
 ghost use Rattle.story_index.specs.Knows.{Knows};
 ghost use Rattle.story_index.specs.Seen.{event_in};
-ghost use Rattle.story_text.specs.Told.{events_in, froms_in};
+ghost use Rattle.story_text.specs.Known.{events_in, cancelled_from_in};
 ghost use Rattle.chart.specs.HeldBars.{bar_of};
 ghost use Rattle.svg.specs.Arrows.{canceller_by, canceller, own_of, cause_of_label, cause_behind, culprit};
 ghost use Rattle.svg.specs.Held.{label_seen, sheet_held, source_held};
@@ -28,7 +28,7 @@ pub(crate) fn culprit<'e>(
     steps: u64,
     cause: Option<Cause<'e>>,
 ) -> Option<Source<'e>>
-    requires { Knows causes.now (froms_in sheet.now.known.now) (events_in sheet.now.known.now) }
+    requires { Knows causes.now (cancelled_from_in sheet.now.known.now) (events_in sheet.now.known.now) }
     ensures { option_map source_held result
         ≡ culprit (sheet_held sheet.now) (map bar_of bars.now) steps (option_map cause_in_code cause.entry) }
 {
@@ -41,14 +41,15 @@ pub(crate) fn culprit<'e>(
     source_of(behind)
 }
 
-// Returns a cause, or, if that is a task that was merely cancelled, why the scope or nursery is cancelled that cancelled the task.
+// Returns a cause, or, if that is a task that was merely cancelled, why the scope or nursery is cancelled that cancelled the
+// task.
 fn cause_behind<'e>(
     sheet: &Sheet<'_, '_, '_>,
     causes: &Causes<'e>,
     bars: &[Bar<'_, '_>],
     cause: Option<Cause<'e>>,
 ) -> Option<Cause<'e>>
-    requires { Knows causes.now (froms_in sheet.now.known.now) (events_in sheet.now.known.now) }
+    requires { Knows causes.now (cancelled_from_in sheet.now.known.now) (events_in sheet.now.known.now) }
     ensures { option_map cause_in_code result
         ≡ cause_behind (sheet_held sheet.now) (map bar_of bars.now) (option_map cause_in_code cause.entry) }
 {
@@ -72,7 +73,7 @@ fn cause_of_label<'e>(
     causes: &Causes<'e>,
     label: Option<&Label>,
 ) -> Option<Cause<'e>>
-    requires { Knows causes.now (froms_in sheet.now.known.now) (events_in sheet.now.known.now) }
+    requires { Knows causes.now (cancelled_from_in sheet.now.known.now) (events_in sheet.now.known.now) }
     ensures { option_map cause_in_code result ≡ cause_of_label (sheet_held sheet.now) (label_seen label.entry) }
 {
     let Some(label) = label else {
@@ -104,8 +105,8 @@ fn canceller<'e>(moment: u64, events: &[&'e Event]) -> Option<&'e Label>
     found
 }
 
-// Returns the scope or nursery whose cancellation the task saw with this event, if that is not after this moment, or else the one that
-// was found before.
+// Returns the scope or nursery whose cancellation the task saw with this event, if that is not after this moment, or else the one
+// that was found before.
 fn later_canceller<'e>(found: Option<&'e Label>, moment: u64, event: &'e Event) -> Option<&'e Label>
     ensures { label_seen result ≡ (if nat_le event.entry.now.tick moment
         then canceller_by (label_seen found.entry) (what_of event.entry.now.what) else label_seen found.entry) }

@@ -38,19 +38,19 @@ fn push_deadline_title(
 ) -> Result<(), AllocError>
     ensures { OnOk result (out.new.items ≡ out.old.items ++ content_text (deadline_title (sheet_held sheet.now).clock moment)) }
 {
-    let told = deadline_text(alloc, sheet.tick_of(moment))?;
+    let title = deadline_text(alloc, sheet.tick_of(moment))?;
     begin(out, Tag::Title)?;
     inside(out)?;
-    text(out, told.as_slice())?;
+    text(out, title.as_slice())?;
     end(out, Tag::Title)
 }
 
 // Returns the title of the mark of a deadline that is at this tick.
 fn deadline_text(alloc: Global, tick: u64) -> Result<Vec<u8>, AllocError>
-    ensures { IfOk result (λ told. told.items ≡ codes "deadline " ++ decimal tick) }
+    ensures { IfOk result (λ title. title.items ≡ codes "deadline " ++ decimal tick) }
 {
-    let mut told = Vec::new(alloc);
-    told.extend_from_slice(b"deadline ")?;
-    push_number(&mut told, tick)?;
-    Ok(told)
+    let mut title = Vec::new(alloc);
+    title.extend_from_slice(b"deadline ")?;
+    push_number(&mut title, tick)?;
+    Ok(title)
 }

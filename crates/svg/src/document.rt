@@ -1,9 +1,9 @@
 ghost use Rattle.std.specs.Prelude.{◌≡◌, ◌≤◌, ◌+◌, ◌*◌, ◌++◌, [], IfOk, OnOk, length, map, take};
 ghost use Rattle.job_story.specs.Events.{in_order};
-ghost use Rattle.job_story.specs.Froms.{table_in};
+ghost use Rattle.job_story.specs.CancelledFrom.{table_in};
 ghost use Rattle.story_index.specs.Knows.{Knows};
 ghost use Rattle.story_index.specs.Seen.{event_in};
-ghost use Rattle.story_text.specs.Told.{events_in, froms_in};
+ghost use Rattle.story_text.specs.Known.{events_in, cancelled_from_in};
 ghost use Rattle.chart.specs.HeldBars.{bar_of};
 ghost use Rattle.svg.specs.Content.{Content, nothing, text, element, content_text, start_tag, IsDocument};
 ghost use Rattle.svg.specs.declared.names.Tag.TheVariants as tags;
@@ -30,20 +30,21 @@ use chart::{
     Bar, all_ticks, columns_of, last_tick, less_to_fit, longest_name, longest_outcome, push_name,
 };
 use job_meaning::Clock;
-use job_story::{Event, Froms};
+use job_story::{CancelledFrom, Event};
 use std::alloc::{AllocError, Global};
 use story_index::Causes;
 use story_text::Known;
 
 /// Returns a chart as an SVG document, which is always well formed. The story is given by the clock of its moments, its events in
 /// the order of the walk (`walked`), the same events in order (`sorted`), the table with the moments from which scopes and
-/// nurseries are cancelled and events of the job set (`froms`), the index of the sorted events and this table (`causes`), and the
-/// bars of the events. The caller must ensure that `sorted` is `in_order` of `walked`, and that `causes` is that index.
+/// nurseries are cancelled and events of the job set (`cancelled_from`), the index of the sorted events and this table
+/// (`causes`), and the bars of the events. The caller must ensure that `sorted` is `in_order` of `walked`, and that `causes` is
+/// that index.
 ///
 /// There is a column for each tick at which something happens. The gaps between them are as much smaller as in a text chart of
-/// `width` characters, but not so small that the numbers above them overlap. A note says so if they are not to scale. `until` is the
-/// limit at which the story is cut off, or `None` for a whole story. At most 2,000 rows are drawn, and a note says how many are left
-/// out. Returns `AllocError` if memory runs out.
+/// `width` characters, but not so small that the numbers above them overlap. A note says so if they are not to scale. `until` is
+/// the limit at which the story is cut off, or `None` for a whole story. At most 2,000 rows are drawn, and a note says how many
+/// are left out. Returns `AllocError` if memory runs out.
 pub fn chart_svg<'e>(
     alloc: Global,
     clock: Clock,
@@ -51,20 +52,20 @@ pub fn chart_svg<'e>(
     until: Option<u64>,
     walked: &[&'e Event],
     sorted: &[&'e Event],
-    froms: &Froms,
+    cancelled_from: &CancelledFrom,
     causes: &Causes<'e>,
     bars: &[Bar<'_, 'e>],
 ) -> Result<Vec<u8>, AllocError>
-    requires knows { Knows causes.now (table_in froms.now) (map event_in sorted.now) }
+    requires knows { Knows causes.now (table_in cancelled_from.now) (map event_in sorted.now) }
     requires sorted { map event_in sorted.now ≡ in_order (map event_in walked.now) }
     ensures drawing { IfOk result (λ svg. svg.items
-        ≡ chart_svg clock width (table_in froms.now) until (map event_in walked.now) (map bar_of bars.now)) }
+        ≡ chart_svg clock width (table_in cancelled_from.now) until (map event_in walked.now) (map bar_of bars.now)) }
     ensures well_formed { IfOk result (λ svg. IsDocument svg.items) }
 {
     let ticks = all_ticks(alloc, clock, walked, until)?;
     let columns = columns_of(alloc, ticks.as_slice())?;
     let less = less_to_fit(alloc, width, columns.as_slice(), bars)?;
-    let known = Known::new(clock, sorted, froms, causes);
+    let known = Known::new(clock, sorted, cancelled_from, causes);
     let sheet = Sheet {
         names: longest_name(alloc, bars)?,
         columns: columns.as_slice(),
@@ -83,7 +84,7 @@ fn document(
     until: Option<u64>,
     bars: &[Bar<'_, '_>],
 ) -> Result<Vec<u8>, AllocError>
-    requires { Knows causes.now (froms_in sheet.now.known.now) (events_in sheet.now.known.now) }
+    requires { Knows causes.now (cancelled_from_in sheet.now.known.now) (events_in sheet.now.known.now) }
     ensures drawing { IfOk result (λ svg. svg.items ≡ content_text (document (sheet_held sheet.now) until (map bar_of bars.now))) }
     ensures well_formed { IfOk result (λ svg. IsDocument svg.items) }
 {
@@ -121,7 +122,7 @@ fn push_inside(
     until: Option<u64>,
     bars: &[Bar<'_, '_>],
 ) -> Result<(), AllocError>
-    requires { Knows causes.now (froms_in sheet.now.known.now) (events_in sheet.now.known.now) }
+    requires { Knows causes.now (cancelled_from_in sheet.now.known.now) (events_in sheet.now.known.now) }
     ensures { OnOk result (out.new.items ≡ out.old.items ++ content_text (inside_of (sheet_held sheet.now) until (map bar_of bars.now))) }
 {
     push_head(alloc, out, bars)?;
@@ -162,7 +163,7 @@ fn push_shown(
     causes: &Causes<'_>,
     shown: &[Bar<'_, '_>],
 ) -> Result<(), AllocError>
-    requires { Knows causes.now (froms_in sheet.now.known.now) (events_in sheet.now.known.now) }
+    requires { Knows causes.now (cancelled_from_in sheet.now.known.now) (events_in sheet.now.known.now) }
     ensures { OnOk result ((rest : Content) → out.new.items ++ content_text rest ≡ out.old.items
         ++ content_text (rows (sheet_held sheet.now) 0 (map bar_of shown.now)
         (arrows (sheet_held sheet.now) (map bar_of shown.now) 0 (map bar_of shown.now) rest))) }

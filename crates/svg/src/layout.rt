@@ -29,7 +29,7 @@ pub const SAMPLE: u64 = 180;
 pub const LEGEND: u64 = 560;
 
 /// The maximum number of events that the title of a task's bar shows.
-pub const MAX_TOLD: usize = 100;
+pub const MAX_TITLED: usize = 100;
 
 /// The maximum number of rows that are shown.
 pub const MAX_ROWS: usize = 2_000;

@@ -9,7 +9,7 @@ ghost use Rattle.svg.specs.Held.{sheet_held};
 
 use crate::shapes::{begin_dot, begin_use};
 use crate::sheet::{Sheet, middle_of};
-use crate::titles::push_told;
+use crate::titles::push_title;
 use crate::{Tag, end};
 use chart::{is_cross, is_dot};
 use job_story::Event;
@@ -65,7 +65,7 @@ fn push_cross(
         (events_title (sheet_held sheet.now) (event_of event.now ∷ [])) rest)) }
 {
     begin_use(out, b"#cross", sheet.x_of(event.tick), middle_of(row))?;
-    push_told(alloc, out, sheet, &[event])?;
+    push_title(alloc, out, sheet, &[event])?;
     end(out, Tag::Use)
 }
 
@@ -82,6 +82,6 @@ fn push_dot(
         (events_title (sheet_held sheet.now) (event_of event.now ∷ [])) rest)) }
 {
     begin_dot(out, sheet.x_of(event.tick), middle_of(row))?;
-    push_told(alloc, out, sheet, &[event])?;
+    push_title(alloc, out, sheet, &[event])?;
     end(out, Tag::Circle)
 }

@@ -7,8 +7,8 @@ use crate::names::{Attr, Tag};
 use itoa::Buffer;
 use std::alloc::AllocError;
 
-/// Begins an element. The caller appends its attributes next, and then calls `inside`. Returns `AllocError` if memory runs out; `out`
-/// may then end in a part of what was to be appended.
+/// Begins an element. The caller appends its attributes next, and then calls `inside`. Returns `AllocError` if memory runs out;
+/// `out` may then end in a part of what was to be appended.
 pub fn begin(out: &mut Vec<u8>, tag: Tag) -> Result<(), AllocError>
     ensures { OnOk result (out.new.items ≡ out.old.items ++ (codes "<" ++ tag_name tag)) }
 {
@@ -36,16 +36,16 @@ pub fn number(out: &mut Vec<u8>, name: Attr, n: u64) -> Result<(), AllocError>
     attribute(out, name, buffer.format(n).as_bytes())
 }
 
-/// Ends the attributes of an element. The caller appends the content of the element next, and then calls `end`. Returns `AllocError`
-/// if memory runs out.
+/// Ends the attributes of an element. The caller appends the content of the element next, and then calls `end`. Returns
+/// `AllocError` if memory runs out.
 pub fn inside(out: &mut Vec<u8>) -> Result<(), AllocError>
     ensures { OnOk result (out.new.items ≡ out.old.items ++ codes ">") }
 {
     out.extend_from_slice(b">")
 }
 
-/// Appends text, escaped. A byte that is neither a printable character of ASCII nor a newline is written as a question mark. Returns
-/// `AllocError` if memory runs out.
+/// Appends text, escaped. A byte that is neither a printable character of ASCII nor a newline is written as a question mark.
+/// Returns `AllocError` if memory runs out.
 #[tactic(auto, unfolding(crate::specs::Escaping::escaped_text))]
 pub fn text(out: &mut Vec<u8>, bytes: &[u8]) -> Result<(), AllocError>
     ensures { OnOk result (out.new.items ≡ out.old.items ++ escaped_text bytes.now) }

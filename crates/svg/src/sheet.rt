@@ -1,6 +1,6 @@
 ghost use Rattle.std.specs.Prelude.{◌≡◌, ◌≤◌};
 ghost use Rattle.job_meaning.specs.Clocks.{tick_of};
-ghost use Rattle.story_text.specs.Told.{clock_in};
+ghost use Rattle.story_text.specs.Known.{clock_in};
 ghost use Rattle.svg.specs.Sheets.{x_from, x_at, x_of, x_by, outcome_x, y_of, middle_of};
 
 use crate::axis::place;

@@ -11,7 +11,7 @@ use std::alloc::{AllocError, Global};
 use story_text::kept_text;
 
 // Appends what the story says of these events, as a title.
-pub(crate) fn push_told(
+pub(crate) fn push_title(
     alloc: Global,
     out: &mut Vec<u8>,
     sheet: &Sheet<'_, '_, '_>,
@@ -19,9 +19,9 @@ pub(crate) fn push_told(
 ) -> Result<(), AllocError>
     ensures { OnOk result (out.new.items ≡ out.old.items ++ content_text (events_title (sheet_held sheet.now) (map event_in events.now))) }
 {
-    let told = kept_text(alloc, events, sheet.known)?;
+    let title = kept_text(alloc, events, sheet.known)?;
     begin(out, Tag::Title)?;
     inside(out)?;
-    text(out, told.as_slice())?;
+    text(out, title.as_slice())?;
     end(out, Tag::Title)
 }

@@ -4,7 +4,7 @@ ghost use Rattle.job_story.specs.Held.{what_of};
 ghost use Rattle.job_story.specs.Tell.{is_from};
 ghost use Rattle.story_index.specs.Knows.{Knows};
 ghost use Rattle.story_index.specs.Seen.{event_in};
-ghost use Rattle.story_text.specs.Told.{events_in, froms_in};
+ghost use Rattle.story_text.specs.Known.{events_in, cancelled_from_in};
 ghost use Rattle.chart.specs.HeldBars.{bar_of};
 ghost use Rattle.svg.specs.Content.{Content, content_text};
 ghost use Rattle.svg.specs.Arrows.{event_set, beside, wait_arrow, wait_arrows};
@@ -28,7 +28,7 @@ pub(crate) fn push_wait_arrows(
     row: usize,
     events: &[&Event],
 ) -> Result<(), AllocError>
-    requires { Knows causes.now (froms_in sheet.now.known.now) (events_in sheet.now.known.now) }
+    requires { Knows causes.now (cancelled_from_in sheet.now.known.now) (events_in sheet.now.known.now) }
     ensures { OnOk result ((rest : Content) → out.new.items ++ content_text rest
         ≡ out.old.items ++ content_text (wait_arrows (sheet_held sheet.now) (map bar_of bars.now) row (map event_in events.now) rest)) }
 {
@@ -48,7 +48,7 @@ fn push_wait_arrow(
     row: usize,
     event: &Event,
 ) -> Result<(), AllocError>
-    requires { Knows causes.now (froms_in sheet.now.known.now) (events_in sheet.now.known.now) }
+    requires { Knows causes.now (cancelled_from_in sheet.now.known.now) (events_in sheet.now.known.now) }
     ensures { OnOk result ((rest : Content) → out.new.items ++ content_text rest ≡ out.old.items
         ++ content_text (wait_arrow (sheet_held sheet.now) (map bar_of bars.now) row event.now.task event.now.tick
         (event_set (what_of event.now.what)) rest)) }

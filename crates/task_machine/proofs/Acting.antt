@@ -169,7 +169,7 @@ one_signed tick s tree key label labelled no_event cancels =
       events = refl;
       set = refl;
       own = refl;
-      froms = refl;
+      cancelled_from = refl;
     }) (no_act (record s { tree = tree }))
 
 none_signed : (tick : ℕ) (s : Scoping) (tree : Tree) → tree ≡ s.tree → Acts tick s [] (record s { tree = tree })
@@ -186,21 +186,21 @@ signed_as tick s tree (Some key) label at none signed =
     (one_signed tick s tree key at.1.0 (at.0 ∙ at.1.1) (none key refl) signed)
 
 -- by a name
-pub found_signed : (tick : ℕ) (s : Scoping) (tree : Tree) (name : List ℕ) (froms : Table) (st : Stack) (ps : List Place) →
-    AreAt s.labels s.events froms st ps → Signed tick s.tree tree (scope_named false s.labels s.events name st) →
+pub found_signed : (tick : ℕ) (s : Scoping) (tree : Tree) (name : List ℕ) (cancelled_from : Table) (st : Stack) (ps : List Place) →
+    AreAt s.labels s.events cancelled_from st ps → Signed tick s.tree tree (scope_named false s.labels s.events name st) →
     Acts tick s (signs_to (label_among false name ps) tick) (record s { tree = tree })
-found_signed tick s tree name froms st ps a signed =
+found_signed tick s tree name cancelled_from st ps a signed =
     signed_as tick s tree (scope_named false s.labels s.events name st) (label_among false name ps)
-    (named_at false s.labels s.events froms name st ps a)
+    (named_at false s.labels s.events cancelled_from name st ps a)
     (λ key e. no_event (s.events key) (named_sought false s.labels s.events name st key e)) signed
 
 -- the innermost scope that is no event, by a task or body that failed
-pub home_signed : (tick : ℕ) (s : Scoping) (tree : Tree) (exc : Option Exc) (froms : Table) (st : Stack) (ps : List Place) →
-    AreAt s.labels s.events froms st ps → Signed tick s.tree tree (key_failed exc s.events st) →
+pub home_signed : (tick : ℕ) (s : Scoping) (tree : Tree) (exc : Option Exc) (cancelled_from : Table) (st : Stack) (ps : List Place) →
+    AreAt s.labels s.events cancelled_from st ps → Signed tick s.tree tree (key_failed exc s.events st) →
     Acts tick s (signs_home exc ps tick) (record s { tree = tree })
-home_signed tick s tree None froms st ps a signed = none_signed tick s tree signed
-home_signed tick s tree (Some e) froms st ps a signed =
-    signed_as tick s tree (home_key s.events st) (home_among ps) (home_at s.labels s.events froms st ps a)
+home_signed tick s tree None cancelled_from st ps a signed = none_signed tick s tree signed
+home_signed tick s tree (Some e) cancelled_from st ps a signed =
+    signed_as tick s tree (home_key s.events st) (home_among ps) (home_at s.labels s.events cancelled_from st ps a)
     (λ key f. home_no_event s.events st key f) signed
 
 -- an event that was found is set, or none is
@@ -226,7 +226,7 @@ found_set b events set cancelled (Some key) label at opened sets =
       tree = refl;
       labels = refl;
       own = refl;
-      froms = refl;
+      cancelled_from = refl;
     }) (no_act (scoping_in u)))
 
 -- ---- scopes that are entered and left

@@ -42,15 +42,15 @@ use Rattle.task_machine.proofs.Tooks.{took_onward, took_end, took_exit, took_eve
 
 -- what the definitions do by this frame, which was the innermost one, is their step
 pub takes_step : (b u : State) (whole fs : List Frame) (f : Frame) (goes : Moved) (exc : Option Exc) → whole ≡ fs ++ f ∷ [] →
-    ((froms : Table) (numbers : Numbers) (ps : List Place) (count : ℕ) → Stands (with_frames b whole) froms numbers None ps →
-    Took (with_frames b whole) u goes froms numbers
-    (step_frames froms (now_at b) (here_at b) (frame_of numbers f ∷ frames_of numbers fs) ps exc count)) →
+    ((cancelled_from : Table) (numbers : Numbers) (ps : List Place) (count : ℕ) → Stands (with_frames b whole) cancelled_from numbers None ps →
+    Took (with_frames b whole) u goes cancelled_from numbers
+    (step_frames cancelled_from (now_at b) (here_at b) (frame_of numbers f ∷ frames_of numbers fs) ps exc count)) →
     StepsAs (with_frames b whole) u exc goes
 unfolding step_of
-takes_step b u whole fs f goes exc popped takes froms numbers ps count stands =
-    subst (λ (gs : List rest.Frame). Took (with_frames b whole) u goes froms numbers
-    (step_frames froms (now_at b) (here_at b) gs ps exc count))
-    (sym (frames_pushed numbers fs whole f popped)) (takes froms numbers ps count stands)
+takes_step b u whole fs f goes exc popped takes cancelled_from numbers ps count stands =
+    subst (λ (gs : List rest.Frame). Took (with_frames b whole) u goes cancelled_from numbers
+    (step_frames cancelled_from (now_at b) (here_at b) gs ps exc count))
+    (sym (frames_pushed numbers fs whole f popped)) (takes cancelled_from numbers ps count stands)
 
 -- ---- the blocks among frames
 
@@ -111,35 +111,35 @@ pub takes_end : (b u : State) (whole : List Frame) (tree : Tree) (exc : Option h
     (0 < length whole → false ≡ true) → goes ≡ Stops (Ended exc) → u ≡ record b { task_state = Over; tree = tree } →
     FailsAt b u (option_map exc_of exc) → StepsAs (with_frames b whole) u (option_map exc_of exc) goes
 unfolding step_of
-takes_end b u whole tree exc goes popped none goes_is stays fails froms numbers ps count stands =
+takes_end b u whole tree exc goes popped none goes_is stays fails cancelled_from numbers ps count stands =
     let e = option_map exc_of exc in
     let empty : whole ≡ [] = none_left whole none in
-    subst (λ (m : Moved). Took (with_frames b whole) u m froms numbers
-    (step_frames froms (now_at b) (here_at b) (frames_of numbers whole) ps e count)) (sym goes_is)
-    (subst (λ (fs : List Frame). Took (with_frames b whole) u (Stops (Ended exc)) froms numbers
-    (step_frames froms (now_at b) (here_at b) (frames_of numbers fs) ps e count)) (sym empty)
-    (subst (λ (v : State). FailsAt b v e → Took (with_frames b whole) v (Stops (Ended exc)) froms numbers
-    (step_frames froms (now_at b) (here_at b) [] ps e count)) (sym stays)
-    (took_end b whole froms numbers None ps stands tree exc empty (sym (append-nil b.frames) ∙ sym popped ∙ empty)) fails))
+    subst (λ (m : Moved). Took (with_frames b whole) u m cancelled_from numbers
+    (step_frames cancelled_from (now_at b) (here_at b) (frames_of numbers whole) ps e count)) (sym goes_is)
+    (subst (λ (fs : List Frame). Took (with_frames b whole) u (Stops (Ended exc)) cancelled_from numbers
+    (step_frames cancelled_from (now_at b) (here_at b) (frames_of numbers fs) ps e count)) (sym empty)
+    (subst (λ (v : State). FailsAt b v e → Took (with_frames b whole) v (Stops (Ended exc)) cancelled_from numbers
+    (step_frames cancelled_from (now_at b) (here_at b) [] ps e count)) (sym stays)
+    (took_end b whole cancelled_from numbers None ps stands tree exc empty (sym (append-nil b.frames) ∙ sym popped ∙ empty)) fails))
 
 -- the innermost scope is left
 pub takes_exit : (b u : State) (whole : List Frame) (fail : Bool) (exc goes : Option held.Exc) → whole ≡ b.frames ++ Scope fail ∷ [] →
-    u ≡ record b { own = u.own; froms = u.froms; entries = u.entries; tree = u.tree; labels = u.labels; events = u.events } →
+    u ≡ record b { own = u.own; cancelled_from = u.cancelled_from; entries = u.entries; tree = u.tree; labels = u.labels; events = u.events } →
     ExitsAt b u (kind.Scope fail) (option_map exc_of exc) (option_map exc_of goes) → Leaves (scoping_in b) (scoping_in u) →
     StepsAs (with_frames b whole) u (option_map exc_of exc) (On goes)
 takes_exit b u whole fail exc goes popped stays exits one =
     takes_step b u whole b.frames (Scope fail) (On goes) (option_map exc_of exc) popped
-    (λ froms numbers ps count stands.
-    took_exit b whole froms numbers ps stands u fail exc goes count popped (ap (λ (s : State). s.frames) stays)
+    (λ cancelled_from numbers ps count stands.
+    took_exit b whole cancelled_from numbers ps stands u fail exc goes count popped (ap (λ (s : State). s.frames) stays)
     (ap (λ (s : State). s.book) stays) (ap (λ (s : State). s.started) stays) (ap (λ (s : State). s.cancelled) stays) exits one)
 
 -- the innermost event is left
 pub takes_event_left : (b u : State) (whole : List Frame) (exc : Option held.Exc) → whole ≡ b.frames ++ Event ∷ [] →
-    u ≡ record b { own = u.own; froms = u.froms; tree = u.tree; labels = u.labels; events = u.events } → LeavesEventAt b u →
+    u ≡ record b { own = u.own; cancelled_from = u.cancelled_from; tree = u.tree; labels = u.labels; events = u.events } → LeavesEventAt b u →
     Leaves (scoping_in b) (scoping_in u) → StepsAs (with_frames b whole) u (option_map exc_of exc) (On exc)
 takes_event_left b u whole exc popped stays left one =
     takes_step b u whole b.frames Event (On exc) (option_map exc_of exc) popped
-    (λ froms numbers ps count stands. took_event_left b whole froms numbers ps stands u exc count popped stays left one)
+    (λ cancelled_from numbers ps count stands. took_event_left b whole cancelled_from numbers ps stands u exc count popped stays left one)
 
 -- the body of the innermost nursery has ended
 pub takes_body : (b u : State) (whole : List Frame) (id : ℕ) (tree : Tree) (book : NurseryBook) (exc : Option held.Exc) (goes : Moved) →
@@ -149,12 +149,12 @@ pub takes_body : (b u : State) (whole : List Frame) (id : ℕ) (tree : Tree) (bo
     FailsAt b u (option_map exc_of exc) → StepsAs (with_frames b whole) u (option_map exc_of exc) goes
 takes_body b u whole id tree book exc goes popped goes_is stays changes fails =
     takes_step b u whole b.frames (Nursery id) goes e popped
-    (λ froms numbers ps count stands.
-    subst (λ (m : Moved). Took (with_frames b whole) u m froms numbers
-    (step_frames froms (now_at b) (here_at b) (rest.in_nursery (numbers id) ∷ frames_of numbers b.frames) ps e count)) (sym goes_is)
-    (subst (λ (v : State). FailsAt b v e → Took (with_frames b whole) v (Stops (Wait id)) froms numbers
-    (step_frames froms (now_at b) (here_at b) (rest.in_nursery (numbers id) ∷ frames_of numbers b.frames) ps e count)) (sym stays)
-    (took_body b whole froms numbers ps stands id exc tree book count popped changes) fails))
+    (λ cancelled_from numbers ps count stands.
+    subst (λ (m : Moved). Took (with_frames b whole) u m cancelled_from numbers
+    (step_frames cancelled_from (now_at b) (here_at b) (rest.in_nursery (numbers id) ∷ frames_of numbers b.frames) ps e count)) (sym goes_is)
+    (subst (λ (v : State). FailsAt b v e → Took (with_frames b whole) v (Stops (Wait id)) cancelled_from numbers
+    (step_frames cancelled_from (now_at b) (here_at b) (rest.in_nursery (numbers id) ∷ frames_of numbers b.frames) ps e count)) (sym stays)
+    (took_body b whole cancelled_from numbers ps stands id exc tree book count popped changes) fails))
   where
     e : Option Exc
     e = option_map exc_of exc
@@ -164,17 +164,17 @@ takes_body b u whole id tree book exc goes popped goes_is stays changes fails =
 -- the task continues with other frames, where the definitions do
 pub takes_onward : (b u : State) (whole : List Frame) (f : Frame) (exc : Option Exc) (goes : Option held.Exc) → whole ≡ b.frames ++ f ∷ [] →
     blocks_of (f ∷ []) ≡ [] → u ≡ with_frames b u.frames → blocks_of u.frames ≡ blocks_of b.frames →
-    ((froms : Table) (numbers : Numbers) (ps : List Place) (count : ℕ) →
-    step_frames froms (now_at b) (here_at b) (frame_of numbers f ∷ frames_of numbers b.frames) ps exc count
+    ((cancelled_from : Table) (numbers : Numbers) (ps : List Place) (count : ℕ) →
+    step_frames cancelled_from (now_at b) (here_at b) (frame_of numbers f ∷ frames_of numbers b.frames) ps exc count
     ≡ onward (frames_of numbers u.frames) ps (option_map exc_of goes)) →
     StepsAs (with_frames b whole) u exc (On goes)
 takes_onward b u whole f exc goes popped none stays same step =
     takes_step b u whole b.frames f (On goes) exc popped
-    (λ froms numbers ps count stands.
-    subst (λ (v : State). Took (with_frames b whole) v (On goes) froms numbers
-    (step_frames froms (now_at b) (here_at b) (frame_of numbers f ∷ frames_of numbers b.frames) ps exc count)) (sym stays)
-    (took_onward b whole froms numbers None ps stands u.frames goes _ (same ∙ blocks_off b.frames whole f popped none)
-    (step froms numbers ps count)))
+    (λ cancelled_from numbers ps count stands.
+    subst (λ (v : State). Took (with_frames b whole) v (On goes) cancelled_from numbers
+    (step_frames cancelled_from (now_at b) (here_at b) (frame_of numbers f ∷ frames_of numbers b.frames) ps exc count)) (sym stays)
+    (took_onward b whole cancelled_from numbers None ps stands u.frames goes _ (same ∙ blocks_off b.frames whole f popped none)
+    (step cancelled_from numbers ps count)))
 
 -- ---- a task in a pass of a `repeat`
 
@@ -194,7 +194,7 @@ takes_pass b u whole pass left body exc goes popped stays step =
     takes_onward b u whole (Repeat pass left body) (option_map exc_of exc) goes popped refl stays
     (blocks_same b.frames u.frames (sym (ap (λ (o : Move). blocks_onto o.frames []) (step own_keys []))
     ∙ pass_blocks pass left body.now (frames_of own_keys b.frames) [] (option_map exc_of exc)))
-    (λ froms numbers ps count. step numbers ps)
+    (λ cancelled_from numbers ps count. step numbers ps)
 
 -- ---- a task in a `try`
 
@@ -221,7 +221,7 @@ takes_try b u whole handler cleanup exc goes popped stays step =
     takes_onward b u whole (Try handler cleanup) (option_map exc_of exc) goes popped refl stays
     (blocks_same b.frames u.frames (sym (ap (λ (o : Move). blocks_onto o.frames []) (step own_keys []))
     ∙ try_blocks (handled_of (option_copied handler)) (cleaned_of cleanup.now) (frames_of own_keys b.frames) [] (option_map exc_of exc)))
-    (λ froms numbers ps count. step numbers ps)
+    (λ cancelled_from numbers ps count. step numbers ps)
 
 -- its handler has ended
 pub takes_handler : (b u : State) (whole : List Frame) (others : Option (Box held.Exc)) (cleanup : Bor (Option tree.Steps))
@@ -232,7 +232,7 @@ pub takes_handler : (b u : State) (whole : List Frame) (others : Option (Box hel
 takes_handler b u whole others cleanup exc goes popped stays held raised =
     takes_onward b u whole (Handler others cleanup) (option_map exc_of exc) goes popped refl stays
     (blocks_same b.frames u.frames (ap (λ (fs : List rest.Frame). blocks_onto fs []) (held own_keys)))
-    (λ froms numbers ps count.
+    (λ cancelled_from numbers ps count.
     ap (λ (fs : List rest.Frame). onward fs ps (handler_exc (option_map exc_of exc) (option_map exc_of (unboxed_exc others)))) (sym (held numbers))
     ∙ ap (λ (e : Option Exc). onward (frames_of numbers u.frames) ps e) (sym raised))
 
@@ -243,7 +243,7 @@ pub takes_cleanup : (b : State) (whole : List Frame) (outcome : Option (Box held
     StepsAs (with_frames b whole) b (option_map exc_of exc) (On goes)
 takes_cleanup b whole outcome exc goes popped raised =
     takes_onward b b whole (Cleanup outcome) (option_map exc_of exc) goes popped refl refl refl
-    (λ froms numbers ps count. ap (λ (e : Option Exc). onward (frames_of numbers b.frames) ps e) (sym raised))
+    (λ cancelled_from numbers ps count. ap (λ (e : Option Exc). onward (frames_of numbers b.frames) ps e) (sym raised))
 
 -- ---- a task at the end of steps
 
@@ -253,7 +253,7 @@ pub takes_skipped : (b : State) (steps : Bor (List Step)) (exc : Option held.Exc
 takes_skipped b steps exc e is =
     subst (λ (x : Option held.Exc). StepsAs (with_frames b (b.frames ++ Steps steps ∷ [])) b (option_map exc_of x) (On (Some e))) (sym is)
     (takes_onward b b (b.frames ++ Steps steps ∷ []) (Steps steps) (Some (exc_of e)) (Some e) refl refl refl refl
-    (λ froms numbers ps count. refl))
+    (λ cancelled_from numbers ps count. refl))
 
 -- none is left, and nothing was raised
 pub takes_last : (b : State) (steps : Bor (List Step)) (exc : Option held.Exc) → steps.now ≡ [] → exc ≡ None →
@@ -261,8 +261,8 @@ pub takes_last : (b : State) (steps : Bor (List Step)) (exc : Option held.Exc) �
 takes_last b steps exc none well =
     subst (λ (x : Option held.Exc). StepsAs (with_frames b (b.frames ++ Steps steps ∷ [])) b (option_map exc_of x) (On None)) (sym well)
     (takes_onward b b (b.frames ++ Steps steps ∷ []) (Steps steps) None None refl refl refl refl
-    (λ froms numbers ps count.
-    ap (λ (ss : List Step). step_frames froms (now_at b) (here_at b)
+    (λ cancelled_from numbers ps count.
+    ap (λ (ss : List Step). step_frames cancelled_from (now_at b) (here_at b)
     (rest.steps_left (steps_of ss) ∷ frames_of numbers b.frames) ps None count)
     none))
 

@@ -71,66 +71,66 @@ module _ (b : State) (first : Step) (a : AtStep b first) where
 
   -- what the definitions do for the step
   abbrev step_there : Table → Numbers → List Place → ℕ → Move
-  step_there froms numbers ps count =
-      step_on froms (now_at b) (here_inside b) (step_in first) (steps_of a.left.now) (frames_of numbers a.outer) ps count
+  step_there cancelled_from numbers ps count =
+      step_on cancelled_from (now_at b) (here_inside b) (step_in first) (steps_of a.left.now) (frames_of numbers a.outer) ps count
 
   -- what the definitions do for the step is their step; its scope, if it enters one, has a name that no enclosing one has
   pub takes_on : (u : State) (goes : Moved) →
-      ((froms : Table) (numbers : Numbers) (ps : List Place) (count : ℕ) → Stands (before_step b first a) froms numbers None ps →
+      ((cancelled_from : Table) (numbers : Numbers) (ps : List Place) (count : ℕ) → Stands (before_step b first a) cancelled_from numbers None ps →
       IsNew (names_at ps) (step_in first) →
-      Took (before_step b first a) u goes froms numbers
-      (step_on froms (now_at b) (here_inside b) (step_in first) (steps_of a.left.now) (frames_of numbers a.outer) ps count)) →
+      Took (before_step b first a) u goes cancelled_from numbers
+      (step_on cancelled_from (now_at b) (here_inside b) (step_in first) (steps_of a.left.now) (frames_of numbers a.outer) ps count)) →
       StepsAs (before_step b first a) u None goes
   takes_on u goes takes =
       takes_step b u whole a.outer (Steps a.steps) goes None refl
-      (λ froms numbers ps count stands.
+      (λ cancelled_from numbers ps count stands.
       subst
-      (λ (ss : List Step). Took (before_step b first a) u goes froms numbers
-      (step_frames froms (now_at b) (here_at b) (rest.steps_left (steps_of ss) ∷ frames_of numbers a.outer) ps None count))
+      (λ (ss : List Step). Took (before_step b first a) u goes cancelled_from numbers
+      (step_frames cancelled_from (now_at b) (here_at b) (rest.steps_left (steps_of ss) ∷ frames_of numbers a.outer) ps None count))
       (sym a.first_is)
-      (subst (λ (h : Here). Took (before_step b first a) u goes froms numbers
-      (step_on froms (now_at b) h (step_in first) (steps_of a.left.now) (frames_of numbers a.outer) ps count))
+      (subst (λ (h : Here). Took (before_step b first a) u goes cancelled_from numbers
+      (step_on cancelled_from (now_at b) h (step_in first) (steps_of a.left.now) (frames_of numbers a.outer) ps count))
       (sym (inside_is numbers))
-      (takes froms numbers ps count stands
+      (takes cancelled_from numbers ps count stands
       (subst (λ (ss : List Step). AreNew (names_at ps) (steps_of ss)) a.first_is
       (subst (λ (gs : List rest.Frame). NewIn gs ps) (frames_pushed numbers a.outer whole (Steps a.steps) refl) stands.new).0).0)))
 
   -- the definitions' step, for a step that is known
-  on_known : (s : Step) → first ≡ s → (froms : Table) (numbers : Numbers) (ps : List Place) (count : ℕ) →
-      step_on froms (now_at b) (here_inside b) (step_in first) (steps_of a.left.now) (frames_of numbers a.outer) ps count
-      ≡ step_on froms (now_at b) (here_inside b) (step_in s) (steps_of a.left.now) (frames_of numbers a.outer) ps count
-  on_known s is froms numbers ps count =
-      ap (λ (x : Step). step_on froms (now_at b) (here_inside b) (step_in x) (steps_of a.left.now) (frames_of numbers a.outer) ps count) is
+  on_known : (s : Step) → first ≡ s → (cancelled_from : Table) (numbers : Numbers) (ps : List Place) (count : ℕ) →
+      step_on cancelled_from (now_at b) (here_inside b) (step_in first) (steps_of a.left.now) (frames_of numbers a.outer) ps count
+      ≡ step_on cancelled_from (now_at b) (here_inside b) (step_in s) (steps_of a.left.now) (frames_of numbers a.outer) ps count
+  on_known s is cancelled_from numbers ps count =
+      ap (λ (x : Step). step_on cancelled_from (now_at b) (here_inside b) (step_in x) (steps_of a.left.now) (frames_of numbers a.outer) ps count) is
 
   -- ---- a sleep
 
   -- a step that sleeps so many ticks, if the code stops or continues as a sleep of its ticks does, is the definitions' step
   pub takes_sleeps : (s : Step) (u : State) (goes : Moved) (ticks : ℕ) → first ≡ s →
-      ((froms : Table) (ss : tree.Steps) (fs : List rest.Frame) (ps : List Place) (count : ℕ) →
-      step_on froms (now_at b) (here_inside b) (step_in s) ss fs ps count
-      ≡ sleeps b.clock froms false ticks b.tick (rest.steps_left ss ∷ fs) ps) →
+      ((cancelled_from : Table) (ss : tree.Steps) (fs : List rest.Frame) (ps : List Place) (count : ℕ) →
+      step_on cancelled_from (now_at b) (here_inside b) (step_in s) ss fs ps count
+      ≡ sleeps b.clock cancelled_from false ticks b.tick (rest.steps_left ss ∷ fs) ps) →
       u ≡ record b { task_state = u.task_state } →
-      ((froms : Table) (numbers : Numbers) (book : NurseryBook) (fs : List rest.Frame) (ps : List Place) →
-      AreAt b.labels b.events froms (stack_in b) ps →
-      MovesAs b.clock numbers book b.part goes u.task_state (sleeps b.clock froms false ticks b.tick fs ps)) →
+      ((cancelled_from : Table) (numbers : Numbers) (book : NurseryBook) (fs : List rest.Frame) (ps : List Place) →
+      AreAt b.labels b.events cancelled_from (stack_in b) ps →
+      MovesAs b.clock numbers book b.part goes u.task_state (sleeps b.clock cancelled_from false ticks b.tick fs ps)) →
       StepsAs (before_step b first a) u None goes
   takes_sleeps s u goes ticks is known stays sleep =
       takes_on u goes
-      (λ froms numbers ps count stands new.
-      subst (λ (v : State). Took (before_step b first a) v goes froms numbers
-      (step_there froms numbers ps count)) (sym stays)
-      (subst (λ (o : Move). Took (before_step b first a) (record b { task_state = u.task_state }) goes froms numbers o)
-      (ap (λ (gs : List rest.Frame). sleeps b.clock froms false ticks b.tick gs ps) (frames_put numbers)
-      ∙ sym (on_known s is froms numbers ps count ∙ known froms (steps_of a.left.now) (frames_of numbers a.outer) ps count))
-      (took_sleep b whole froms numbers None ps stands u.task_state goes false ticks blocks_put
-      (λ at. sleep froms numbers b.book (frames_of numbers b.frames) ps at))))
+      (λ cancelled_from numbers ps count stands new.
+      subst (λ (v : State). Took (before_step b first a) v goes cancelled_from numbers
+      (step_there cancelled_from numbers ps count)) (sym stays)
+      (subst (λ (o : Move). Took (before_step b first a) (record b { task_state = u.task_state }) goes cancelled_from numbers o)
+      (ap (λ (gs : List rest.Frame). sleeps b.clock cancelled_from false ticks b.tick gs ps) (frames_put numbers)
+      ∙ sym (on_known s is cancelled_from numbers ps count ∙ known cancelled_from (steps_of a.left.now) (frames_of numbers a.outer) ps count))
+      (took_sleep b whole cancelled_from numbers None ps stands u.task_state goes false ticks blocks_put
+      (λ at. sleep cancelled_from numbers b.book (frames_of numbers b.frames) ps at))))
 
   -- ---- a kernel is asked, or an exception raised
 
   -- a step at which the task stops or continues, with its scopes and nurseries as they were
   pub takes_alone : (s : Step) (u : State) (goes : Moved) (move : List rest.Frame → List Place → Move) → first ≡ s →
-      ((froms : Table) (ss : tree.Steps) (fs : List rest.Frame) (ps : List Place) (count : ℕ) →
-      step_on froms (now_at b) (here_inside b) (step_in s) ss fs ps count ≡ move (rest.steps_left ss ∷ fs) ps) →
+      ((cancelled_from : Table) (ss : tree.Steps) (fs : List rest.Frame) (ps : List Place) (count : ℕ) →
+      step_on cancelled_from (now_at b) (here_inside b) (step_in s) ss fs ps count ≡ move (rest.steps_left ss ∷ fs) ps) →
       ((fs : List rest.Frame) (ps : List Place) → LeavesAlone (move fs ps) fs ps) →
       ((fs : List rest.Frame) (ps : List Place) → WaitsElse (move fs ps).stopped) → u ≡ record b { task_state = u.task_state } →
       ((numbers : Numbers) (book : NurseryBook) (fs : List rest.Frame) (ps : List Place) →
@@ -138,14 +138,14 @@ module _ (b : State) (first : Step) (a : AtStep b first) where
       StepsAs (before_step b first a) u None goes
   takes_alone s u goes move is known alone others stays moves =
       takes_on u goes
-      (λ froms numbers ps count stands new.
+      (λ cancelled_from numbers ps count stands new.
       let gs = rest.steps_left (steps_of a.left.now) ∷ frames_of numbers a.outer in
       let l : LeavesAlone (move gs ps) gs ps = alone gs ps in
-      subst (λ (v : State). Took (before_step b first a) v goes froms numbers
-      (step_there froms numbers ps count)) (sym stays)
-      (subst (λ (o : Move). Took (before_step b first a) (record b { task_state = u.task_state }) goes froms numbers o)
-      (sym (on_known s is froms numbers ps count ∙ known froms (steps_of a.left.now) (frames_of numbers a.outer) ps count))
-      (took_task_states b whole froms numbers None ps stands b.frames u.task_state goes (move gs ps) blocks_put
+      subst (λ (v : State). Took (before_step b first a) v goes cancelled_from numbers
+      (step_there cancelled_from numbers ps count)) (sym stays)
+      (subst (λ (o : Move). Took (before_step b first a) (record b { task_state = u.task_state }) goes cancelled_from numbers o)
+      (sym (on_known s is cancelled_from numbers ps count ∙ known cancelled_from (steps_of a.left.now) (frames_of numbers a.outer) ps count))
+      (took_task_states b whole cancelled_from numbers None ps stands b.frames u.task_state goes (move gs ps) blocks_put
       (l.frames ∙ sym (frames_put numbers)) l.places l.made l.begun l.waits (moves numbers b.book gs ps)
       (waits_else b.labels (stack_in b) (move gs ps).stopped u.task_state (move gs ps).places (others gs ps)))))
 
@@ -153,20 +153,20 @@ module _ (b : State) (first : Step) (a : AtStep b first) where
 
   -- a `wait`, where the code stops for the innermost event of its name, if there is one, is the definitions' step
   pub takes_wait : (u : State) (goes : Moved) (name : List ℕ) → first ≡ code.Wait name → u ≡ record b { task_state = u.task_state } →
-      ((froms : Table) (numbers : Numbers) (book : NurseryBook) (fs : List rest.Frame) (ps : List Place) →
-      AreAt b.labels b.events froms (stack_in b) ps →
+      ((cancelled_from : Table) (numbers : Numbers) (book : NurseryBook) (fs : List rest.Frame) (ps : List Place) →
+      AreAt b.labels b.events cancelled_from (stack_in b) ps →
       MovesAs b.clock numbers book b.part goes u.task_state (waits_on (label_among true name ps) name b.tick fs ps)
       × AwaitsEvent b.labels (stack_in b) (waits_on (label_among true name ps) name b.tick fs ps).stopped u.task_state ps) →
       StepsAs (before_step b first a) u None goes
   takes_wait u goes name is stays wait =
       takes_on u goes
-      (λ froms numbers ps count stands new.
-      subst (λ (v : State). Took (before_step b first a) v goes froms numbers (step_there froms numbers ps count)) (sym stays)
-      (subst (λ (o : Move). Took (before_step b first a) (record b { task_state = u.task_state }) goes froms numbers o)
+      (λ cancelled_from numbers ps count stands new.
+      subst (λ (v : State). Took (before_step b first a) v goes cancelled_from numbers (step_there cancelled_from numbers ps count)) (sym stays)
+      (subst (λ (o : Move). Took (before_step b first a) (record b { task_state = u.task_state }) goes cancelled_from numbers o)
       (ap (λ (gs : List rest.Frame). waits_on (label_among true name ps) name b.tick gs ps) (frames_put numbers)
-      ∙ sym (on_known (code.Wait name) is froms numbers ps count))
-      (took_wait b whole froms numbers None ps stands u.task_state goes name blocks_put
-      (λ at. wait froms numbers b.book (frames_of numbers b.frames) ps at))))
+      ∙ sym (on_known (code.Wait name) is cancelled_from numbers ps count))
+      (took_wait b whole cancelled_from numbers None ps stands u.task_state goes name blocks_put
+      (λ at. wait cancelled_from numbers b.book (frames_of numbers b.frames) ps at))))
 
   -- ---- a scope is cancelled
 
@@ -176,13 +176,13 @@ module _ (b : State) (first : Step) (a : AtStep b first) where
       StepsAs (before_step b first a) u None (On None)
   takes_cancel u name is stays cancels =
       takes_on u (On None)
-      (λ froms numbers ps count stands new.
-      subst (λ (v : State). Took (before_step b first a) v (On None) froms numbers
-      (step_there froms numbers ps count)) (sym stays)
-      (subst (λ (o : Move). Took (before_step b first a) (record b { tree = u.tree; cancelled = u.cancelled }) (On None) froms numbers o)
+      (λ cancelled_from numbers ps count stands new.
+      subst (λ (v : State). Took (before_step b first a) v (On None) cancelled_from numbers
+      (step_there cancelled_from numbers ps count)) (sym stays)
+      (subst (λ (o : Move). Took (before_step b first a) (record b { tree = u.tree; cancelled = u.cancelled }) (On None) cancelled_from numbers o)
       (ap (λ (gs : List rest.Frame). makes (signs_to (label_among false name ps) b.tick) gs ps) (frames_put numbers)
-      ∙ sym (on_known (code.Cancel name) is froms numbers ps count))
-      (took_cancel b whole froms numbers None ps stands u.tree u.cancelled name blocks_put
+      ∙ sym (on_known (code.Cancel name) is cancelled_from numbers ps count))
+      (took_cancel b whole cancelled_from numbers None ps stands u.tree u.cancelled name blocks_put
       (subst (λ (v : State). CancelsAt b v name) stays cancels))))
 
   -- a `set`, where the code sets the innermost event of its name, if there is one, is the definitions' step
@@ -191,14 +191,14 @@ module _ (b : State) (first : Step) (a : AtStep b first) where
       StepsAs (before_step b first a) u None (On None)
   takes_set u name chain is stays sets =
       takes_on u (On None)
-      (λ froms numbers ps count stands new.
-      subst (λ (v : State). Took (before_step b first a) v (On None) froms numbers
-      (step_there froms numbers ps count)) (sym stays)
+      (λ cancelled_from numbers ps count stands new.
+      subst (λ (v : State). Took (before_step b first a) v (On None) cancelled_from numbers
+      (step_there cancelled_from numbers ps count)) (sym stays)
       (subst
-      (λ (o : Move). Took (before_step b first a) (record b { events = u.events; set = u.set; cancelled = u.cancelled }) (On None) froms numbers o)
+      (λ (o : Move). Took (before_step b first a) (record b { events = u.events; set = u.set; cancelled = u.cancelled }) (On None) cancelled_from numbers o)
       (ap (λ (gs : List rest.Frame). makes (signs_to (label_among true name ps) b.tick) gs ps) (frames_put numbers)
-      ∙ sym (on_known (code.Set name) is froms numbers ps count))
-      (took_set b whole froms numbers None ps stands u.events u.set u.cancelled name chain blocks_put
+      ∙ sym (on_known (code.Set name) is cancelled_from numbers ps count))
+      (took_set b whole cancelled_from numbers None ps stands u.events u.set u.cancelled name chain blocks_put
       (subst (λ (v : State). SetsAt b v name) stays sets))))
 
   -- ---- a scope, nursery or event is entered
@@ -208,19 +208,19 @@ module _ (b : State) (first : Step) (a : AtStep b first) where
       (enters : EntersAt b u (record { label = label_there b name; shield = shield; is_event = is_event }) d)
       (one : Enters (scope_at b) (label_there b name) is_event d (scoping_in b) (scoping_in u)) where
     -- where the code enters one with its label, shield and deadline, it makes the definitions' move
-    enters_as : (froms : Table) (numbers : Numbers) (ps : List Place) → Stands (before_step b first a) froms numbers None ps →
+    enters_as : (cancelled_from : Table) (numbers : Numbers) (ps : List Place) → Stands (before_step b first a) cancelled_from numbers None ps →
         (IsAmong name (names_at ps) → ⊥) → (f : Frame) → IsScope f → u.book ≡ b.book → EntersBlock b.frames u.frames f body →
-        Took (before_step b first a) u (On None) froms numbers
+        Took (before_step b first a) u (On None) cancelled_from numbers
         (makes (rest.enters (label_there b name) b.tick d ∷ [])
         (rest.steps_left body ∷ frame_of numbers f ∷ rest.steps_left (steps_of a.left.now) ∷ frames_of numbers a.outer)
         (record { label = label_there b name; shield = shield; is_event = is_event } ∷ ps))
-    enters_as froms numbers ps stands fresh f scope book block =
+    enters_as cancelled_from numbers ps stands fresh f scope book block =
         subst
-        (λ (gs : List rest.Frame). Took (before_step b first a) u (On None) froms numbers
+        (λ (gs : List rest.Frame). Took (before_step b first a) u (On None) cancelled_from numbers
         (makes (rest.enters (label_there b name) b.tick d ∷ []) (rest.steps_left body ∷ frame_of numbers f ∷ gs)
         (record { label = label_there b name; shield = shield; is_event = is_event } ∷ ps)))
         (frames_put numbers)
-        (took_scope b whole froms numbers None ps stands u
+        (took_scope b whole cancelled_from numbers None ps stands u
         (record { label = label_there b name; shield = shield; is_event = is_event }) d body blocks_put fresh started entries cancelled enters
         one f scope book block)
 
@@ -233,10 +233,10 @@ module _ (b : State) (first : Step) (a : AtStep b first) where
         EntersBlock b.frames u.frames (Scope fail) body → StepsAs (before_step b first a) u None (On None)
     takes_scope fail is book block =
         takes_on u (On None)
-        (λ froms numbers ps count stands fresh.
-        subst (λ (o : Move). Took (before_step b first a) u (On None) froms numbers o)
-        (sym (on_known (code.Scope name deadline shield fail body) is froms numbers ps count))
-        (enters_as u name shield false (due b.clock deadline b.tick) body started entries cancelled enters one froms numbers ps stands
+        (λ cancelled_from numbers ps count stands fresh.
+        subst (λ (o : Move). Took (before_step b first a) u (On None) cancelled_from numbers o)
+        (sym (on_known (code.Scope name deadline shield fail body) is cancelled_from numbers ps count))
+        (enters_as u name shield false (due b.clock deadline b.tick) body started entries cancelled enters one cancelled_from numbers ps stands
         (subst (λ (s : Step). IsNew (names_at ps) (step_in s)) is fresh).0 (Scope fail) tt book block))
 
     -- a `nursery`, where the code enters one with its label, shield and deadline, is the definitions' step
@@ -244,15 +244,15 @@ module _ (b : State) (first : Step) (a : AtStep b first) where
         StepsAs (before_step b first a) u None (On None)
     takes_nursery me is n =
         takes_on u (On None)
-        (λ froms numbers ps count stands fresh.
-        subst (λ (o : Move). Took (before_step b first a) u (On None) froms numbers o)
-        (sym (on_known (code.Nursery name deadline shield body) is froms numbers ps count))
+        (λ cancelled_from numbers ps count stands fresh.
+        subst (λ (o : Move). Took (before_step b first a) u (On None) cancelled_from numbers o)
+        (sym (on_known (code.Nursery name deadline shield body) is cancelled_from numbers ps count))
         (subst
-        (λ (gs : List rest.Frame). Took (before_step b first a) u (On None) froms numbers
+        (λ (gs : List rest.Frame). Took (before_step b first a) u (On None) cancelled_from numbers
         (makes (rest.enters (label_there b name) b.tick (due b.clock deadline b.tick) ∷ [])
         (rest.steps_left body ∷ rest.in_nursery [] ∷ gs) (a_scope_at (label_there b name) shield ∷ ps)))
         (frames_put numbers)
-        (took_nursery b whole froms numbers None ps stands u (a_scope_at (label_there b name) shield) (due b.clock deadline b.tick) body
+        (took_nursery b whole cancelled_from numbers None ps stands u (a_scope_at (label_there b name) shield) (due b.clock deadline b.tick) body
         blocks_put (subst (λ (s : Step). IsNew (names_at ps) (step_in s)) is fresh).0 started entries cancelled enters one me n)))
 
   -- an `event`, where the code enters one with its label, is the definitions' step
@@ -262,10 +262,10 @@ module _ (b : State) (first : Step) (a : AtStep b first) where
       StepsAs (before_step b first a) u None (On None)
   takes_event u name body is started entries cancelled book enters one block =
       takes_on u (On None)
-      (λ froms numbers ps count stands fresh.
-      subst (λ (o : Move). Took (before_step b first a) u (On None) froms numbers o)
-      (sym (on_known (code.Event name body) is froms numbers ps count))
-      (enters_as u name false true None body started entries cancelled enters one froms numbers ps stands
+      (λ cancelled_from numbers ps count stands fresh.
+      subst (λ (o : Move). Took (before_step b first a) u (On None) cancelled_from numbers o)
+      (sym (on_known (code.Event name body) is cancelled_from numbers ps count))
+      (enters_as u name false true None body started entries cancelled enters one cancelled_from numbers ps stands
       (subst (λ (s : Step). IsNew (names_at ps) (step_in s)) is fresh).0 Event tt book block))
 
   -- ---- children are started
@@ -278,10 +278,10 @@ module _ (b : State) (first : Step) (a : AtStep b first) where
         StepsAs (before_step b first a) u None (On None)
     takes_start is starts =
         takes_on u (On None)
-        (λ froms numbers ps count stands new.
-        subst (λ (o : Move). Took (before_step b first a) u (On None) froms numbers o)
-        (sym (on_known (code.Start name None body) is froms numbers ps count))
-        (took_start b whole fs ls a.outer id a.left u froms numbers None ps stands are within a.held blocks_put apart world name body count
+        (λ cancelled_from numbers ps count stands new.
+        subst (λ (o : Move). Took (before_step b first a) u (On None) cancelled_from numbers o)
+        (sym (on_known (code.Start name None body) is cancelled_from numbers ps count))
+        (took_start b whole fs ls a.outer id a.left u cancelled_from numbers None ps stands are within a.held blocks_put apart world name body count
         in_range starts))
 
     -- and one for each of the cuts of its part
@@ -289,10 +289,10 @@ module _ (b : State) (first : Step) (a : AtStep b first) where
         StepsAs (before_step b first a) u None (On None)
     takes_start_over k is starts =
         takes_on u (On None)
-        (λ froms numbers ps count stands new.
-        subst (λ (o : Move). Took (before_step b first a) u (On None) froms numbers o)
-        (sym (on_known (code.Start name (Some k) body) is froms numbers ps count))
-        (took_start_over b whole fs ls a.outer id a.left u froms numbers None ps stands are within a.held blocks_put apart world name body
+        (λ cancelled_from numbers ps count stands new.
+        subst (λ (o : Move). Took (before_step b first a) u (On None) cancelled_from numbers o)
+        (sym (on_known (code.Start name (Some k) body) is cancelled_from numbers ps count))
+        (took_start_over b whole fs ls a.outer id a.left u cancelled_from numbers None ps stands are within a.held blocks_put apart world name body
         count in_range k starts))
 
   -- ---- a `try` or a `repeat` begins
@@ -305,12 +305,12 @@ module _ (b : State) (first : Step) (a : AtStep b first) where
       StepsAs (before_step b first a) u None (On None)
   takes_attempt u body handler cleanup is stays held =
       takes_on u (On None)
-      (λ froms numbers ps count stands new.
-      subst (λ (v : State). Took (before_step b first a) v (On None) froms numbers
-      (step_there froms numbers ps count)) (sym stays)
-      (took_onward b whole froms numbers None ps stands u.frames None _
+      (λ cancelled_from numbers ps count stands new.
+      subst (λ (v : State). Took (before_step b first a) v (On None) cancelled_from numbers
+      (step_there cancelled_from numbers ps count)) (sym stays)
+      (took_onward b whole cancelled_from numbers None ps stands u.frames None _
       (blocks_same b.frames u.frames (ap (λ (gs : List rest.Frame). blocks_onto gs []) (held own_keys)) ∙ blocks_put)
-      (on_known (code.Try body handler cleanup) is froms numbers ps count
+      (on_known (code.Try body handler cleanup) is cancelled_from numbers ps count
       ∙ ap (λ (gs : List rest.Frame). onward (rest.steps_left body ∷ rest.in_try (handled_of handler) (cleaned_of cleanup) ∷ gs) ps None)
       (sym (frames_put numbers))
       ∙ ap (λ (gs : List rest.Frame). onward gs ps None) (sym (held numbers)))))
@@ -323,10 +323,10 @@ module _ (b : State) (first : Step) (a : AtStep b first) where
       StepsAs (before_step b first a) u None (On None)
   takes_repeat u times body is stays blocks begins =
       takes_on u (On None)
-      (λ froms numbers ps count stands new.
-      subst (λ (v : State). Took (before_step b first a) v (On None) froms numbers
-      (step_there froms numbers ps count)) (sym stays)
-      (took_onward b whole froms numbers None ps stands u.frames None _ (blocks ∙ blocks_put)
-      (on_known (code.Repeat times body) is froms numbers ps count
+      (λ cancelled_from numbers ps count stands new.
+      subst (λ (v : State). Took (before_step b first a) v (On None) cancelled_from numbers
+      (step_there cancelled_from numbers ps count)) (sym stays)
+      (took_onward b whole cancelled_from numbers None ps stands u.frames None _ (blocks ∙ blocks_put)
+      (on_known (code.Repeat times body) is cancelled_from numbers ps count
       ∙ ap (λ (gs : List rest.Frame). begins_passes times body gs ps) (sym (frames_put numbers))
       ∙ begins numbers ps)))

@@ -8,7 +8,7 @@ use Rattle.cancel_scopes.specs.Tree.{Stack, Tree, stack_of, outer_of, IsChain}
 use Rattle.job_meaning.specs.Log.{Table}
 use Rattle.turn_semantics.specs.Midway.{Place}
 use Rattle.turn_semantics.specs.Names.{names_at}
-use Rattle.turn_semantics.specs.Steps.{froms_after_entry}
+use Rattle.turn_semantics.specs.Steps.{cancelled_from_after_entry}
 use Rattle.task_machine.specs.Acts.{set_at_entry}
 use Rattle.task_machine.specs.Entered.{a_scope_at, an_event_at}
 use Rattle.task_machine.specs.Labels.{Labels, Events, Updates}
@@ -47,12 +47,12 @@ pub enters_at : (labels more : Labels) (events others : Events) (old new : Tree)
     IsChain old → stack_of old key ≡ None →
     stack_of new key ≡ Some (record { label = key; shield = p.shield; from = d } ∷ outer_of old outer) →
     Updates labels more key (Some p.label) → Updates events others key (set_at_entry p.is_event) → FitsEntry p d → inner ≡ Some key →
-    (froms : Table) (ps : List Place) → (IsAmong p.label.name (names_at ps) → ⊥) → AreAt labels events froms (outer_of old outer) ps →
-    AreAt more others (froms_after_entry froms p.label d) (outer_of new inner) (p ∷ ps)
-enters_at labels more events others old new outer inner key p d chain closed top u v entry within froms ps named a =
-    subst (λ (st : Stack). AreAt more others (froms_after_entry froms p.label d) st (p ∷ ps))
+    (cancelled_from : Table) (ps : List Place) → (IsAmong p.label.name (names_at ps) → ⊥) → AreAt labels events cancelled_from (outer_of old outer) ps →
+    AreAt more others (cancelled_from_after_entry cancelled_from p.label d) (outer_of new inner) (p ∷ ps)
+enters_at labels more events others old new outer inner key p d chain closed top u v entry within cancelled_from ps named a =
+    subst (λ (st : Stack). AreAt more others (cancelled_from_after_entry cancelled_from p.label d) st (p ∷ ps))
     (sym (ap (outer_of new) within ∙ ap (λ (o : Option Stack). unwrap_or o []) top))
-    (entered_alike labels more events others froms (outer_of old outer) ps key p d u.changed v.changed entry
+    (entered_alike labels more events others cancelled_from (outer_of old outer) ps key p d u.changed v.changed entry
     (same_around labels more old key (Some p.label) chain closed u outer)
     (same_around events others old key (set_at_entry p.is_event) chain closed v outer) named a)
 

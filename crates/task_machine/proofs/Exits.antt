@@ -17,7 +17,7 @@ use Rattle.task_machine.specs.declared.entry.Entry.{Entry}
 use Rattle.task_machine.specs.Noted.{entry_of, IsSlice, AreNoted}
 use Rattle.turn_semantics.specs.Midway.{Place}
 use Rattle.turn_semantics.specs.Names.{names_at, OwnNames}
-use Rattle.turn_semantics.specs.Steps.{home_among, signs_home, froms_after}
+use Rattle.turn_semantics.specs.Steps.{home_among, signs_home, cancelled_from_after}
 use Rattle.task_machine.specs.Acts.{key_failed}
 use Rattle.task_machine.specs.Labels.{Labels, Events, home_key}
 use Rattle.task_machine.specs.Stacked.{AreAt, FoundAs}
@@ -65,27 +65,27 @@ pub home_open : (events : Events) (tree : Tree) (scope : Option ℕ) (key : ℕ)
 home_open events tree scope key chain e = open_around tree chain scope key (home_is_in events (outer_of tree scope) key e)
 
 -- what is found among the places, by the scope that is found
-home_as : (labels : Labels) (events : Events) (froms : Table) (st : Stack) (ps : List Place) (found : Option ℕ) → home_key events st ≡ found →
-    AreAt labels events froms st ps → FoundAs labels found (home_among ps)
-home_as labels events froms st ps found e a =
-    subst (λ (o : Option ℕ). FoundAs labels o (home_among ps)) e (home_at labels events froms st ps a)
+home_as : (labels : Labels) (events : Events) (cancelled_from : Table) (st : Stack) (ps : List Place) (found : Option ℕ) → home_key events st ≡ found →
+    AreAt labels events cancelled_from st ps → FoundAs labels found (home_among ps)
+home_as labels events cancelled_from st ps found e a =
+    subst (λ (o : Option ℕ). FoundAs labels o (home_among ps)) e (home_at labels events cancelled_from st ps a)
 
 -- if a test says that the task or body failed, the from of the innermost place that is no event is lowered by the sign
 pub fails_if : (labels more : Labels) (events others : Events) (old new : Tree) (scope : Option ℕ) (key t : ℕ) (o : Option held.Exc)
     (b : Bool) → is_some o ≡ not b → b ≡ false → more ≡ labels → others ≡ events → home_key events (outer_of old scope) ≡ Some key →
     ((at : ℕ) → stack_of new at ≡ option_map (after_cancel key t) (stack_of old at)) →
-    (froms : Table) (ps : List Place) → OwnNames (names_at ps) → AreAt labels events froms (outer_of old scope) ps →
-    AreAt more others (froms_after froms (signs_home (option_map exc_of o) ps t)) (outer_of new scope) ps
-fails_if labels more events others old new scope key t None b h i same alike found after froms ps own a =
+    (cancelled_from : Table) (ps : List Place) → OwnNames (names_at ps) → AreAt labels events cancelled_from (outer_of old scope) ps →
+    AreAt more others (cancelled_from_after cancelled_from (signs_home (option_map exc_of o) ps t)) (outer_of new scope) ps
+fails_if labels more events others old new scope key t None b h i same alike found after cancelled_from ps own a =
     absurd (let f : false ≡ true = h ∙ ap not i in cc)
-fails_if labels more events others old new scope key t (Some e) b h i same alike found after froms ps own a =
-    signs_at labels more events others old new scope key t froms ps (home_among ps) same alike after
-    (home_as labels events froms (outer_of old scope) ps (Some key) found a) (home_is_in events (outer_of old scope) key found)
+fails_if labels more events others old new scope key t (Some e) b h i same alike found after cancelled_from ps own a =
+    signs_at labels more events others old new scope key t cancelled_from ps (home_among ps) same alike after
+    (home_as labels events cancelled_from (outer_of old scope) ps (Some key) found a) (home_is_in events (outer_of old scope) key found)
     (home_no_event events (outer_of old scope) key found) own a
 
 -- where no scope encloses it, nothing is signed
 pub fails_none : (labels : Labels) (events : Events) (st : Stack) (t : ℕ) (o : Option Exc) → home_key events st ≡ None →
-    (froms : Table) (ps : List Place) → AreAt labels events froms st ps → AreAt labels events (froms_after froms (signs_home o ps t)) st ps
-fails_none labels events st t None none froms ps a = a
-fails_none labels events st t (Some e) none froms ps a =
-    signs_none labels events froms st ps t (home_among ps) (home_as labels events froms st ps None none a) a
+    (cancelled_from : Table) (ps : List Place) → AreAt labels events cancelled_from st ps → AreAt labels events (cancelled_from_after cancelled_from (signs_home o ps t)) st ps
+fails_none labels events st t None none cancelled_from ps a = a
+fails_none labels events st t (Some e) none cancelled_from ps a =
+    signs_none labels events cancelled_from st ps t (home_among ps) (home_as labels events cancelled_from st ps None none a) a

@@ -54,7 +54,7 @@ fits_frames fs gs part home own n tree labels book same in_range starts h =
         home = h.runs.home;
         scope = h.runs.scope;
         first = h.runs.first;
-        froms = h.runs.froms;
+        cancelled_from = h.runs.cancelled_from;
         opened = subst (λ (bs : List Block). Opened labels book bs own None) (sym same) h.runs.opened;
       };
       small = h.small;

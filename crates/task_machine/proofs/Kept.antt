@@ -107,7 +107,7 @@ fits_signed fs part home own n old new labels book waits same h =
         first =
             keys_around old new (last_or home (ids own)) same ∙ h.runs.first
             ∙ ap (λ (ks : List ℕ). keys_in own ++ ks) (sym (keys_around old new home same));
-        froms = h.runs.froms;
+        cancelled_from = h.runs.cancelled_from;
         opened = h.runs.opened;
       };
       small = h.small;
@@ -170,8 +170,8 @@ fits_entered fs gs b part home own o n old new labels more book after name level
         home = λ k e. subst IsSome (sym (kept_open old new o.id k closed keep (h.runs.home k e))) (h.runs.home k e);
         scope = λ k e. subst (IsOpen new) (one_of o.id k (sym last ∙ e)) (subst IsSome (sym stack) refl);
         first = first;
-        froms =
-            All-append (λ (x : Own). x.at < suc n) own (o ∷ []) (all_below n own h.runs.froms)
+        cancelled_from =
+            All-append (λ (x : Own). x.at < suc n) own (o ∷ []) (all_below n own h.runs.cancelled_from)
             (All-cons (λ (x : Own). x.at < suc n) o [] (omega (arith, at)) (All-nil (λ (x : Own). x.at < suc n)));
         opened =
             subst (λ (bs : List Block). Opened more after bs (own ++ o ∷ []) None) (sym blocks)
@@ -244,7 +244,7 @@ fits_left fs f is part home os o n old new labels more book chain owns apart top
         home = home_open old new chain owns apart home os o top keep h.runs.home;
         scope = around_open old new chain owns apart home os o h.runs.home top keep;
         first = first;
-        froms = first_below n os o h.runs.froms;
+        cancelled_from = first_below n os o h.runs.cancelled_from;
         opened = opened_stays labels more book book o.id (blocks_of fs) os (record { named = u.others; nurseries = λ id m e differs. e })
             inner.others inner.outer;
       };
@@ -317,7 +317,7 @@ fits_awaits fs id part home own n tree labels book after exc moment changes h =
         home = h.runs.home;
         scope = h.runs.scope;
         first = h.runs.first;
-        froms = h.runs.froms;
+        cancelled_from = h.runs.cancelled_from;
         opened =
             subst (λ (os : List Own). Opened labels after (blocks_of fs) os (Some id)) (sym i.last.is)
             (opened_waits labels after (blocks_of fs) i.last.before id i.last.last

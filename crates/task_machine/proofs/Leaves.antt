@@ -94,16 +94,16 @@ same_after kept new tree key value whole before (l ∷ ls) u stack short chain =
         omega (arith, short, h)
 
 -- a stack has the same places if its scopes keep their labels, and its events the moments from which they are set
-pub same_labels : (labels more : Labels) (events others : Events) (froms : Table) (st : Stack) (ps : List Place) → SameOn labels more st →
-    SameOn events others st → AreAt labels events froms st ps → AreAt more others froms st ps
-same_labels labels more events others froms [] [] same alike a = tt
-same_labels labels more events others froms [] (p ∷ ps) same alike a = absurd a
-same_labels labels more events others froms (l ∷ ls) [] same alike a = absurd a
-same_labels labels more events others froms (l ∷ ls) (p ∷ ps) same alike a = (
+pub same_labels : (labels more : Labels) (events others : Events) (cancelled_from : Table) (st : Stack) (ps : List Place) → SameOn labels more st →
+    SameOn events others st → AreAt labels events cancelled_from st ps → AreAt more others cancelled_from st ps
+same_labels labels more events others cancelled_from [] [] same alike a = tt
+same_labels labels more events others cancelled_from [] (p ∷ ps) same alike a = absurd a
+same_labels labels more events others cancelled_from (l ∷ ls) [] same alike a = absurd a
+same_labels labels more events others cancelled_from (l ∷ ls) (p ∷ ps) same alike a = (
   sym same.0 ∙ a.0,
   a.1,
-  subst (λ (o : Option Tick). IsLevelOf o l froms p) alike.0 a.2,
-  same_labels labels more events others froms ls ps same.1 alike.1 a.3,
+  subst (λ (o : Option Tick). IsLevelOf o l cancelled_from p) alike.0 a.2,
+  same_labels labels more events others cancelled_from ls ps same.1 alike.1 a.3,
 )
 
 -- ---- the scope that is left, at the top of its stack
@@ -164,25 +164,25 @@ first_after old new home os x others top =
 -- and its places are those that enclose the one that is left
 pub places_after : (labels more : Labels) (events others : Events) (old new : Tree) (home : Option ℕ) (os : List Own) (x : Own) →
     IsChain old → OthersKeep old new x.id → Updates labels more x.id None → Updates events others x.id None → (top : Top old home os x) →
-    (froms : Table) (ps : List Place) → AreAt labels events froms top.following ps →
-    AreAt more others froms (outer_of new (last_or home (ids os))) ps
-places_after labels more events others old new home os x chain keep u v top froms ps a =
+    (cancelled_from : Table) (ps : List Place) → AreAt labels events cancelled_from top.following ps →
+    AreAt more others cancelled_from (outer_of new (last_or home (ids os))) ps
+places_after labels more events others old new home os x chain keep u v top cancelled_from ps a =
     let n : length (outer_of old (last_or home (ids os))) < length (top.level ∷ top.following) =
     subst (λ (st : Stack). length st < length (top.level ∷ top.following)) (sym top.around) (omega arith) in
     let suffixes : Suffixes old (top.level ∷ []) top.following =
     (λ front l following e. chain x.id (top.level ∷ top.following) top.at front l following e) in
-    subst (λ (st : Stack). AreAt more others froms st ps)
+    subst (λ (st : Stack). AreAt more others cancelled_from st ps)
     (sym (keeps_outer old new x.id top.level top.following keep top.at (last_or home (ids os)) n ∙ top.around))
-    (same_labels labels more events others froms top.following ps
+    (same_labels labels more events others cancelled_from top.following ps
     (same_after labels more old x.id None (top.level ∷ top.following) (top.level ∷ []) top.following u top.at (omega arith) suffixes)
     (same_after events others old x.id None (top.level ∷ top.following) (top.level ∷ []) top.following v top.at (omega arith) suffixes) a)
 
 -- the innermost place, by the scope that is left
-pub left_from : (labels : Labels) (events : Events) (froms : Table) (tree : Tree) (home outer : Option ℕ) (os : List Own) (x : Own)
+pub left_from : (labels : Labels) (events : Events) (cancelled_from : Table) (tree : Tree) (home outer : Option ℕ) (os : List Own) (x : Own)
     (p : Place) (ps : List Place) → (top : Top tree home os x) → outer ≡ Some x.id →
-    AreAt labels events froms (outer_of tree outer) (p ∷ ps) → AreAt labels events froms (top.level ∷ top.following) (p ∷ ps)
-left_from labels events froms tree home outer os x p ps top last a =
-    subst (λ (st : Stack). AreAt labels events froms st (p ∷ ps))
+    AreAt labels events cancelled_from (outer_of tree outer) (p ∷ ps) → AreAt labels events cancelled_from (top.level ∷ top.following) (p ∷ ps)
+left_from labels events cancelled_from tree home outer os x p ps top last a =
+    subst (λ (st : Stack). AreAt labels events cancelled_from st (p ∷ ps))
     (ap (outer_of tree) last ∙ ap (λ (o : Option Stack). unwrap_or o []) top.at) a
 
 -- what holds of each scope holds of the last

@@ -17,17 +17,17 @@ got_first (y ∷ xs) ys (suc i) x e = got_first xs ys i x e
 
 -- an index after the first ones, and what is there
 pub record GotAfter {A : Type 0} (first : ℕ) (ys : List A) (at : ℕ) (x : A) : Type 0 where
-  pub place : ℕ
-  pub following : at ≡ first + place
-  pub got : slice_get ys place ≡ Some x
+  pub index : ℕ
+  pub following : at ≡ first + index
+  pub got : slice_get ys index ≡ Some x
 
 -- what is in two lists is in one of them
 pub got_either : {A : Type 0} (xs ys : List A) (at : ℕ) (x : A) → slice_get (xs ++ ys) at ≡ Some x →
     (slice_get xs at ≡ Some x) ⊎ GotAfter (length xs) ys at x
-got_either [] ys at x e = inr (record { place = at; following = omega arith; got = e })
+got_either [] ys at x e = inr (record { index = at; following = omega arith; got = e })
 got_either (y ∷ xs) ys zero x e = inl e
 got_either {A} (y ∷ xs) ys (suc at) x e = by_rest (got_either xs ys at x e)
   where
     by_rest : (slice_get xs at ≡ Some x) ⊎ GotAfter (length xs) ys at x → (slice_get xs at ≡ Some x) ⊎ GotAfter (suc (length xs)) ys (suc at) x
     by_rest (inl g) = inl g
-    by_rest (inr g) = inr (record { place = g.place; following = (let f = g.following in omega (arith, f)); got = g.got })
+    by_rest (inr g) = inr (record { index = g.index; following = (let f = g.following in omega (arith, f)); got = g.got })

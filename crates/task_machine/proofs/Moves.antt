@@ -22,24 +22,24 @@ use Rattle.task_machine.specs.Stacked.{AreAt}
 use Rattle.task_machine.specs.Stops.{Numbers, MovesAs}
 use Rattle.task_machine.proofs.Stacked.{seen_at}
 
-module _ (clock : Clock) (labels : Labels) (events : Events) (froms : Table) (st : scopes.Stack) (ps : List Place) (paced : Bool) (n t : ℕ)
+module _ (clock : Clock) (labels : Labels) (events : Events) (cancelled_from : Table) (st : scopes.Stack) (ps : List Place) (paced : Bool) (n t : ℕ)
     (fs : List Frame) where
   -- a sleep goes by what is seen
-  sleeps_by : (b : Bool) → AreAt labels events froms st ps → b ≡ seen st t → (P : Move → Type 0) → P (falls_asleep clock b paced n t fs ps) →
-      P (sleeps clock froms paced n t fs ps)
-  sleeps_by b a e P p = subst (λ (x : Bool). P (falls_asleep clock x paced n t fs ps)) (e ∙ seen_at labels events froms st ps t a) p
+  sleeps_by : (b : Bool) → AreAt labels events cancelled_from st ps → b ≡ seen st t → (P : Move → Type 0) → P (falls_asleep clock b paced n t fs ps) →
+      P (sleeps clock cancelled_from paced n t fs ps)
+  sleeps_by b a e P p = subst (λ (x : Bool). P (falls_asleep clock x paced n t fs ps)) (e ∙ seen_at labels events cancelled_from st ps t a) p
 
   -- where moments are ticks, it raises if a cancellation is seen
-  pub sleeps_seen : clock ≡ by_ticks → AreAt labels events froms st ps → true ≡ seen st t →
-      (let o = sleeps clock froms paced n t fs ps in (Some cancelled ≡ o.exc) × (o.stopped ≡ None))
+  pub sleeps_seen : clock ≡ by_ticks → AreAt labels events cancelled_from st ps → true ≡ seen st t →
+      (let o = sleeps clock cancelled_from paced n t fs ps in (Some cancelled ≡ o.exc) × (o.stopped ≡ None))
   sleeps_seen is a e =
       sleeps_by true a e (λ (o : Move). (Some cancelled ≡ o.exc) × (o.stopped ≡ None))
       (subst (λ (c : Clock). let o = falls_asleep c true paced n t fs ps in (Some cancelled ≡ o.exc) × (o.stopped ≡ None)) (sym is)
       (refl, refl))
 
   -- a sleep of no tick continues
-  pub sleeps_on : clock ≡ by_ticks → AreAt labels events froms st ps → false ≡ seen st t → n ≡ 0 →
-      (let o = sleeps clock froms paced n t fs ps in (None ≡ o.exc) × (o.stopped ≡ None))
+  pub sleeps_on : clock ≡ by_ticks → AreAt labels events cancelled_from st ps → false ≡ seen st t → n ≡ 0 →
+      (let o = sleeps clock cancelled_from paced n t fs ps in (None ≡ o.exc) × (o.stopped ≡ None))
   sleeps_on is a e none =
       sleeps_by false a e (λ (o : Move). (None ≡ o.exc) × (o.stopped ≡ None))
       (subst (λ (c : Clock). let o = falls_asleep c false paced n t fs ps in (None ≡ o.exc) × (o.stopped ≡ None)) (sym is)
@@ -56,10 +56,10 @@ module _ (clock : Clock) (labels : Labels) (events : Events) (froms : Table) (st
         (subst (λ (s : TaskState). MovesAs clock numbers book part (Stops (Sleep (wakes_at clock n t))) s o) (sym state) h)
 
     -- and another one stops
-    pub sleeps_off : clock ≡ by_ticks → AreAt labels events froms st ps → false ≡ seen st t → (n ≡ 0 → ⊥) →
-        MovesAs clock numbers book part goes task_state (sleeps clock froms paced n t fs ps)
+    pub sleeps_off : clock ≡ by_ticks → AreAt labels events cancelled_from st ps → false ≡ seen st t → (n ≡ 0 → ⊥) →
+        MovesAs clock numbers book part goes task_state (sleeps clock cancelled_from paced n t fs ps)
     sleeps_off is a e some =
-        stops_asleep (sleeps clock froms paced n t fs ps)
+        stops_asleep (sleeps clock cancelled_from paced n t fs ps)
         (sleeps_by false a e (λ (o : Move). MovesAs clock numbers book part (Stops (Sleep (wakes_at clock n t))) (Asleep paced n t) o)
         (by_clock clock n is some))
       where
@@ -70,10 +70,10 @@ module _ (clock : Clock) (labels : Labels) (events : Events) (froms : Table) (st
         by_clock by_rounds k e f = absurd (let g : by_rounds ≡ by_ticks = e in cc)
 
     -- where there are rounds, each sleep stops
-    pub sleeps_round : clock ≡ by_rounds → MovesAs clock numbers book part goes task_state (sleeps clock froms paced n t fs ps)
-    sleeps_round is = stops_asleep (sleeps clock froms paced n t fs ps) (by_clock clock is)
+    pub sleeps_round : clock ≡ by_rounds → MovesAs clock numbers book part goes task_state (sleeps clock cancelled_from paced n t fs ps)
+    sleeps_round is = stops_asleep (sleeps clock cancelled_from paced n t fs ps) (by_clock clock is)
       where
         by_clock : (c : Clock) → c ≡ by_rounds →
-            MovesAs c numbers book part (Stops (Sleep (wakes_at c n t))) (Asleep paced n t) (sleeps c froms paced n t fs ps)
+            MovesAs c numbers book part (Stops (Sleep (wakes_at c n t))) (Asleep paced n t) (sleeps c cancelled_from paced n t fs ps)
         by_clock by_ticks e = absurd (let g : by_ticks ≡ by_rounds = e in cc)
         by_clock by_rounds e = (refl, ((refl, refl, refl), refl))

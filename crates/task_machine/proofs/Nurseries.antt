@@ -116,7 +116,7 @@ nurseries_same s u waits numbers none book kept back numbered =
           subst (λ (b : NurseryBook). HasNursery b id (λ n. length (numbers id) ≡ length n.children)) (sym book)
           (numbered id (there id has));
       owned = λ id has. inl (there id has);
-      covered = λ id place number has e. inl (there id has, e);
+      covered = λ id index number has e. inl (there id has, e);
       ends = λ id has. inl (there id has);
       others = λ id n e apart other. same id ∙ e;
     }
@@ -202,7 +202,7 @@ nurseries_closed s u numbers id ended apart mine left numbered =
           (λ n. length (numbers key) ≡ length n.children) ended
           (λ is m found long. absurd (differs key (there key has) is)) (λ other m found long. long) (numbered key (there key has));
       owned = λ key has. inl (there key has);
-      covered = λ key place number has at. inl (there key has, at);
+      covered = λ key index number has at. inl (there key has, at);
       ends = λ key has. inl (there key has);
       others = λ key n at out other. ended.others key (λ is. absurd (mine n (ap (nursery_at s.book) (sym is) ∙ at) other)) ∙ at;
     }

@@ -130,7 +130,7 @@ fits_settled fs id part home os o n old new labels more book after chain owns ap
         home = home_open old new chain owns apart home os o top keep h.runs.home;
         scope = around_open old new chain owns apart home os o h.runs.home top keep;
         first = first;
-        froms = first_below n os o h.runs.froms;
+        cancelled_from = first_below n os o h.runs.cancelled_from;
         opened = by_nursery (nursery_at book id) refl at.nursery;
       };
       small = h.small;
@@ -207,7 +207,7 @@ fits_started fs id part home own n tree labels book after m more was u h =
         home = h.runs.home;
         scope = h.runs.scope;
         first = h.runs.first;
-        froms = h.runs.froms;
+        cancelled_from = h.runs.cancelled_from;
         opened = opened_more labels book after id m more (blocks_of fs) own was u h.runs.opened;
       };
       small = h.small;

@@ -16,21 +16,21 @@ use Rattle.task_machine.specs.Started.{IsChild, running_children, home_at, begin
 use Rattle.task_machine.specs.States.{State, path_at}
 use Rattle.task_machine.proofs.Stacked.{one_of}
 
-home_is : (id place scope len n : ℕ) → place ≡ len → scope ≡ n →
-    (let h : Home = record { nursery = id; place = place; scope = scope } in h) ≡ record { nursery = id; place = len + 0; scope = n }
-home_is id place scope len n e f = (let g : place ≡ len + 0 = omega (arith, e) in cc)
+home_is : (id index scope len n : ℕ) → index ≡ len → scope ≡ n →
+    (let h : Home = record { nursery = id; index = index; scope = scope } in h) ≡ record { nursery = id; index = len + 0; scope = n }
+home_is id index scope len n e f = (let g : index ≡ len + 0 = omega (arith, e) in cc)
 
 -- one child is started, at the place that the book assigns
-pub starts_one : (s u : State) (id : ℕ) (label : Label) (part : Part) (body : Steps) (task : Task) (scope place : ℕ) →
+pub starts_one : (s u : State) (id : ℕ) (label : Label) (part : Part) (body : Steps) (task : Task) (scope index : ℕ) →
     HasNursery s.book id (λ n. scope ≡ n.scope) →
-    HasNursery s.book id (λ n. place ≡ length n.children) → Changes s.book u.book id with_start →
+    HasNursery s.book id (λ n. index ≡ length n.children) → Changes s.book u.book id with_start →
     u.started ≡ s.started ++ task ∷ [] →
-    IsChild (begins_in s) task label (buffer_of part) (range_of part) body (record { nursery = id; place = place; scope = scope }) →
+    IsChild (begins_in s) task label (buffer_of part) (range_of part) body (record { nursery = id; index = index; scope = scope }) →
     StartsOne s u id label part body
-starts_one s u id label part body task scope place has p b started child = by_nursery (nursery_at s.book id) refl has p b
+starts_one s u id label part body task scope index has p b started child = by_nursery (nursery_at s.book id) refl has p b
   where
     by_nursery : (o : Option Nursery) → nursery_at s.book id ≡ o → IsSomeAnd o (λ n. scope ≡ n.scope) →
-        IsSomeAnd o (λ n. place ≡ length n.children) →
+        IsSomeAnd o (λ n. index ≡ length n.children) →
         IsSomeAnd o (λ n. Updates s.book u.book id (Some (with_start n))) → StartsOne s u id label part body
     by_nursery None e h p b = absurd h
     by_nursery (Some n) e h p b =
@@ -45,12 +45,12 @@ starts_one s u id label part body task scope place has p b started child = by_nu
                 label_is = child.label_is;
                 input_is = child.input_is;
                 range_is = child.range_is;
-                home_is = child.home_is ∙ ap (λ (h : Home). Some h) (home_is id place scope (length n.children) n.scope p h);
+                home_is = child.home_is ∙ ap (λ (h : Home). Some h) (home_is id index scope (length n.children) n.scope p h);
                 frames = child.frames;
                 own = child.own;
                 task_state = child.task_state;
                 entries = child.entries;
-                froms = child.froms;
+                cancelled_from = child.cancelled_from;
                 cancelled = child.cancelled;
               };
         }
@@ -64,7 +64,7 @@ running_length (suc i) = length-append (running_children i) (None ∷ []) ∙ (l
 next_home : (id i : ℕ) (n : Nursery) → (let more : Nursery = record n { children = n.children ++ running_children i } in home_at id more 0)
     ≡ home_at id n i
 next_home id i n =
-    ap (λ (p : ℕ). (let h : Home = record { nursery = id; place = p; scope = n.scope } in h))
+    ap (λ (p : ℕ). (let h : Home = record { nursery = id; index = p; scope = n.scope } in h))
     (let e = length-append n.children (running_children i) in let f = running_length i in omega (arith, e, f))
 
 -- at first none is
@@ -123,7 +123,7 @@ starts_more s m u id k i name label part body begins h g named input cut =
           own = g.child.own;
           task_state = g.child.task_state ∙ ap (λ (x : ℕ). ToBegin x) begins;
           entries = g.child.entries;
-          froms = g.child.froms;
+          cancelled_from = g.child.cancelled_from;
           cancelled = g.child.cancelled;
         },
       );

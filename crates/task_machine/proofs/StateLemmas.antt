@@ -26,7 +26,7 @@ use Rattle.task_machine.specs.Frames.{frame_of, frames_onto, frames_of}
 use Rattle.task_machine.specs.Labels.{Labels}
 use Rattle.task_machine.specs.Left.{keys_in}
 use Rattle.task_machine.specs.Standing.{HasBlock, HasNurseryOf}
-use Rattle.task_machine.specs.Stops.{Numbers, IsTaskState, IsTold}
+use Rattle.task_machine.specs.Stops.{Numbers, IsTaskState, IsReturned}
 
 -- ---- what contracts see of a task and its world
 
@@ -119,22 +119,22 @@ keyed_by P now labels book fs own waits ks has h = keyed_onto P now labels book 
 -- ---- how a task stopped
 
 -- a task that stopped at its end returned so
-pub told_end : (clock : Clock) (numbers : Numbers) (book : NurseryBook) (part : Part) (stop : Stop) (task_state : TaskState) (u : ℕ)
+pub returned_end : (clock : Clock) (numbers : Numbers) (book : NurseryBook) (part : Part) (stop : Stop) (task_state : TaskState) (u : ℕ)
     (e : Option Exc) →
     IsTaskState numbers book task_state (at_end u e) →
-    IsTold clock part stop task_state (at_end u e) → (exc : Option held.Exc) × (stop ≡ Ended exc)
-told_end clock numbers book part stop (ToBegin at) u e h told = absurd h
-told_end clock numbers book part stop (Asked kernel purpose) u e h told = absurd h
-told_end clock numbers book part stop (Asleep paced ticks since) u e h told = absurd h
-told_end clock numbers book part stop (Waiting event since) u e h told = absurd h
-told_end clock numbers book part stop (GivingUp since) u e h told = absurd h
-told_end clock numbers book part stop (Awaits id since) u e h told = absurd h
-told_end clock numbers book part (Ask request) Over u e h told = absurd told
-told_end clock numbers book part (Sleep due) Over u e h told = absurd told
-told_end clock numbers book part (WaitFor event) Over u e h told = absurd told
-told_end clock numbers book part (GiveUp due) Over u e h told = absurd told
-told_end clock numbers book part (Wait id) Over u e h told = absurd told
-told_end clock numbers book part (Ended exc) Over u e h told = (exc, refl)
+    IsReturned clock part stop task_state (at_end u e) → (exc : Option held.Exc) × (stop ≡ Ended exc)
+returned_end clock numbers book part stop (ToBegin at) u e h returned = absurd h
+returned_end clock numbers book part stop (Asked kernel purpose) u e h returned = absurd h
+returned_end clock numbers book part stop (Asleep paced ticks since) u e h returned = absurd h
+returned_end clock numbers book part stop (Waiting event since) u e h returned = absurd h
+returned_end clock numbers book part stop (GivingUp since) u e h returned = absurd h
+returned_end clock numbers book part stop (Awaits id since) u e h returned = absurd h
+returned_end clock numbers book part (Ask request) Over u e h returned = absurd returned
+returned_end clock numbers book part (Sleep due) Over u e h returned = absurd returned
+returned_end clock numbers book part (WaitFor event) Over u e h returned = absurd returned
+returned_end clock numbers book part (GiveUp due) Over u e h returned = absurd returned
+returned_end clock numbers book part (Wait id) Over u e h returned = absurd returned
+returned_end clock numbers book part (Ended exc) Over u e h returned = (exc, refl)
 
 -- a stop that is a wait is for a nursery, whose children are those numbered there, and no other stop is one
 abbrev pub WaitsAs : Numbers → Option ℕ → Stopped → Type 0

@@ -23,10 +23,10 @@ use Rattle.job_meaning.specs.Rest.{Event, noted, signs, enters, starts, Stopped}
 use Rattle.task_machine.specs.declared.entry.Entry.{Entry}
 use Rattle.task_machine.specs.Noted.{entry_of, IsSlice, shown_made, AreNoted}
 use Rattle.turn_semantics.specs.Midway.{Place, Midway, Begun, Move, after_move, no_move, then_move, now_after}
-use Rattle.turn_semantics.specs.Steps.{froms_after, step_of, turn_of}
+use Rattle.turn_semantics.specs.Steps.{cancelled_from_after, step_of, turn_of}
 use Rattle.turn_semantics.specs.Placed.{PlacedAfter, outer_places}
 use Rattle.turn_semantics.specs.Names.{NewIn}
-use Rattle.turn_semantics.proofs.Events.{froms_append, own_append}
+use Rattle.turn_semantics.proofs.Events.{cancelled_from_append, own_append}
 use Rattle.turn_semantics.proofs.Turns.{turned_step}
 use Rattle.turn_semantics.proofs.Names.{step_stays_new}
 use Rattle.task_machine.specs.declared.frame.Frame.{Frame}
@@ -73,11 +73,11 @@ grouped o p q None =
     ap (λ (es : List Event). record q { made = es; begun = o.begun ++ (p.begun ++ q.begun) }) (sym (append_assoc o.made p.made q.made))
     ∙ ap (λ (bs : List Begun). record q { made = o.made ++ p.made ++ q.made; begun = bs }) (sym (append_assoc o.begun p.begun q.begun))
 
--- what a task does by the froms of its world, by where it is in time, and by how far it is
-module _ (f : Table → Now → Midway → Move) (clock : Clock) (froms : Table) (now : Now) (m : Midway) where
+-- what a task does by the moments of cancellation of its world, by where it is in time, and by how far it is
+module _ (f : Table → Now → Midway → Move) (clock : Clock) (cancelled_from : Table) (now : Now) (m : Midway) where
   -- a move after no move is that move
-  after_nothing : f froms now m ≡ then_move None (no_move m) (f froms now (after_move m (no_move m)))
-  after_nothing = ap (f froms now) by_count
+  after_nothing : f cancelled_from now m ≡ then_move None (no_move m) (f cancelled_from now (after_move m (no_move m)))
+  after_nothing = ap (f cancelled_from now) by_count
     where
       zero_more : (n : ℕ) → n ≡ n + 0
       zero_more n = omega arith
@@ -85,18 +85,18 @@ module _ (f : Table → Now → Midway → Move) (clock : Clock) (froms : Table)
       by_count : m ≡ after_move m (no_move m)
       by_count = ap (λ (n : ℕ). record m { count = n }) (zero_more m.count)
 
-  -- the task after two moves, and the froms then
+  -- the task after two moves, and the moments of cancellation then
   after_both : (o p : Move) →
-      f (froms_after (froms_after froms o.made) p.made) (now_after clock (now_after clock now o.made) p.made)
+      f (cancelled_from_after (cancelled_from_after cancelled_from o.made) p.made) (now_after clock (now_after clock now o.made) p.made)
       (after_move (after_move m o) p)
-      ≡ f (froms_after froms (then_move None o p).made) (now_after clock now (then_move None o p).made) (after_move m (then_move None o p))
+      ≡ f (cancelled_from_after cancelled_from (then_move None o p).made) (now_after clock now (then_move None o p).made) (after_move m (then_move None o p))
   after_both o p =
       ap (λ (fr : Table). f fr (now_after clock (now_after clock now o.made) p.made) (after_move (after_move m o) p))
-      (sym (froms_append o.made p.made froms))
-      ∙ ap (λ (own : List Label). f (froms_after froms (o.made ++ p.made)) (record { at = now.at; own = own })
+      (sym (cancelled_from_append o.made p.made cancelled_from))
+      ∙ ap (λ (own : List Label). f (cancelled_from_after cancelled_from (o.made ++ p.made)) (record { at = now.at; own = own })
       (after_move (after_move m o) p))
       (sym (own_append clock o.made p.made now.own))
-      ∙ ap (λ (n : ℕ). f (froms_after froms (o.made ++ p.made)) (now_after clock now (o.made ++ p.made))
+      ∙ ap (λ (n : ℕ). f (cancelled_from_after cancelled_from (o.made ++ p.made)) (now_after clock now (o.made ++ p.made))
       (record { frames = p.frames; places = p.places; exc = p.exc; count = n }))
       (by_lengths m.count (length o.begun) (length p.begun) (length (o.begun ++ p.begun)) (length-append o.begun p.begun))
     where
@@ -105,32 +105,32 @@ module _ (f : Table → Now → Midway → Move) (clock : Clock) (froms : Table)
 
   then_both : (s : Option Stopped) (o p : Move) → o.stopped ≡ s →
       then_move s o (then_move p.stopped p
-      (f (froms_after (froms_after froms o.made) p.made) (now_after clock (now_after clock now o.made) p.made)
+      (f (cancelled_from_after (cancelled_from_after cancelled_from o.made) p.made) (now_after clock (now_after clock now o.made) p.made)
       (after_move (after_move m o) p)))
-      ≡ (let b = then_move s o p in then_move b.stopped b (f (froms_after froms b.made) (now_after clock now b.made) (after_move m b)))
+      ≡ (let b = then_move s o p in then_move b.stopped b (f (cancelled_from_after cancelled_from b.made) (now_after clock now b.made) (after_move m b)))
   then_both None o p e =
       grouped o p
-      (f (froms_after (froms_after froms o.made) p.made) (now_after clock (now_after clock now o.made) p.made)
+      (f (cancelled_from_after (cancelled_from_after cancelled_from o.made) p.made) (now_after clock (now_after clock now o.made) p.made)
       (after_move (after_move m o) p))
       p.stopped
       ∙ ap (λ (q : Move). then_move p.stopped (then_move None o p) q) (after_both o p)
   then_both (Some s) o p e =
-      ap (λ (z : Option Stopped). then_move z o (f (froms_after froms o.made) (now_after clock now o.made) (after_move m o))) (sym e)
+      ap (λ (z : Option Stopped). then_move z o (f (cancelled_from_after cancelled_from o.made) (now_after clock now o.made) (after_move m o))) (sym e)
 
 -- a turn of one step more is the turn, and a step from where it led
-pub turn_snoc : (n : ℕ) (froms : Table) (now : Now) (here : Here) (m : Midway) →
-    (let o = turn_of n froms now here m in turn_of (suc n) froms now here m
-    ≡ then_move o.stopped o (step_of (froms_after froms o.made) (now_after here.clock now o.made) here (after_move m o)))
+pub turn_snoc : (n : ℕ) (cancelled_from : Table) (now : Now) (here : Here) (m : Midway) →
+    (let o = turn_of n cancelled_from now here m in turn_of (suc n) cancelled_from now here m
+    ≡ then_move o.stopped o (step_of (cancelled_from_after cancelled_from o.made) (now_after here.clock now o.made) here (after_move m o)))
 unfolding turn_of
-turn_snoc zero froms now here m =
-    let o = step_of froms now here m in
-    nothing_then m o.stopped o refl ∙ after_nothing (λ (fr : Table) (u : Now) (k : Midway). step_of fr u here k) here.clock froms now m
-turn_snoc (suc n) froms now here m =
-    let o = step_of froms now here m in
+turn_snoc zero cancelled_from now here m =
+    let o = step_of cancelled_from now here m in
+    nothing_then m o.stopped o refl ∙ after_nothing (λ (fr : Table) (u : Now) (k : Midway). step_of fr u here k) here.clock cancelled_from now m
+turn_snoc (suc n) cancelled_from now here m =
+    let o = step_of cancelled_from now here m in
     ap (λ (q : Move). then_move o.stopped o q)
-    (turn_snoc n (froms_after froms o.made) (now_after here.clock now o.made) here (after_move m o))
-    ∙ then_both (λ (fr : Table) (u : Now) (k : Midway). step_of fr u here k) here.clock froms now m o.stopped o
-    (turn_of n (froms_after froms o.made) (now_after here.clock now o.made) here (after_move m o)) refl
+    (turn_snoc n (cancelled_from_after cancelled_from o.made) (now_after here.clock now o.made) here (after_move m o))
+    ∙ then_both (λ (fr : Table) (u : Now) (k : Midway). step_of fr u here k) here.clock cancelled_from now m o.stopped o
+    (turn_of n (cancelled_from_after cancelled_from o.made) (now_after here.clock now o.made) here (after_move m o)) refl
 
 -- ---- what two moves noted and began
 
@@ -175,14 +175,14 @@ grown_number : (at : ℕ) (o : Option Nursery) (n : Nursery) (was are : List ℕ
 grown_number at None n was are i x h e = absurd h
 grown_number at (Some m) n was are i x h e = subst (λ (l : List ℕ). slice_get l i ≡ Some x) (sym h.numbers) (got_first was h.added i x e)
 
-grown_home : (at : ℕ) (o : Option Nursery) (n : Nursery) (was are : List ℕ) (scope place : ℕ) → IsSomeAnd o (λ m. Grown at n m was are) →
-    (n.scope ≡ scope) × (slice_get n.children place ≡ Some None) →
-    IsSomeAnd o (λ m. (m.scope ≡ scope) × (slice_get m.children place ≡ Some None))
-grown_home at None n was are scope place h e = absurd h
-grown_home at (Some m) n was are scope place h e = (
+grown_home : (at : ℕ) (o : Option Nursery) (n : Nursery) (was are : List ℕ) (scope index : ℕ) → IsSomeAnd o (λ m. Grown at n m was are) →
+    (n.scope ≡ scope) × (slice_get n.children index ≡ Some None) →
+    IsSomeAnd o (λ m. (m.scope ≡ scope) × (slice_get m.children index ≡ Some None))
+grown_home at None n was are scope index h e = absurd h
+grown_home at (Some m) n was are scope index h e = (
   h.scope ∙ e.0,
-  subst (λ (es : List End). slice_get es place ≡ Some None) (sym h.children)
-      (got_first n.children h.more place None e.1),
+  subst (λ (es : List End). slice_get es index ≡ Some None) (sym h.children)
+      (got_first n.children h.more index None e.1),
 )
 
 -- where a member ended last, in both moves
@@ -243,7 +243,7 @@ begun_on clock begins at gs between after mid new blocks waits grow kept task b 
       own = h.own;
       task_state = h.task_state;
       entries = h.entries;
-      froms = h.froms;
+      cancelled_from = h.cancelled_from;
       cancelled = h.cancelled;
       home = h.home;
       at_home = h.at_home;
@@ -257,19 +257,19 @@ begun_on clock begins at gs between after mid new blocks waits grow kept task b 
     among = goes_with h.home.nursery (blocks_of gs) h.owned
 
     by_number : (o : Option Nursery) → nursery_at mid h.home.nursery ≡ o →
-        IsSomeAnd o (λ n. (n.scope ≡ h.home.scope) × (slice_get n.children h.home.place ≡ Some None)) →
-        slice_get (after h.home.nursery) h.home.place ≡ Some b.number
+        IsSomeAnd o (λ n. (n.scope ≡ h.home.scope) × (slice_get n.children h.home.index ≡ Some None)) →
+        slice_get (after h.home.nursery) h.home.index ≡ Some b.number
     by_number None e s = absurd s
     by_number (Some n) e s =
-        grown_number at (nursery_at new h.home.nursery) n (between h.home.nursery) (after h.home.nursery) h.home.place b.number
+        grown_number at (nursery_at new h.home.nursery) n (between h.home.nursery) (after h.home.nursery) h.home.index b.number
         (grow h.home.nursery among n e) h.number
 
     by_nursery : (o : Option Nursery) → nursery_at mid h.home.nursery ≡ o →
-        IsSomeAnd o (λ n. (n.scope ≡ h.home.scope) × (slice_get n.children h.home.place ≡ Some None)) →
-        HasNursery new h.home.nursery (λ n. (n.scope ≡ h.home.scope) × (slice_get n.children h.home.place ≡ Some None))
+        IsSomeAnd o (λ n. (n.scope ≡ h.home.scope) × (slice_get n.children h.home.index ≡ Some None)) →
+        HasNursery new h.home.nursery (λ n. (n.scope ≡ h.home.scope) × (slice_get n.children h.home.index ≡ Some None))
     by_nursery None e s = absurd s
     by_nursery (Some n) e s =
-        grown_home at (nursery_at new h.home.nursery) n (between h.home.nursery) (after h.home.nursery) h.home.scope h.home.place
+        grown_home at (nursery_at new h.home.nursery) n (between h.home.nursery) (after h.home.nursery) h.home.scope h.home.index
         (grow h.home.nursery among n e) s
 
 all_begun_on : (clock : Clock) (begins at : ℕ) (gs : List Frame) (between after : Numbers) (mid new : NurseryBook) (blocks : List Block)
@@ -330,17 +330,17 @@ module _ (s m u : State) (waits : Option ℕ) (was between are : Numbers) (ts us
       by_second (inr h) = by_old h (has_or_not id (blocks_of s.frames))
 
   covered_then : Covers (blocks_of s.frames) was are (blocks_of u.frames) waits (ts ++ us) (bs ++ cs)
-  covered_then id place number has at = by_second (second.covered id place number has at)
+  covered_then id index number has at = by_second (second.covered id index number has at)
     where
-      by_first : (HasBlock id (blocks_of s.frames) × (slice_get (was id) place ≡ Some number)) ⊎ BeginsAt id place number ts bs →
-          (HasBlock id (blocks_of s.frames) × (slice_get (was id) place ≡ Some number)) ⊎ BeginsAt id place number (ts ++ us) (bs ++ cs)
+      by_first : (HasBlock id (blocks_of s.frames) × (slice_get (was id) index ≡ Some number)) ⊎ BeginsAt id index number ts bs →
+          (HasBlock id (blocks_of s.frames) × (slice_get (was id) index ≡ Some number)) ⊎ BeginsAt id index number (ts ++ us) (bs ++ cs)
       by_first (inl h) = inl h
-      by_first (inr h) = inr (begins_more id place number ts us bs cs h)
+      by_first (inr h) = inr (begins_more id index number ts us bs cs h)
 
-      by_second : (HasBlock id (blocks_of m.frames) × (slice_get (between id) place ≡ Some number)) ⊎ BeginsAt id place number us cs →
-          (HasBlock id (blocks_of s.frames) × (slice_get (was id) place ≡ Some number)) ⊎ BeginsAt id place number (ts ++ us) (bs ++ cs)
-      by_second (inl h) = by_first (first.covered id place number (inl h.0) h.1)
-      by_second (inr h) = inr (begins_last clock begins id place number between m.book (blocks_of m.frames) None ts us bs cs begun h)
+      by_second : (HasBlock id (blocks_of m.frames) × (slice_get (between id) index ≡ Some number)) ⊎ BeginsAt id index number us cs →
+          (HasBlock id (blocks_of s.frames) × (slice_get (was id) index ≡ Some number)) ⊎ BeginsAt id index number (ts ++ us) (bs ++ cs)
+      by_second (inl h) = by_first (first.covered id index number (inl h.0) h.1)
+      by_second (inr h) = inr (begins_last clock begins id index number between m.book (blocks_of m.frames) None ts us bs cs begun h)
 
   grow_next : Grow s.tick m.frames between are m.book u.book
   grow_next = subst (λ (t : ℕ). Grow t m.frames between are m.book u.book) tick second.grow
@@ -385,15 +385,15 @@ module _ (s m u : State) (waits : Option ℕ) (was between are : Numbers) (ts us
       }
 
 -- a move after which the task continues, and another from where it led: the move of both, with the numbers of the second
-pub took_both : (s m u : State) (exc : Option held.Exc) (goes : Moved) (froms : Table) (numbers : Numbers) (o q : Move) →
-    (first : Took s m (On exc) froms numbers o) →
-    (second : Took m u goes (froms_after froms o.made) first.numbers_after q) → m.part ≡ s.part → m.clock ≡ s.clock → m.tick ≡ s.tick →
-    (took : Took s u goes froms numbers (then_move None o q)) × (took.numbers_after ≡ second.numbers_after)
-took_both s m u exc goes froms numbers o q first second part clock tick = (
+pub took_both : (s m u : State) (exc : Option held.Exc) (goes : Moved) (cancelled_from : Table) (numbers : Numbers) (o q : Move) →
+    (first : Took s m (On exc) cancelled_from numbers o) →
+    (second : Took m u goes (cancelled_from_after cancelled_from o.made) first.numbers_after q) → m.part ≡ s.part → m.clock ≡ s.clock → m.tick ≡ s.tick →
+    (took : Took s u goes cancelled_from numbers (then_move None o q)) × (took.numbers_after ≡ second.numbers_after)
+took_both s m u exc goes cancelled_from numbers o q first second part clock tick = (
   record {
     numbers_after = second.numbers_after;
     frames_after = second.frames_after;
-    places = subst (λ (f : Table). AreAt u.labels u.events f (stack_in u) q.places) (sym (froms_append o.made q.made froms)) second.places;
+    places = subst (λ (f : Table). AreAt u.labels u.events f (stack_in u) q.places) (sym (cancelled_from_append o.made q.made cancelled_from)) second.places;
     event = second.event;
     moves =
         moves_then s.clock second.numbers_after u.book s.part m.part goes u.task_state o q part
@@ -430,25 +430,25 @@ took_both s m u exc goes froms numbers o q first second part clock tick = (
 )
 
 -- A move of the code after which the task continues, and another from where it led, are the move of both.
-pub took_then : (s m u : State) (exc : Option held.Exc) (goes : Moved) (froms : Table) (numbers : Numbers) (o q : Move) →
-    (first : Took s m (On exc) froms numbers o) → Took m u goes (froms_after froms o.made) first.numbers_after q →
-    m.part ≡ s.part → m.clock ≡ s.clock → m.tick ≡ s.tick → Took s u goes froms numbers (then_move o.stopped o q)
-took_then s m u exc goes froms numbers o q first second part clock tick =
-    subst (λ (x : Option Stopped). Took s u goes froms numbers (then_move x o q)) (sym first.moves.1)
-    (took_both s m u exc goes froms numbers o q first second part clock tick).0
+pub took_then : (s m u : State) (exc : Option held.Exc) (goes : Moved) (cancelled_from : Table) (numbers : Numbers) (o q : Move) →
+    (first : Took s m (On exc) cancelled_from numbers o) → Took m u goes (cancelled_from_after cancelled_from o.made) first.numbers_after q →
+    m.part ≡ s.part → m.clock ≡ s.clock → m.tick ≡ s.tick → Took s u goes cancelled_from numbers (then_move o.stopped o q)
+took_then s m u exc goes cancelled_from numbers o q first second part clock tick =
+    subst (λ (x : Option Stopped). Took s u goes cancelled_from numbers (then_move x o q)) (sym first.moves.1)
+    (took_both s m u exc goes cancelled_from numbers o q first second part clock tick).0
 
 -- ---- the state of a task after a step
 
 -- a task has the state to which a step led, whether it continues or stops
-pub stands_where : (s u : State) (froms : Table) (numbers : Numbers) (ps : List Place) (now : Now) (here : Here) →
-    Stands s froms numbers None ps → (count : ℕ) (exc : Option Exc) (goes : Moved) →
-    (let o = step_of froms now here (midway_at s exc numbers ps count) in (took : Took s u goes froms numbers o) →
-    Stands u (froms_after froms o.made) took.numbers_after o.stopped o.places)
-stands_where s u froms numbers ps now here stands count exc goes took =
+pub stands_where : (s u : State) (cancelled_from : Table) (numbers : Numbers) (ps : List Place) (now : Now) (here : Here) →
+    Stands s cancelled_from numbers None ps → (count : ℕ) (exc : Option Exc) (goes : Moved) →
+    (let o = step_of cancelled_from now here (midway_at s exc numbers ps count) in (took : Took s u goes cancelled_from numbers o) →
+    Stands u (cancelled_from_after cancelled_from o.made) took.numbers_after o.stopped o.places)
+stands_where s u cancelled_from numbers ps now here stands count exc goes took =
     let m : Midway = midway_at s exc numbers ps count in
-    let o = step_of froms now here m in
-    let step = turned_step now here froms m stands.placed in
-    let names = step_stays_new froms now here m stands.new stands.own in
+    let o = step_of cancelled_from now here m in
+    let step = turned_step now here cancelled_from m stands.placed in
+    let names = step_stays_new cancelled_from now here m stands.new stands.own in
     record {
       places = took.places;
       event = took.event;
@@ -461,12 +461,12 @@ stands_where s u froms numbers ps now here stands count exc goes took =
 -- ---- the steps of a turn of the code, one after another
 
 -- Before its first step a task has taken a turn of no steps.
-pub took_nothing : (s : State) (exc : Option held.Exc) (froms : Table) (numbers : Numbers) (now : Now) (here : Here) (ps : List Place)
-    (count : ℕ) → Stands s froms numbers None ps →
-    (took : Took s s (On exc) froms numbers (turn_of zero froms now here (midway_at s (option_map exc_of exc) numbers ps count)))
+pub took_nothing : (s : State) (exc : Option held.Exc) (cancelled_from : Table) (numbers : Numbers) (now : Now) (here : Here) (ps : List Place)
+    (count : ℕ) → Stands s cancelled_from numbers None ps →
+    (took : Took s s (On exc) cancelled_from numbers (turn_of zero cancelled_from now here (midway_at s (option_map exc_of exc) numbers ps count)))
     × (took.numbers_after ≡ numbers)
 unfolding turn_of
-took_nothing s exc froms numbers now here ps count stands = (
+took_nothing s exc cancelled_from numbers now here ps count stands = (
   record {
     numbers_after = numbers;
     frames_after = refl;
@@ -488,48 +488,48 @@ took_nothing s exc froms numbers now here ps count stands = (
 )
 
 -- the definitions' turn of one step more, by what the code holds after the turn so far
-one_more : (n : ℕ) (froms : Table) (now : Now) (here : Here) (m : Midway) (gs : List rest.Frame) (exc : Option Exc) →
-    (let o = turn_of n froms now here m in
+one_more : (n : ℕ) (cancelled_from : Table) (now : Now) (here : Here) (m : Midway) (gs : List rest.Frame) (exc : Option Exc) →
+    (let o = turn_of n cancelled_from now here m in
     gs ≡ o.frames → exc ≡ o.exc → o.stopped ≡ None →
-    then_move None o (step_of (froms_after froms o.made) (now_after here.clock now o.made) here (record
+    then_move None o (step_of (cancelled_from_after cancelled_from o.made) (now_after here.clock now o.made) here (record
     { frames = gs; places = o.places; exc = exc; count = m.count + length o.begun }))
-    ≡ turn_of (suc n) froms now here m)
-one_more n froms now here m gs exc frames raised going =
-    let o = turn_of n froms now here m in
-    let step : Midway → Move = λ k. step_of (froms_after froms o.made) (now_after here.clock now o.made) here k in
+    ≡ turn_of (suc n) cancelled_from now here m)
+one_more n cancelled_from now here m gs exc frames raised going =
+    let o = turn_of n cancelled_from now here m in
+    let step : Midway → Move = λ k. step_of (cancelled_from_after cancelled_from o.made) (now_after here.clock now o.made) here k in
     ap (λ (s : Option Stopped). then_move s o
     (step (record { frames = gs; places = o.places; exc = exc; count = m.count + length o.begun }))) (sym going)
     ∙ ap (λ (fs : List rest.Frame).
     then_move o.stopped o (step (record { frames = fs; places = o.places; exc = exc; count = m.count + length o.begun }))) frames
     ∙ ap (λ (e : Option Exc). then_move o.stopped o
     (step (record { frames = o.frames; places = o.places; exc = e; count = m.count + length o.begun }))) raised
-    ∙ sym (turn_snoc n froms now here m)
+    ∙ sym (turn_snoc n cancelled_from now here m)
 
 -- A turn of some steps, and a step from where it led, are the turn with one step more, and the task has the state to which they
 -- led, with the same numbers, whether it continues or stops.
-pub goes_and_stands : (n : ℕ) (s m u : State) (exc : Option held.Exc) (goes : Moved) (froms : Table) (numbers : Numbers) (now : Now)
+pub goes_and_stands : (n : ℕ) (s m u : State) (exc : Option held.Exc) (goes : Moved) (cancelled_from : Table) (numbers : Numbers) (now : Now)
     (here : Here) (ps : List Place) (count : ℕ) (exc0 : Option Exc) →
-    (let o = turn_of n froms now here (midway_at s exc0 numbers ps count) in
-    let more = turn_of (suc n) froms now here (midway_at s exc0 numbers ps count) in
-    (first : Took s m (On exc) froms numbers o) → Stands m (froms_after froms o.made) first.numbers_after None o.places →
+    (let o = turn_of n cancelled_from now here (midway_at s exc0 numbers ps count) in
+    let more = turn_of (suc n) cancelled_from now here (midway_at s exc0 numbers ps count) in
+    (first : Took s m (On exc) cancelled_from numbers o) → Stands m (cancelled_from_after cancelled_from o.made) first.numbers_after None o.places →
     m.part ≡ s.part → m.clock ≡ s.clock → m.tick ≡ s.tick →
-    Took m u goes (froms_after froms o.made) first.numbers_after
-    (step_of (froms_after froms o.made) (now_after here.clock now o.made) here
+    Took m u goes (cancelled_from_after cancelled_from o.made) first.numbers_after
+    (step_of (cancelled_from_after cancelled_from o.made) (now_after here.clock now o.made) here
     (midway_at m (option_map exc_of exc) first.numbers_after o.places (count + length o.begun))) →
-    (took : Took s u goes froms numbers more) × Stands u (froms_after froms more.made) took.numbers_after more.stopped more.places)
-goes_and_stands n s m u exc goes froms numbers now here ps count exc0 first stands part clock tick second =
+    (took : Took s u goes cancelled_from numbers more) × Stands u (cancelled_from_after cancelled_from more.made) took.numbers_after more.stopped more.places)
+goes_and_stands n s m u exc goes cancelled_from numbers now here ps count exc0 first stands part clock tick second =
     let k : Midway = midway_at s exc0 numbers ps count in
-    let o = turn_of n froms now here k in
-    let q = step_of (froms_after froms o.made) (now_after here.clock now o.made) here
+    let o = turn_of n cancelled_from now here k in
+    let q = step_of (cancelled_from_after cancelled_from o.made) (now_after here.clock now o.made) here
     (midway_at m (option_map exc_of exc) first.numbers_after o.places (count + length o.begun)) in
-    let both = took_both s m u exc goes froms numbers o q first second part clock tick in
-    let there = stands_where m u (froms_after froms o.made) first.numbers_after o.places (now_after here.clock now o.made) here stands
+    let both = took_both s m u exc goes cancelled_from numbers o q first second part clock tick in
+    let there = stands_where m u (cancelled_from_after cancelled_from o.made) first.numbers_after o.places (now_after here.clock now o.made) here stands
     (count + length o.begun) _ goes second in
     subst
-    (λ (p : Move). (took : Took s u goes froms numbers p) × Stands u (froms_after froms p.made) took.numbers_after p.stopped p.places)
-    (one_more n froms now here k (frames_of first.numbers_after m.frames) (option_map exc_of exc) first.frames_after first.moves.0
+    (λ (p : Move). (took : Took s u goes cancelled_from numbers p) × Stands u (cancelled_from_after cancelled_from p.made) took.numbers_after p.stopped p.places)
+    (one_more n cancelled_from now here k (frames_of first.numbers_after m.frames) (option_map exc_of exc) first.frames_after first.moves.0
     first.moves.1) (
       both.0,
-      subst (λ (ns : Numbers). Stands u (froms_after froms (o.made ++ q.made)) ns q.stopped q.places) (sym both.1)
-          (subst (λ (f : Table). Stands u f second.numbers_after q.stopped q.places) (sym (froms_append o.made q.made froms)) there),
+      subst (λ (ns : Numbers). Stands u (cancelled_from_after cancelled_from (o.made ++ q.made)) ns q.stopped q.places) (sym both.1)
+          (subst (λ (f : Table). Stands u f second.numbers_after q.stopped q.places) (sym (cancelled_from_append o.made q.made cancelled_from)) there),
     )

@@ -67,26 +67,26 @@ home_in s = option_map (λ (h : Home). h.scope) s.home
 pub ready_awaits : (s : State) (id since : ℕ) → Laws s.tree → s.task_state ≡ Awaits id since → WakesFrom s.task_state s.part s.book Settled →
     Fits s (waits_of s.task_state) → Ready (home_in s) s.own s.tree s.labels
 ready_awaits s id since laws is wake h =
-    ready_settled s.frames id s.part (home_in s) s.own (length s.froms) s.tree s.labels s.book laws.chain laws.own laws.apart
+    ready_settled s.frames id s.part (home_in s) s.own (length s.cancelled_from) s.tree s.labels s.book laws.chain laws.own laws.apart
     (subst (λ (x : TaskState). WakesFrom x s.part s.book Settled) is wake) (subst (λ (x : TaskState). Fits s (waits_of x)) is h)
 
--- as many froms as before
-same_froms : (s u : State) (l : Leaves (scoping_in s) (scoping_in u)) → length u.froms ≡ length s.froms
-same_froms s u l = ap (λ (fs : List ScopeFrom). length fs) l.froms ∙ length-set s.froms l.scope.at (record l.entry { seen = l.from })
+-- as many moments of cancellation as before
+same_cancelled_from : (s u : State) (l : Leaves (scoping_in s) (scoping_in u)) → length u.cancelled_from ≡ length s.cancelled_from
+same_cancelled_from s u l = ap (λ (fs : List ScopeFrom). length fs) l.cancelled_from ∙ length-set s.cancelled_from l.scope.at (record l.entry { seen = l.from })
 
 -- what holds of a task is kept when the nursery that it waited for is closed and its scope is left
 pub settled_fits : (s u : State) (book : NurseryBook) (id since : ℕ) → Laws s.tree → s.task_state ≡ Awaits id since →
     WakesFrom s.task_state s.part s.book Settled → Fits s (waits_of s.task_state) → Updates s.book book id None →
     (l : Leaves (scoping_in s) (scoping_in u)) → OwnFirst u.tree (home_in s) u.own →
-    u ≡ record s { own = u.own; froms = u.froms; entries = u.entries; tree = u.tree; labels = u.labels; events = u.events; book = book } → Fits u None
+    u ≡ record s { own = u.own; cancelled_from = u.cancelled_from; entries = u.entries; tree = u.tree; labels = u.labels; events = u.events; book = book } → Fits u None
 settled_fits s u book id since laws is wake h ended l first stays =
     subst (λ (x : State). Fits x None) (sym stays)
-    (subst (λ (n : ℕ). FitsIn s.frames s.part (home_in s) u.own n u.tree u.labels book None) (sym (same_froms s u l))
-    (fits_settled s.frames id s.part (home_in s) u.own l.scope (length s.froms) s.tree u.tree s.labels u.labels s.book book
+    (subst (λ (n : ℕ). FitsIn s.frames s.part (home_in s) u.own n u.tree u.labels book None) (sym (same_cancelled_from s u l))
+    (fits_settled s.frames id s.part (home_in s) u.own l.scope (length s.cancelled_from) s.tree u.tree s.labels u.labels s.book book
     laws.chain laws.own laws.apart
     (top_of s.tree laws.chain laws.own (home_in s) s.own u.own l.scope l.taken (waits.runs.scope l.scope.id last) waits.runs.first last) l.closed
     l.others l.unlabelled first (subst (λ (x : TaskState). WakesFrom x s.part s.book Settled) is wake) ended
-    (subst (λ (own : List Own). FitsIn s.frames s.part (home_in s) own (length s.froms) s.tree s.labels s.book (Some id)) l.taken waits)))
+    (subst (λ (own : List Own). FitsIn s.frames s.part (home_in s) own (length s.cancelled_from) s.tree s.labels s.book (Some id)) l.taken waits)))
   where
     waits : Fits s (Some id)
     waits = subst (λ (x : TaskState). Fits s (waits_of x)) is h
@@ -97,15 +97,15 @@ settled_fits s u book id since laws is wake h ended l first stays =
 -- what holds of a task is kept when it leaves the scope or event that is its innermost block
 pub exited_fits : (f : Frame) → IsScope f → (s u : State) → Laws s.tree → Fits (with_frames s (s.frames ++ f ∷ [])) None →
     (l : Leaves (scoping_in s) (scoping_in u)) → OwnFirst u.tree (home_in s) u.own →
-    u ≡ record s { own = u.own; froms = u.froms; entries = u.entries; tree = u.tree; labels = u.labels; events = u.events } → Fits u None
+    u ≡ record s { own = u.own; cancelled_from = u.cancelled_from; entries = u.entries; tree = u.tree; labels = u.labels; events = u.events } → Fits u None
 exited_fits f is s u laws h l first stays =
     subst (λ (x : State). Fits x None) (sym stays)
-    (subst (λ (n : ℕ). FitsIn s.frames s.part (home_in s) u.own n u.tree u.labels s.book None) (sym (same_froms s u l))
-    (fits_left s.frames f is s.part (home_in s) u.own l.scope (length s.froms) s.tree u.tree s.labels u.labels s.book laws.chain laws.own
+    (subst (λ (n : ℕ). FitsIn s.frames s.part (home_in s) u.own n u.tree u.labels s.book None) (sym (same_cancelled_from s u l))
+    (fits_left s.frames f is s.part (home_in s) u.own l.scope (length s.cancelled_from) s.tree u.tree s.labels u.labels s.book laws.chain laws.own
     laws.apart
     (top_of s.tree laws.chain laws.own (home_in s) s.own u.own l.scope l.taken (h.runs.scope l.scope.id last) h.runs.first last) l.closed l.others
     l.unlabelled first
-    (subst (λ (own : List Own). FitsIn (s.frames ++ f ∷ []) s.part (home_in s) own (length s.froms) s.tree s.labels s.book None)
+    (subst (λ (own : List Own). FitsIn (s.frames ++ f ∷ []) s.part (home_in s) own (length s.cancelled_from) s.tree s.labels s.book None)
     l.taken h)))
   where
     last : last_or (home_in s) (ids s.own) ≡ Some l.scope.id
@@ -119,22 +119,22 @@ pub waits_fits : (id : ℕ) (exc : Option Exc) (at : ℕ) (s u : State) → Fits
     u ≡ record s { task_state = u.task_state; tree = u.tree; book = u.book } → Fits u (Some id)
 waits_fits id exc at s u h same changes stays =
     subst (λ (x : State). Fits x (Some id)) (sym stays)
-    (fits_signed s.frames s.part (home_in s) s.own (length s.froms) s.tree u.tree s.labels u.book (Some id) same
-    (fits_awaits s.frames id s.part (home_in s) s.own (length s.froms) s.tree s.labels s.book u.book exc at changes h))
+    (fits_signed s.frames s.part (home_in s) s.own (length s.cancelled_from) s.tree u.tree s.labels u.book (Some id) same
+    (fits_awaits s.frames id s.part (home_in s) s.own (length s.cancelled_from) s.tree s.labels s.book u.book exc at changes h))
 
 -- scopes were signed
 pub signed_fits : (s u : State) (waits : Option ℕ) → Fits s waits → SameKeys s.tree u.tree →
     u ≡ record s { task_state = u.task_state; tree = u.tree } → Fits u waits
 signed_fits s u waits h same stays =
     subst (λ (x : State). Fits x waits) (sym stays)
-    (fits_signed s.frames s.part (home_in s) s.own (length s.froms) s.tree u.tree s.labels s.book waits same h)
+    (fits_signed s.frames s.part (home_in s) s.own (length s.cancelled_from) s.tree u.tree s.labels s.book waits same h)
 
 -- a scope was signed by a task that keeps its label
 pub cancelled_fits : (s u : State) (waits : Option ℕ) → Fits s waits → SameKeys s.tree u.tree →
     u ≡ record s { tree = u.tree; cancelled = u.cancelled } → Fits u waits
 cancelled_fits s u waits h same stays =
     subst (λ (x : State). Fits x waits) (sym stays)
-    (fits_signed s.frames s.part (home_in s) s.own (length s.froms) s.tree u.tree s.labels s.book waits same h)
+    (fits_signed s.frames s.part (home_in s) s.own (length s.cancelled_from) s.tree u.tree s.labels s.book waits same h)
 
 -- an event was set by a task that keeps its label
 pub set_fits : (s u : State) (waits : Option ℕ) → Fits s waits → u ≡ record s { events = u.events; set = u.set; cancelled = u.cancelled } →
@@ -148,7 +148,7 @@ pub frames_fit : (s : State) (whole : List Frame) (u : State) → Fits (with_fra
     AreInRangeFrames (frames_of (λ id. []) u.frames) → StartsFit (frames_of (λ id. []) u.frames) → u ≡ with_frames s u.frames → Fits u None
 frames_fit s whole u h same in_range starts stays =
     subst (λ (x : State). Fits x None) (sym stays)
-    (fits_frames whole u.frames s.part (home_in s) s.own (length s.froms) s.tree s.labels s.book same in_range starts h)
+    (fits_frames whole u.frames s.part (home_in s) s.own (length s.cancelled_from) s.tree s.labels s.book same in_range starts h)
 
 -- the blocks without an innermost frame that is no block
 blocks_but : (fs : List Frame) (f : Frame) → blocks_of (f ∷ []) ≡ [] → blocks_of fs ≡ blocks_of (fs ++ f ∷ [])
@@ -163,14 +163,14 @@ pub entered_fits : (b : Block) (label : Label) (s u : State) → Laws s.tree →
     blocks_of u.frames ≡ blocks_of s.frames ++ b ∷ [] → AreInRangeFrames (frames_of (λ id. []) u.frames) →
     StartsFit (frames_of (λ id. []) u.frames) → u.part ≡ s.part → u.home ≡ s.home → Fits u None
 entered_fits b label s u laws h e stay block blocks in_range starts part home =
-    rw (part, home, froms, e.opened)
-    (fits_entered s.frames u.frames b s.part (home_in s) s.own e.scope (length s.froms) s.tree u.tree s.labels u.labels s.book
-    u.book label e.level laws.chain e.fresh e.stack e.named e.others e.labelled e.place stay block blocks in_range starts h)
+    rw (part, home, cancelled_from, e.opened)
+    (fits_entered s.frames u.frames b s.part (home_in s) s.own e.scope (length s.cancelled_from) s.tree u.tree s.labels u.labels s.book
+    u.book label e.level laws.chain e.fresh e.stack e.named e.others e.labelled e.index stay block blocks in_range starts h)
   where
-    froms : length u.froms ≡ suc (length s.froms)
-    froms =
-        ap (λ (fs : List ScopeFrom). length fs) e.froms
-        ∙ (let f = length-append s.froms (record { label = label; seen = None } ∷ []) in omega (arith, f))
+    cancelled_from : length u.cancelled_from ≡ suc (length s.cancelled_from)
+    cancelled_from =
+        ap (λ (fs : List ScopeFrom). length fs) e.cancelled_from
+        ∙ (let f = length-append s.cancelled_from (record { label = label; seen = None } ∷ []) in omega (arith, f))
 
 -- what holds of a task is kept when it enters a scope or event
 pub scope_fits : (f : Frame) → IsScope f → (body : Steps) (label : Label) (s u : State) → Laws s.tree → Fits s None → {is_event : Bool} →
@@ -219,7 +219,7 @@ pub started_fits : (id : ℕ) (m : Members) (more : List End) (s u : State) → 
     u ≡ record s { book = u.book; started = u.started } → Fits u None
 started_fits id m more s u h was put world =
     subst (λ (x : State). Fits x None) (sym world)
-    (fits_started s.frames id s.part (home_in s) s.own (length s.froms) s.tree s.labels s.book u.book m more was put h)
+    (fits_started s.frames id s.part (home_in s) s.own (length s.cancelled_from) s.tree s.labels s.book u.book m more was put h)
 
 -- ---- the steps of a block
 

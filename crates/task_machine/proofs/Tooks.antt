@@ -24,7 +24,7 @@ use Rattle.job_meaning.specs.Rest as rest
 use Rattle.job_meaning.specs.Rest.{Stopped, awaiting, at_end}
 use Rattle.turn_semantics.specs.Midway.{Place, Begun, Move, label_among, stack_at}
 use Rattle.turn_semantics.specs.Placed.{Placed}
-use Rattle.turn_semantics.specs.Steps.{onward, makes, sleeps, falls_asleep, waits_on, home_among, signs_to, signs_home, leaves, ends_as, froms_after, step_frames}
+use Rattle.turn_semantics.specs.Steps.{onward, makes, sleeps, falls_asleep, waits_on, home_among, signs_to, signs_home, leaves, ends_as, cancelled_from_after, step_frames}
 use Rattle.task_machine.specs.declared.entry.Entry.{Entry}
 use Rattle.task_machine.specs.declared.frame.Frame.{Frame}
 use Rattle.task_machine.specs.declared.frame.Frame.TheVariants.{Scope, Event, Nursery}
@@ -140,16 +140,16 @@ by_nursery_place P kids gs (p ∷ ps) placed go = go p ps refl
 
 -- ---- moves from a state whose task had these frames
 
-module _ (b : State) (whole : List Frame) (froms : Table) (numbers : Numbers) (stopped : Option Stopped) (ps : List Place)
-    (stands : Stands (with_frames b whole) froms numbers stopped ps) where
+module _ (b : State) (whole : List Frame) (cancelled_from : Table) (numbers : Numbers) (stopped : Option Stopped) (ps : List Place)
+    (stands : Stands (with_frames b whole) cancelled_from numbers stopped ps) where
   -- any move that leaves the book as it is, and starts nothing, is a move of the definitions if its parts correspond
   pub took_quiet : (u : State) (goes : Moved) (o : Move) (entries : List Entry) → IsQuiet b whole u entries →
       AreNoted b.clock (buffer_of b.part) entries o.made → o.begun ≡ [] → frames_of numbers u.frames ≡ o.frames →
-      AreAt u.labels u.events (froms_after froms o.made) (stack_in u) o.places →
+      AreAt u.labels u.events (cancelled_from_after cancelled_from o.made) (stack_in u) o.places →
       AwaitsEvent u.labels (stack_in u) o.stopped u.task_state o.places → MovesAs b.clock numbers u.book b.part goes u.task_state o →
       waits_by goes u.task_state ≡ None → Acts b.tick (scoping_in b) o.made (scoping_in u) →
       OwnAfter b.clock b.cancelled u.cancelled o.made o.stopped →
-      Took (with_frames b whole) u goes froms numbers o
+      Took (with_frames b whole) u goes cancelled_from numbers o
   took_quiet u goes o entries quiet shown none gs at event moves waits acts own =
       record {
         numbers_after = numbers;
@@ -179,7 +179,7 @@ module _ (b : State) (whole : List Frame) (froms : Table) (numbers : Numbers) (s
   pub took_task_states : (fs : List Frame) (h : TaskState) (goes : Moved) (o : Move) → blocks_of fs ≡ blocks_of whole →
       o.frames ≡ frames_of numbers fs → o.places ≡ ps → o.made ≡ [] → o.begun ≡ [] → WaitsNot o.stopped →
       MovesAs b.clock numbers b.book b.part goes h o → AwaitsEvent b.labels (stack_in b) o.stopped h o.places →
-      Took (with_frames b whole) (record b { frames = fs; task_state = h }) goes froms numbers o
+      Took (with_frames b whole) (record b { frames = fs; task_state = h }) goes cancelled_from numbers o
   took_task_states fs h goes o same gs around made none not moves event =
       let u : State = record b { frames = fs; task_state = h } in
       took_quiet u goes o [] (quiet_by b whole u refl refl refl same)
@@ -188,41 +188,41 @@ module _ (b : State) (whole : List Frame) (froms : Table) (numbers : Numbers) (s
       (waits_not b.clock numbers b.book b.part goes h o not moves) (no_acts b.tick (scoping_in b) (scoping_in b) o.made made refl)
       (own_same b.clock b.cancelled b.cancelled o.made o.stopped made refl)
     where
-      at : AreAt b.labels b.events (froms_after froms o.made) (stack_in b) o.places
+      at : AreAt b.labels b.events (cancelled_from_after cancelled_from o.made) (stack_in b) o.places
       at =
-          subst (λ (es : List rest.Event). AreAt b.labels b.events (froms_after froms es) (stack_in b) o.places) (sym made)
-          (subst (λ (qs : List Place). AreAt b.labels b.events froms (stack_in b) qs) (sym around) stands.places)
+          subst (λ (es : List rest.Event). AreAt b.labels b.events (cancelled_from_after cancelled_from es) (stack_in b) o.places) (sym made)
+          (subst (λ (qs : List Place). AreAt b.labels b.events cancelled_from (stack_in b) qs) (sym around) stands.places)
 
   -- the task continues: at the end of a block, at a `try`, its handler or its cleanup, and where it raises
   pub took_onward : (fs : List Frame) (exc : Option held.Exc) (o : Move) → blocks_of fs ≡ blocks_of whole →
       o ≡ onward (frames_of numbers fs) ps (option_map exc_of exc) →
-      Took (with_frames b whole) (with_frames b fs) (On exc) froms numbers o
+      Took (with_frames b whole) (with_frames b fs) (On exc) cancelled_from numbers o
   took_onward fs exc o same is =
-      subst (λ (m : Move). Took (with_frames b whole) (with_frames b fs) (On exc) froms numbers m) (sym is)
+      subst (λ (m : Move). Took (with_frames b whole) (with_frames b fs) (On exc) cancelled_from numbers m) (sym is)
       (took_task_states fs b.task_state (On exc) (onward (frames_of numbers fs) ps (option_map exc_of exc)) same refl refl refl refl tt
       (refl, refl) tt)
 
   -- a task that stops or continues as the sleep of the definitions does makes that move
   pub took_sleep : (h : TaskState) (goes : Moved) (paced : Bool) (ticks : ℕ) → blocks_of b.frames ≡ blocks_of whole →
-      (AreAt b.labels b.events froms (stack_in b) ps →
-      MovesAs b.clock numbers b.book b.part goes h (sleeps b.clock froms paced ticks b.tick (frames_of numbers b.frames) ps)) →
-      Took (with_frames b whole) (record b { task_state = h }) goes froms numbers
-      (sleeps b.clock froms paced ticks b.tick (frames_of numbers b.frames) ps)
+      (AreAt b.labels b.events cancelled_from (stack_in b) ps →
+      MovesAs b.clock numbers b.book b.part goes h (sleeps b.clock cancelled_from paced ticks b.tick (frames_of numbers b.frames) ps)) →
+      Took (with_frames b whole) (record b { task_state = h }) goes cancelled_from numbers
+      (sleeps b.clock cancelled_from paced ticks b.tick (frames_of numbers b.frames) ps)
   took_sleep h goes paced ticks same sleep =
       let gs = frames_of numbers b.frames in
-      let alone : LeavesAlone (sleeps b.clock froms paced ticks b.tick gs ps) gs ps = falls_alone b.clock _ paced ticks b.tick gs ps in
+      let alone : LeavesAlone (sleeps b.clock cancelled_from paced ticks b.tick gs ps) gs ps = falls_alone b.clock _ paced ticks b.tick gs ps in
       took_task_states b.frames h goes
-      (sleeps b.clock froms paced ticks b.tick gs ps) same alone.frames alone.places alone.made alone.begun alone.waits
+      (sleeps b.clock cancelled_from paced ticks b.tick gs ps) same alone.frames alone.places alone.made alone.begun alone.waits
       (sleep stands.places)
-      (waits_else b.labels (stack_in b) (sleeps b.clock froms paced ticks b.tick gs ps).stopped h
-      (sleeps b.clock froms paced ticks b.tick gs ps).places (falls_else b.clock _ paced ticks b.tick gs ps))
+      (waits_else b.labels (stack_in b) (sleeps b.clock cancelled_from paced ticks b.tick gs ps).stopped h
+      (sleeps b.clock cancelled_from paced ticks b.tick gs ps).places (falls_else b.clock _ paced ticks b.tick gs ps))
 
   -- a task that stops or continues as the wait of the definitions does makes that move
   pub took_wait : (h : TaskState) (goes : Moved) (name : List ℕ) → blocks_of b.frames ≡ blocks_of whole →
-      (AreAt b.labels b.events froms (stack_in b) ps →
+      (AreAt b.labels b.events cancelled_from (stack_in b) ps →
       MovesAs b.clock numbers b.book b.part goes h (waits_on (label_among true name ps) name b.tick (frames_of numbers b.frames) ps)
       × AwaitsEvent b.labels (stack_in b) (waits_on (label_among true name ps) name b.tick (frames_of numbers b.frames) ps).stopped h ps) →
-      Took (with_frames b whole) (record b { task_state = h }) goes froms numbers
+      Took (with_frames b whole) (record b { task_state = h }) goes cancelled_from numbers
       (waits_on (label_among true name ps) name b.tick (frames_of numbers b.frames) ps)
   took_wait h goes name same wait =
       let gs = frames_of numbers b.frames in
@@ -235,39 +235,39 @@ module _ (b : State) (whole : List Frame) (froms : Table) (numbers : Numbers) (s
   -- a scope of a name is cancelled
   pub took_cancel : (tree : Tree) (cancelled : List Label) (name : List ℕ) → blocks_of b.frames ≡ blocks_of whole →
       CancelsAt b (record b { tree = tree; cancelled = cancelled }) name →
-      Took (with_frames b whole) (record b { tree = tree; cancelled = cancelled }) (On None) froms numbers
+      Took (with_frames b whole) (record b { tree = tree; cancelled = cancelled }) (On None) cancelled_from numbers
       (makes (signs_to (label_among false name ps) b.tick) (frames_of numbers b.frames) ps)
   took_cancel tree cancelled name same cancels =
       let made = signs_to (label_among false name ps) b.tick in
       let u : State = record b { tree = tree; cancelled = cancelled } in
-      let at = cancels.1 froms ps stands.own stands.places in
+      let at = cancels.1 cancelled_from ps stands.own stands.places in
       took_quiet u (On None) (makes made (frames_of numbers b.frames) ps) [] (quiet_by b whole u refl refl refl same)
       (none_noted b.clock (buffer_of b.part) made (quiet_signs b.clock (buffer_of b.part) (label_among false name ps) b.tick)) refl refl
       at.0 tt (refl, refl) refl
-      (found_signed b.tick (scoping_in b) tree name froms (stack_in b) ps stands.places cancels.0)
+      (found_signed b.tick (scoping_in b) tree name cancelled_from (stack_in b) ps stands.places cancels.0)
       (at.1 ∙ own_signed b.clock b.cancelled (label_among false name ps) b.tick)
 
   -- an event of a name is set
   pub took_set : (events : Events) (set : List ℕ) (cancelled : List Label) (name : List ℕ) → IsChain b.tree →
       blocks_of b.frames ≡ blocks_of whole → SetsAt b (record b { events = events; set = set; cancelled = cancelled }) name →
-      Took (with_frames b whole) (record b { events = events; set = set; cancelled = cancelled }) (On None) froms numbers
+      Took (with_frames b whole) (record b { events = events; set = set; cancelled = cancelled }) (On None) cancelled_from numbers
       (makes (signs_to (label_among true name ps) b.tick) (frames_of numbers b.frames) ps)
   took_set events set cancelled name chain same sets =
       let made = signs_to (label_among true name ps) b.tick in
       let u : State = record b { events = events; set = set; cancelled = cancelled } in
-      let at = sets.1 froms ps stands.own stands.places in
+      let at = sets.1 cancelled_from ps stands.own stands.places in
       took_quiet u (On None) (makes made (frames_of numbers b.frames) ps) [] (quiet_by b whole u refl refl refl same)
       (none_noted b.clock (buffer_of b.part) made (quiet_signs b.clock (buffer_of b.part) (label_among true name ps) b.tick)) refl refl
       at.0 tt (refl, refl) refl
       (found_set b events set cancelled (scope_named true b.labels b.events name (stack_in b)) (label_among true name ps)
-      (named_at true b.labels b.events froms name (stack_in b) ps stands.places)
+      (named_at true b.labels b.events cancelled_from name (stack_in b) ps stands.places)
       (λ key e. found_open true b.labels b.events b.tree name (scope_at b) key chain e) sets.0)
       (at.1 ∙ own_signed b.clock b.cancelled (label_among true name ps) b.tick)
 
   -- the task ends, with no frame left
   pub took_end : (tree : Tree) (exc : Option held.Exc) → whole ≡ [] → b.frames ≡ [] →
       (let u : State = record b { task_state = Over; tree = tree } in FailsAt b u (option_map exc_of exc) →
-      Took (with_frames b whole) u (Stops (Ended exc)) froms numbers
+      Took (with_frames b whole) u (Stops (Ended exc)) cancelled_from numbers
       (ends_as (at_end b.tick (option_map exc_of exc)) (option_map exc_of exc) b.tick [] ps))
   took_end tree exc empty left fails =
       let e = option_map exc_of exc in
@@ -276,20 +276,20 @@ module _ (b : State) (whole : List Frame) (froms : Table) (numbers : Numbers) (s
       (quiet_by b whole u refl refl refl (ap blocks_of (left ∙ sym empty)))
       (none_noted b.clock (buffer_of b.part) (signs_home e ps b.tick) (quiet_home b.clock (buffer_of b.part) e ps b.tick)) refl
       (ap (frames_of numbers) left)
-      (fails.1 froms ps stands.own stands.places) tt (refl, (tt, refl)) refl
-      (home_signed b.tick (scoping_in b) tree e froms (stack_in b) ps stands.places fails.0) tt
+      (fails.1 cancelled_from ps stands.own stands.places) tt (refl, (tt, refl)) refl
+      (home_signed b.tick (scoping_in b) tree e cancelled_from (stack_in b) ps stands.places fails.0) tt
 
   -- ---- blocks that are left
 
   -- A block is left that is enclosed by these places. The nursery, if it is one, was removed from the book before.
   pub took_leaves : (u : State) (book : NurseryBook) (k : meaning.Kind) (exc : Option Exc) (goes : Option held.Exc) (p : Place)
       (qs : List Place) →
-      ExitsFrom (record b { book = book }) u k (left_with (catches (from_for b.cancelled b.tick p.label (froms p.label)) p.shield
-      (stack_for b.cancelled b.tick (stack_at froms qs).scopes) b.tick) exc)
-      (option_map exc_of goes) froms p qs →
+      ExitsFrom (record b { book = book }) u k (left_with (catches (from_for b.cancelled b.tick p.label (cancelled_from p.label)) p.shield
+      (stack_for b.cancelled b.tick (stack_at cancelled_from qs).scopes) b.tick) exc)
+      (option_map exc_of goes) cancelled_from p qs →
       u.started ≡ b.started → u.cancelled ≡ b.cancelled → ChangesNurseries (with_frames b whole) u None numbers numbers [] [] →
       Leaves (scoping_in b) (scoping_in u) →
-      Took (with_frames b whole) u (On goes) froms numbers (leaves b.clock froms (now_at b) k (frames_of numbers u.frames) p qs exc)
+      Took (with_frames b whole) u (On goes) cancelled_from numbers (leaves b.clock cancelled_from (now_at b) k (frames_of numbers u.frames) p qs exc)
   took_leaves u book k exc goes p qs x started cancelled nurseries one =
       record {
         numbers_after = numbers;
@@ -311,17 +311,17 @@ module _ (b : State) (whole : List Frame) (froms : Table) (numbers : Numbers) (s
 
 -- ---- moves of a task that is in the middle of its turn
 
-module _ (b : State) (whole : List Frame) (froms : Table) (numbers : Numbers) (ps : List Place)
-    (stands : Stands (with_frames b whole) froms numbers None ps) where
+module _ (b : State) (whole : List Frame) (cancelled_from : Table) (numbers : Numbers) (ps : List Place)
+    (stands : Stands (with_frames b whole) cancelled_from numbers None ps) where
   -- the innermost scope is left
   pub took_exit : (u : State) (fail : Bool) (exc goes : Option held.Exc) (count : ℕ) → whole ≡ b.frames ++ Scope fail ∷ [] →
       u.frames ≡ b.frames → u.book ≡ b.book → u.started ≡ b.started → u.cancelled ≡ b.cancelled →
       ExitsAt b u (kind.Scope fail) (option_map exc_of exc) (option_map exc_of goes) → Leaves (scoping_in b) (scoping_in u) →
-      Took (with_frames b whole) u (On goes) froms numbers
-      (step_frames froms (now_at b) (here_at b) (rest.in_scope fail ∷ frames_of numbers b.frames) ps (option_map exc_of exc) count)
+      Took (with_frames b whole) u (On goes) cancelled_from numbers
+      (step_frames cancelled_from (now_at b) (here_at b) (rest.in_scope fail ∷ frames_of numbers b.frames) ps (option_map exc_of exc) count)
   took_exit u fail exc goes count popped left book started cancelled exits one =
-      by_place (λ (qs : List Place). Took (with_frames b whole) u (On goes) froms numbers
-      (step_frames froms (now_at b) (here_at b) (rest.in_scope fail ∷ gs) qs e count)) fail gs ps
+      by_place (λ (qs : List Place). Took (with_frames b whole) u (On goes) cancelled_from numbers
+      (step_frames cancelled_from (now_at b) (here_at b) (rest.in_scope fail ∷ gs) qs e count)) fail gs ps
       (subst (λ (hs : List rest.Frame). Placed hs ps) (frames_pushed numbers b.frames whole (Scope fail) popped) stands.placed) at_place
     where
       e : Option Exc
@@ -346,24 +346,24 @@ module _ (b : State) (whole : List Frame) (froms : Table) (numbers : Numbers) (p
           (has_more id (blocks_of b.frames) (a_scope ∷ []) (subst (λ (fs : List Frame). HasBlock id (blocks_of fs)) left has))
 
       at_place : (p : Place) (qs : List Place) → ps ≡ p ∷ qs → p.is_event ≡ false →
-          Took (with_frames b whole) u (On goes) froms numbers
-          (leaves b.clock froms (now_at b) (meaning.a_scope fail) gs p qs e)
+          Took (with_frames b whole) u (On goes) cancelled_from numbers
+          (leaves b.clock cancelled_from (now_at b) (meaning.a_scope fail) gs p qs e)
       at_place p qs is scope =
-          subst (λ (fs : List Frame). Took (with_frames b whole) u (On goes) froms numbers
-          (leaves b.clock froms (now_at b) (meaning.a_scope fail) (frames_of numbers fs) p qs e)) left
-          (took_leaves b whole froms numbers None ps stands u b.book (meaning.a_scope fail) e goes p qs
-          (exits froms p qs scope (subst (λ (rs : List Place). AreAt b.labels b.events froms (stack_in b) rs) is stands.places)) started cancelled
+          subst (λ (fs : List Frame). Took (with_frames b whole) u (On goes) cancelled_from numbers
+          (leaves b.clock cancelled_from (now_at b) (meaning.a_scope fail) (frames_of numbers fs) p qs e)) left
+          (took_leaves b whole cancelled_from numbers None ps stands u b.book (meaning.a_scope fail) e goes p qs
+          (exits cancelled_from p qs scope (subst (λ (rs : List Place). AreAt b.labels b.events cancelled_from (stack_in b) rs) is stands.places)) started cancelled
           (nurseries_same (with_frames b whole) u None numbers refl book kept back stands.numbered) one)
 
   -- the innermost event is left
   pub took_event_left : (u : State) (exc : Option held.Exc) (count : ℕ) → whole ≡ b.frames ++ Event ∷ [] →
-      u ≡ record b { own = u.own; froms = u.froms; tree = u.tree; labels = u.labels; events = u.events } →
+      u ≡ record b { own = u.own; cancelled_from = u.cancelled_from; tree = u.tree; labels = u.labels; events = u.events } →
       LeavesEventAt b u → Leaves (scoping_in b) (scoping_in u) →
-      Took (with_frames b whole) u (On exc) froms numbers
-      (step_frames froms (now_at b) (here_at b) (rest.in_event ∷ frames_of numbers b.frames) ps (option_map exc_of exc) count)
+      Took (with_frames b whole) u (On exc) cancelled_from numbers
+      (step_frames cancelled_from (now_at b) (here_at b) (rest.in_event ∷ frames_of numbers b.frames) ps (option_map exc_of exc) count)
   took_event_left u exc count popped stays left one =
-      by_event_place (λ (qs : List Place). Took (with_frames b whole) u (On exc) froms numbers
-      (step_frames froms (now_at b) (here_at b) (rest.in_event ∷ gs) qs e count)) gs ps
+      by_event_place (λ (qs : List Place). Took (with_frames b whole) u (On exc) cancelled_from numbers
+      (step_frames cancelled_from (now_at b) (here_at b) (rest.in_event ∷ gs) qs e count)) gs ps
       (subst (λ (hs : List rest.Frame). Placed hs ps) (frames_pushed numbers b.frames whole Event popped) stands.placed) at_place
     where
       e : Option Exc
@@ -390,9 +390,9 @@ module _ (b : State) (whole : List Frame) (froms : Table) (numbers : Numbers) (p
           subst (λ (bs : List Block). HasBlock id bs) (sym blocks)
           (has_more id (blocks_of b.frames) (a_scope ∷ []) (subst (λ (fs : List Frame). HasBlock id (blocks_of fs)) same has))
 
-      at_place : (p : Place) (qs : List Place) → ps ≡ p ∷ qs → Took (with_frames b whole) u (On exc) froms numbers (onward gs qs e)
+      at_place : (p : Place) (qs : List Place) → ps ≡ p ∷ qs → Took (with_frames b whole) u (On exc) cancelled_from numbers (onward gs qs e)
       at_place p qs is =
-          took_quiet b whole froms numbers None ps stands u (On exc) (onward gs qs e) []
+          took_quiet b whole cancelled_from numbers None ps stands u (On exc) (onward gs qs e) []
           (record {
             book = ap (λ (s : State). s.book) stays;
             started = ap (λ (s : State). s.started) stays;
@@ -401,19 +401,19 @@ module _ (b : State) (whole : List Frame) (froms : Table) (numbers : Numbers) (p
             back = back;
           })
           (none_noted b.clock (buffer_of b.part) [] refl) refl (ap (frames_of numbers) same)
-          (left froms p qs (subst (λ (rs : List Place). AreAt b.labels b.events froms (stack_in b) rs) is stands.places)) tt (refl, refl) refl
+          (left cancelled_from p qs (subst (λ (rs : List Place). AreAt b.labels b.events cancelled_from (stack_in b) rs) is stands.places)) tt (refl, refl) refl
           (closed_acts b.tick (scoping_in b) (scoping_in u) one) (ap (λ (s : State). s.cancelled) stays)
 
   -- the body of the innermost nursery has ended
   pub took_body : (id : ℕ) (exc : Option held.Exc) (tree : Tree) (book : NurseryBook) (count : ℕ) →
       whole ≡ b.frames ++ Nursery id ∷ [] → Changes b.book book id (with_body (option_map exc_of exc) b.tick) →
       (let u : State = record b { task_state = Awaits id b.tick; tree = tree; book = book } in FailsAt b u (option_map exc_of exc) →
-      Took (with_frames b whole) u (Stops (Wait id)) froms numbers
-      (step_frames froms (now_at b) (here_at b) (rest.in_nursery (numbers id) ∷ frames_of numbers b.frames) ps
+      Took (with_frames b whole) u (Stops (Wait id)) cancelled_from numbers
+      (step_frames cancelled_from (now_at b) (here_at b) (rest.in_nursery (numbers id) ∷ frames_of numbers b.frames) ps
       (option_map exc_of exc) count))
   took_body id exc tree book count popped changes fails =
-      by_nursery_place (λ (qs : List Place). Took (with_frames b whole) u (Stops (Wait id)) froms numbers
-      (step_frames froms (now_at b) (here_at b) (rest.in_nursery (numbers id) ∷ gs) qs e count)) (numbers id) gs ps
+      by_nursery_place (λ (qs : List Place). Took (with_frames b whole) u (Stops (Wait id)) cancelled_from numbers
+      (step_frames cancelled_from (now_at b) (here_at b) (rest.in_nursery (numbers id) ∷ gs) qs e count)) (numbers id) gs ps
       (subst (λ (hs : List rest.Frame). Placed hs ps) (frames_pushed numbers b.frames whole (Nursery id) popped) stands.placed) at_place
     where
       e : Option Exc
@@ -451,18 +451,18 @@ module _ (b : State) (whole : List Frame) (froms : Table) (numbers : Numbers) (p
       nurseries =
           nurseries_put (with_frames b whole) u (Some id) numbers id c.0 (with_body e b.tick c.0) c.1 c.2 innermost back numbers [] []
           (body_grown c.0 e b.tick (numbers id)) (λ key differs. refl) (λ long. long) kept
-          (λ key place number has at. inl (back key has, at))
+          (λ key index number has at. inl (back key has, at))
           stands.numbered
 
-      at_place : (p : Place) (qs : List Place) → ps ≡ p ∷ qs → Took (with_frames b whole) u (Stops (Wait id)) froms numbers
+      at_place : (p : Place) (qs : List Place) → ps ≡ p ∷ qs → Took (with_frames b whole) u (Stops (Wait id)) cancelled_from numbers
           (ends_as (awaiting (numbers id) b.tick e) e b.tick gs (p ∷ qs))
       at_place p qs is =
           record {
             numbers_after = numbers;
             frames_after = refl;
             places =
-                subst (λ (rs : List Place). AreAt b.labels b.events (froms_after froms (signs_home e rs b.tick)) (stack_in u) rs) is
-                (fails.1 froms ps stands.own stands.places);
+                subst (λ (rs : List Place). AreAt b.labels b.events (cancelled_from_after cancelled_from (signs_home e rs b.tick)) (stack_in u) rs) is
+                (fails.1 cancelled_from ps stands.own stands.places);
             event = tt;
             moves = (refl, ((refl, refl, subst (λ (o : Option Members). IsSomeAnd o (λ n. n.body ≡ Some e)) (sym c.2.changed) refl), refl));
             entries = [];
@@ -476,6 +476,6 @@ module _ (b : State) (whole : List Frame) (froms : Table) (numbers : Numbers) (p
             nurseries = nurseries;
             acts =
                 subst (λ (rs : List Place). Acts b.tick (scoping_in b) (signs_home e rs b.tick) (scoping_in u)) is
-                (home_signed b.tick (scoping_in b) tree e froms (stack_in b) ps stands.places fails.0);
+                (home_signed b.tick (scoping_in b) tree e cancelled_from (stack_in b) ps stands.places fails.0);
             own = tt;
           }

@@ -123,23 +123,23 @@ frames_others numbers more fs same = onto_others numbers more fs [] same
 
 -- ---- a scope, nursery or event is entered, whose name no enclosing one has
 
-module _ (b : State) (whole : List Frame) (froms : Table) (numbers : Numbers) (stopped : Option Stopped) (ps : List Place)
-    (stands : Stands (with_frames b whole) froms numbers stopped ps) (u : State) (p : Place) (deadline : Tick)
+module _ (b : State) (whole : List Frame) (cancelled_from : Table) (numbers : Numbers) (stopped : Option Stopped) (ps : List Place)
+    (stands : Stands (with_frames b whole) cancelled_from numbers stopped ps) (u : State) (p : Place) (deadline : Tick)
     (body : tree.Steps) (same : blocks_of b.frames ≡ blocks_of whole) (fresh : IsAmong p.label.name (names_at ps) → ⊥)
     (started : u.started ≡ b.started) (entries : u.entries ≡ b.entries) (cancelled : u.cancelled ≡ b.cancelled)
     (enters : EntersAt b u p deadline)
     (one : Enters (scope_at b) p.label p.is_event deadline (scoping_in b) (scoping_in u)) where
   -- a scope or event
   pub took_scope : (f : Frame) → IsScope f → u.book ≡ b.book → EntersBlock b.frames u.frames f body →
-      Took (with_frames b whole) u (On None) froms numbers
+      Took (with_frames b whole) u (On None) cancelled_from numbers
       (makes (rest.enters p.label b.tick deadline ∷ []) (rest.steps_left body ∷ frame_of numbers f ∷ frames_of numbers b.frames) (p ∷ ps))
   took_scope f is book block =
-      took_quiet b whole froms numbers stopped ps stands u (On None)
+      took_quiet b whole cancelled_from numbers stopped ps stands u (On None)
       (makes (rest.enters p.label b.tick deadline ∷ []) (rest.steps_left body ∷ frame_of numbers f ∷ frames_of numbers b.frames) (p ∷ ps)) []
       (record { book = book; started = started; noted = entries ∙ sym (append-nil b.entries); kept = kept; back = back })
       (none_noted b.clock (buffer_of b.part) (rest.enters p.label b.tick deadline ∷ []) refl) refl
       (entered_frames numbers b.frames u.frames f block.top body block.block block.frames)
-      (enters froms ps fresh stands.places) tt (refl, refl) refl
+      (enters cancelled_from ps fresh stands.places) tt (refl, refl) refl
       (entered_acts b.tick (scope_at b) p.is_event (scoping_in b) (scoping_in u) p.label deadline one) cancelled
     where
       blocks : blocks_of u.frames ≡ blocks_of whole ++ a_scope ∷ []
@@ -160,7 +160,7 @@ module _ (b : State) (whole : List Frame) (froms : Table) (numbers : Numbers) (s
 
   -- a nursery, in which no child was started
   pub took_nursery : (me : ℕ) → EntersNursery me b u p.label body →
-      Took (with_frames b whole) u (On None) froms numbers
+      Took (with_frames b whole) u (On None) cancelled_from numbers
       (makes (rest.enters p.label b.tick deadline ∷ []) (rest.steps_left body ∷ rest.in_nursery [] ∷ frames_of numbers b.frames) (p ∷ ps))
   took_nursery me n =
       record {
@@ -170,7 +170,7 @@ module _ (b : State) (whole : List Frame) (froms : Table) (numbers : Numbers) (s
             ∙ ap (λ (ns : List ℕ). rest.steps_left body ∷ rest.in_nursery ns ∷ frames_of more b.frames) (numbers_put numbers n.id [] n.id refl)
             ∙ ap (λ (gs : List rest.Frame). rest.steps_left body ∷ rest.in_nursery [] ∷ gs)
             (frames_others numbers more b.frames (λ key has. else_where key (subst (λ (bs : List Block). HasBlock key bs) same has)));
-        places = enters froms ps fresh stands.places;
+        places = enters cancelled_from ps fresh stands.places;
         event = tt;
         moves = (refl, refl);
         entries = [];
@@ -217,13 +217,13 @@ module _ (b : State) (whole : List Frame) (froms : Table) (numbers : Numbers) (s
       by_owned key (inr (inl is)) = inr (λ m at other. closed key m is at)
       by_owned key (inr (inr h)) = absurd h
 
-      by_covered : (key place number : ℕ) → HasBlock key (blocks_of whole) ⊎ ((key ≡ n.id) ⊎ ⊥) →
-          slice_get (more key) place ≡ Some number → (HasBlock key (blocks_of whole) × (slice_get (numbers key) place ≡ Some number)) ⊎ ⊥
-      by_covered key place number (inl has) at =
-          inl (has, subst (λ (ns : List ℕ). slice_get ns place ≡ Some number) (else_where key has) at)
-      by_covered key place number (inr (inl is)) at =
-          absurd (none-some number (subst (λ (ns : List ℕ). slice_get ns place ≡ Some number) (numbers_put numbers n.id [] key is) at))
-      by_covered key place number (inr (inr h)) at = absurd h
+      by_covered : (key index number : ℕ) → HasBlock key (blocks_of whole) ⊎ ((key ≡ n.id) ⊎ ⊥) →
+          slice_get (more key) index ≡ Some number → (HasBlock key (blocks_of whole) × (slice_get (numbers key) index ≡ Some number)) ⊎ ⊥
+      by_covered key index number (inl has) at =
+          inl (has, subst (λ (ns : List ℕ). slice_get ns index ≡ Some number) (else_where key has) at)
+      by_covered key index number (inr (inl is)) at =
+          absurd (none-some number (subst (λ (ns : List ℕ). slice_get ns index ≡ Some number) (numbers_put numbers n.id [] key is) at))
+      by_covered key index number (inr (inr h)) at = absurd h
 
       Numbered : ℕ → Members → Type 0
       Numbered key x = length (more key) ≡ length x.children
@@ -263,7 +263,7 @@ module _ (b : State) (whole : List Frame) (froms : Table) (numbers : Numbers) (s
                 (has_more key (blocks_of whole) (a_nursery n.id ∷ []) has));
             numbered = λ key has. by_either key (old_or_new key has);
             owned = λ key has. by_owned key (old_or_new key has);
-            covered = λ key place number has at. by_covered key place number (old_or_new key has) at;
+            covered = λ key index number has at. by_covered key index number (old_or_new key has) at;
             ends = λ key has. by_ends key (old_or_new key has);
             others = λ key m at apart other. n.stands.others key (λ is. absurd (closed key m is at)) ∙ at;
           }

@@ -28,8 +28,8 @@ use Rattle.nursery_book.specs.Book.{nursery_at, HasNursery, Updates}
 use Rattle.nursery_book.specs.declared.book.NurseryBook.{NurseryBook}
 use Rattle.task_machine.specs.Noted.{shown_made}
 use Rattle.turn_semantics.specs.Midway.{Place, Begun, own_after}
-use Rattle.turn_semantics.specs.Steps.{with_started, begun_one, begun_over, froms_after, step_on}
-use Rattle.turn_semantics.proofs.Events.{froms_append}
+use Rattle.turn_semantics.specs.Steps.{with_started, begun_one, begun_over, cancelled_from_after, step_on}
+use Rattle.turn_semantics.proofs.Events.{cancelled_from_append}
 use Rattle.task_machine.specs.declared.frame.Frame.{Frame}
 use Rattle.task_machine.specs.declared.frame.Frame.TheVariants.{Steps, Nursery}
 use Rattle.task_machine.specs.declared.stop.Moved.TheVariants.{On}
@@ -60,7 +60,7 @@ here_inside s = record (here_at s) { path = path_at s }
 
 -- where a child was started, of its home
 abbrev home_in : Option Home → Option (ℕ × ℕ)
-home_in h = option_map (λ (x : Home). (x.nursery, x.place)) h
+home_in h = option_map (λ (x : Home). (x.nursery, x.index)) h
 
 -- ---- consecutive numbers
 
@@ -132,8 +132,8 @@ started_frames numbers fs ls outer id added are within apart =
 
 -- What is known of a task before it starts children in the nursery in whose body it is: the frames before the move, those inside which
 -- the nursery's body is, and the steps that are left of the body.
-module _ (b : State) (whole fs ls outer : List Frame) (id : ℕ) (left : Bor (List Step)) (u : State) (froms : Table) (numbers : Numbers)
-    (stopped : Option Stopped) (ps : List Place) (stands : Stands (with_frames b whole) froms numbers stopped ps)
+module _ (b : State) (whole fs ls outer : List Frame) (id : ℕ) (left : Bor (List Step)) (u : State) (cancelled_from : Table) (numbers : Numbers)
+    (stopped : Option Stopped) (ps : List Place) (stands : Stands (with_frames b whole) cancelled_from numbers stopped ps)
     (are : AreLoops ls) (within : outer ≡ fs ++ Nursery id ∷ ls) (held : b.frames ≡ outer ++ Steps left ∷ []) (same : blocks_of b.frames ≡ blocks_of whole)
     (apart : HasBlock id (blocks_of fs) → ⊥) (world : u ≡ record b { book = u.book; started = u.started }) where
   -- its nursery is among its blocks
@@ -155,11 +155,11 @@ module _ (b : State) (whole fs ls outer : List Frame) (id : ℕ) (left : Bor (Li
       nursery_at b.book id ≡ Some n → Updates b.book u.book id (Some (record n { children = n.children ++ ends })) →
       All (λ (e : End). e ≡ None) ends → length added ≡ length ends → u.started ≡ b.started ++ tasks →
       AreBegun b.clock (a_round_after b.clock b.tick) (with_numbers numbers id (numbers id ++ added)) u.book
-      (blocks_of b.frames) None tasks bs → froms_after froms made ≡ froms →
+      (blocks_of b.frames) None tasks bs → cancelled_from_after cancelled_from made ≡ cancelled_from →
       shown_made b.clock (buffer_of b.part) made ≡ [] → Acts b.tick (scoping_in b) made (scoping_in b) →
       ((i number : ℕ) → slice_get added i ≡ Some number → BeginsAt id (length n.children + i) number tasks bs) →
       b.cancelled ≡ own_after b.clock b.cancelled made →
-      Took (with_frames b whole) u (On None) froms numbers
+      Took (with_frames b whole) u (On None) cancelled_from numbers
       (record {
         frames = rest.steps_left (steps_of left.now) ∷ with_started added (frames_of numbers outer);
         places = ps;
@@ -177,7 +177,7 @@ module _ (b : State) (whole fs ls outer : List Frame) (id : ℕ) (left : Bor (Li
             (started_frames numbers fs ls outer id added are within apart);
         places =
             subst (λ (f : Table). AreAt u.labels u.events f (stack_in u) ps) (sym quiet)
-            (subst (λ (s : State). AreAt s.labels s.events froms (stack_in s) ps) (sym world) stands.places);
+            (subst (λ (s : State). AreAt s.labels s.events cancelled_from (stack_in s) ps) (sym world) stands.places);
         event = tt;
         moves = (refl, refl);
         entries = [];
@@ -230,35 +230,35 @@ module _ (b : State) (whole fs ls outer : List Frame) (id : ℕ) (left : Bor (Li
           ∙ sym (length-append n.children ends)
 
       -- a number stood among those before, or was added
-      by_key : (key place number : ℕ) → HasNurseryOf key (blocks_of u.frames) None → slice_get (more key) place ≡ Some number →
+      by_key : (key index number : ℕ) → HasNurseryOf key (blocks_of u.frames) None → slice_get (more key) index ≡ Some number →
           (b : Bool) → (key == id) ≡ b →
-          (HasBlock key (blocks_of whole) × (slice_get (numbers key) place ≡ Some number)) ⊎ BeginsAt key place number tasks bs
-      by_key key place number has at false e =
+          (HasBlock key (blocks_of whole) × (slice_get (numbers key) index ≡ Some number)) ⊎ BeginsAt key index number tasks bs
+      by_key key index number has at false e =
           inl (
             there key has,
-            subst (λ (ns : List ℕ). slice_get ns place ≡ Some number)
+            subst (λ (ns : List ℕ). slice_get ns index ≡ Some number)
                 (numbers_else numbers id (numbers id ++ added) key (λ is. absurd (let x : true ≡ false = sym (eq-eqb key id is) ∙ e in cc)))
                 at,
           )
-      by_key key place number has at true e =
-          by_part (got_either (numbers key) added place number (subst (λ (ns : List ℕ). slice_get ns place ≡ Some number) (put_at key is) at))
+      by_key key index number has at true e =
+          by_part (got_either (numbers key) added index number (subst (λ (ns : List ℕ). slice_get ns index ≡ Some number) (put_at key is) at))
         where
           is : key ≡ id
           is = eqb-true key id e
 
-          by_part : (slice_get (numbers key) place ≡ Some number) ⊎ GotAfter (length (numbers key)) added place number →
-              (HasBlock key (blocks_of whole) × (slice_get (numbers key) place ≡ Some number)) ⊎ BeginsAt key place number tasks bs
+          by_part : (slice_get (numbers key) index ≡ Some number) ⊎ GotAfter (length (numbers key)) added index number →
+              (HasBlock key (blocks_of whole) × (slice_get (numbers key) index ≡ Some number)) ⊎ BeginsAt key index number tasks bs
           by_part (inl got) = inl (there key has, got)
           by_part (inr got) =
               inr
-              (subst (λ (k : ℕ). BeginsAt k place number tasks bs) (sym is)
+              (subst (λ (k : ℕ). BeginsAt k index number tasks bs) (sym is)
               (subst (λ (x : ℕ). BeginsAt id x number tasks bs)
-              (sym (got.following ∙ ap (λ (x : ℕ). x + got.place) (ap (λ (k : ℕ). length (numbers k)) is ∙ have_numbers n was)))
-              (begins got.place number got.got)))
+              (sym (got.following ∙ ap (λ (x : ℕ). x + got.index) (ap (λ (k : ℕ). length (numbers k)) is ∙ have_numbers n was)))
+              (begins got.index number got.got)))
 
-      covered : (key place number : ℕ) → HasNurseryOf key (blocks_of u.frames) None → slice_get (more key) place ≡ Some number →
-          (HasBlock key (blocks_of whole) × (slice_get (numbers key) place ≡ Some number)) ⊎ BeginsAt key place number tasks bs
-      covered key place number has at = by_key key place number has at (key == id) refl
+      covered : (key index number : ℕ) → HasNurseryOf key (blocks_of u.frames) None → slice_get (more key) index ≡ Some number →
+          (HasBlock key (blocks_of whole) × (slice_get (numbers key) index ≡ Some number)) ⊎ BeginsAt key index number tasks bs
+      covered key index number has at = by_key key index number has at (key == id) refl
 
 -- a child that was started is the one that began, at its place
 begun_child : (clock : Clock) (begins : ℕ) (more : Numbers) (book : NurseryBook) (blocks : List Block) (waits : Option ℕ) (task : Task)
@@ -291,7 +291,7 @@ begun_child clock begins more book blocks waits task label input range body id i
       own = c.own;
       task_state = c.task_state;
       entries = c.entries;
-      froms = c.froms;
+      cancelled_from = c.cancelled_from;
       cancelled = c.cancelled;
       home = home_at id n i;
       at_home = c.home_is;
@@ -303,10 +303,10 @@ begun_child clock begins more book blocks waits task label input range body id i
 
 -- ---- children that are started over the cuts of a part
 
-over_froms : (name : List ℕ) (here : Here) (t first k : ℕ) (froms : Table) → froms_after froms (starts_over name here t first k) ≡ froms
-over_froms name here t first zero froms = refl
-over_froms name here t first (suc k) froms = froms_append (starts_over name here t first k) (starts (first + k)
-    (label_over name here k) t ∷ []) froms ∙ over_froms name here t first k froms
+over_cancelled_from : (name : List ℕ) (here : Here) (t first k : ℕ) (cancelled_from : Table) → cancelled_from_after cancelled_from (starts_over name here t first k) ≡ cancelled_from
+over_cancelled_from name here t first zero cancelled_from = refl
+over_cancelled_from name here t first (suc k) cancelled_from = cancelled_from_append (starts_over name here t first k) (starts (first + k)
+    (label_over name here k) t ∷ []) cancelled_from ∙ over_cancelled_from name here t first k cancelled_from
 
 over_unshown : (clock : Clock) (input name : List ℕ) (here : Here) (t first k : ℕ) →
     shown_made clock input (starts_over name here t first k) ≡ []
@@ -323,12 +323,12 @@ AreAsMany [] (b ∷ bs) = ⊥
 AreAsMany (t ∷ ts) [] = ⊥
 AreAsMany (t ∷ ts) (b ∷ bs) = AreAsMany ts bs
 
-same_long : (id place number : ℕ) (ts us : List Task) (bs cs : List Begun) → AreAsMany ts bs → BeginsAt id place number us cs →
-    BeginsAt id place number (ts ++ us) (bs ++ cs)
-same_long id place number [] us [] cs a h = h
-same_long id place number [] us (b ∷ bs) cs a h = absurd a
-same_long id place number (t ∷ ts) us [] cs a h = absurd a
-same_long id place number (t ∷ ts) us (b ∷ bs) cs a h = inr (same_long id place number ts us bs cs a h)
+same_long : (id index number : ℕ) (ts us : List Task) (bs cs : List Begun) → AreAsMany ts bs → BeginsAt id index number us cs →
+    BeginsAt id index number (ts ++ us) (bs ++ cs)
+same_long id index number [] us [] cs a h = h
+same_long id index number [] us (b ∷ bs) cs a h = absurd a
+same_long id index number (t ∷ ts) us [] cs a h = absurd a
+same_long id index number (t ∷ ts) us (b ∷ bs) cs a h = inr (same_long id index number ts us bs cs a h)
 
 long_more : (t : Task) (b : Begun) (ts : List Task) (bs : List Begun) → AreAsMany ts bs → AreAsMany (ts ++ t ∷ []) (bs ++ b ∷ [])
 long_more t b [] [] a = tt
@@ -402,7 +402,7 @@ begins_over self id n name k body ps first (suc i) tasks c at number e =
     by_part before (inl got) =
         begins_more id (length n.children + at) number c.0 (c.1 ∷ []) (begun_over name (here_inside self) k body ps first i) (last ∷ [])
         (before got)
-    by_part before (inr got) = by_place got.place got.following got.got
+    by_part before (inr got) = by_place got.index got.following got.got
       where
         by_place : (j : ℕ) → at ≡ length (consecutive first i) + j → slice_get ((first + i) ∷ []) j ≡ Some number →
             BeginsAt id (length n.children + at) number (c.0 ++ c.1 ∷ [])
@@ -419,18 +419,18 @@ begins_over self id n name k body ps first (suc i) tasks c at number e =
 
 -- ---- the children of a `start`
 
-module _ (b : State) (whole fs ls outer : List Frame) (id : ℕ) (left : Bor (List Step)) (u : State) (froms : Table) (numbers : Numbers)
-    (stopped : Option Stopped) (ps : List Place) (stands : Stands (with_frames b whole) froms numbers stopped ps)
+module _ (b : State) (whole fs ls outer : List Frame) (id : ℕ) (left : Bor (List Step)) (u : State) (cancelled_from : Table) (numbers : Numbers)
+    (stopped : Option Stopped) (ps : List Place) (stands : Stands (with_frames b whole) cancelled_from numbers stopped ps)
     (are : AreLoops ls) (within : outer ≡ fs ++ Nursery id ∷ ls) (held : b.frames ≡ outer ++ Steps left ∷ []) (same : blocks_of b.frames ≡ blocks_of whole)
     (apart : HasBlock id (blocks_of fs) → ⊥) (world : u ≡ record b { book = u.book; started = u.started }) (name : List ℕ)
     (body : tree.Steps) (count : ℕ) (in_range : AreInRange body) where
   -- one child is started
   pub took_start : StartsOne b u id (record { name = name; indices = path_at b }) b.part body →
-      Took (with_frames b whole) u (On None) froms numbers
-      (step_on froms (now_at b) (here_inside b) (tree.start name None body) (steps_of left.now)
+      Took (with_frames b whole) u (On None) cancelled_from numbers
+      (step_on cancelled_from (now_at b) (here_inside b) (tree.start name None body) (steps_of left.now)
       (frames_of numbers outer) ps count)
   took_start s =
-      took_starts b whole fs ls outer id left u froms numbers stopped ps stands are within held same apart world s.nursery (None ∷ []) (count ∷ []) (s.task ∷ [])
+      took_starts b whole fs ls outer id left u cancelled_from numbers stopped ps stands are within held same apart world s.nursery (None ∷ []) (count ∷ []) (s.task ∷ [])
       (begun_one count (here_in (label_here name (here_inside b)) (range_of b.part) (here_inside b)) body ps ∷ [])
       (starts count (label_here name (here_inside b)) (begins_in b) ∷ [])
       s.was s.book (All-cons (λ (e : End). e ≡ None) None [] refl (All-nil (λ (e : End). e ≡ None))) refl
@@ -440,7 +440,7 @@ module _ (b : State) (whole fs ls outer : List Frame) (id : ℕ) (left : Bor (Li
             (subst (λ (o : Option Members). IsSomeAnd o (λ m. (m.scope ≡ s.nursery.scope)
             × (slice_get m.children (length s.nursery.children + 0) ≡ Some None)))
             (sym s.book.changed) (refl, got_after s.nursery.children (None ∷ []) 0 (length s.nursery.children + 0) refl))
-            (mine b whole fs ls outer id left u froms numbers stopped ps stands are within held same apart world) in_range,
+            (mine b whole fs ls outer id left u cancelled_from numbers stopped ps stands are within held same apart world) in_range,
         tt,
       ) refl refl (start_acts b.tick count (label_here name (here_inside b)) (begins_in b) (scoping_in b) (scoping_in b) refl) begins refl
     where
@@ -457,15 +457,15 @@ module _ (b : State) (whole fs ls outer : List Frame) (id : ℕ) (left : Bor (Li
       got =
           ap (λ (ns : List ℕ). slice_get ns (length s.nursery.children + 0)) (numbers_put numbers id (numbers id ++ count ∷ []) id refl)
           ∙ got_after (numbers id) (count ∷ []) 0 (length s.nursery.children + 0)
-          (ap (λ (x : ℕ). x + 0) (sym (have_numbers b whole fs ls outer id left u froms numbers stopped ps stands are within held same apart world s.nursery s.was)))
+          (ap (λ (x : ℕ). x + 0) (sym (have_numbers b whole fs ls outer id left u cancelled_from numbers stopped ps stands are within held same apart world s.nursery s.was)))
 
   -- the given number of children are started
   pub took_start_over : (k : ℕ) → StartsOver b u id name k body k →
-      Took (with_frames b whole) u (On None) froms numbers
-      (step_on froms (now_at b) (here_inside b) (tree.start name (Some k) body) (steps_of left.now)
+      Took (with_frames b whole) u (On None) cancelled_from numbers
+      (step_on cancelled_from (now_at b) (here_inside b) (tree.start name (Some k) body) (steps_of left.now)
       (frames_of numbers outer) ps count)
   took_start_over k s =
-      took_starts b whole fs ls outer id left u froms numbers stopped ps stands are within held same apart world s.nursery (running_children k)
+      took_starts b whole fs ls outer id left u cancelled_from numbers stopped ps stands are within held same apart world s.nursery (running_children k)
       (consecutive count k) s.tasks (begun_over name (here_inside b) k body ps count k)
       (starts_over name (here_inside b) (begins_in b) count k) s.was s.book (all_running k)
       (numbered_length count k ∙ sym (running_length k)) s.started
@@ -474,8 +474,8 @@ module _ (b : State) (whole fs ls outer : List Frame) (id : ℕ) (left : Bor (Li
       subst (λ (o : Option Members). IsSomeAnd o (λ m. (m.scope ≡ s.nursery.scope)
       × (slice_get m.children (length s.nursery.children + i) ≡ Some None)))
       (sym s.book.changed) (refl, got_after s.nursery.children (running_children k) i (length s.nursery.children + i) refl ∙ running_at k i less))
-      (mine b whole fs ls outer id left u froms numbers stopped ps stands are within held same apart world) in_range k (omega arith) s.tasks s.children)
-      (over_froms name (here_inside b) (begins_in b) count k froms)
+      (mine b whole fs ls outer id left u cancelled_from numbers stopped ps stands are within held same apart world) in_range k (omega arith) s.tasks s.children)
+      (over_cancelled_from name (here_inside b) (begins_in b) count k cancelled_from)
       (over_unshown b.clock (buffer_of b.part) name (here_inside b) (begins_in b) count k)
       (starts_acts b.tick name (here_inside b) (begins_in b) count k (scoping_in b) (scoping_in b) refl)
       (begins_over b id s.nursery name k body ps count k s.tasks s.children)
@@ -488,5 +488,5 @@ module _ (b : State) (whole fs ls outer : List Frame) (id : ℕ) (left : Bor (Li
       got i less =
           ap (λ (ns : List ℕ). slice_get ns (length s.nursery.children + i)) (numbers_put numbers id (numbers id ++ consecutive count k) id refl)
           ∙ got_after (numbers id) (consecutive count k) i (length s.nursery.children + i)
-          (ap (λ (x : ℕ). x + i) (sym (have_numbers b whole fs ls outer id left u froms numbers stopped ps stands are within held same apart world s.nursery s.was)))
+          (ap (λ (x : ℕ). x + i) (sym (have_numbers b whole fs ls outer id left u cancelled_from numbers stopped ps stands are within held same apart world s.nursery s.was)))
           ∙ numbered_at count k i less

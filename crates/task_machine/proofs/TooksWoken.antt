@@ -27,7 +27,7 @@ use Rattle.task_machine.specs.declared.entry.Entry.TheVariants as entries
 use Rattle.task_machine.specs.Noted.{entry_of, IsSlice, shown_made}
 use Rattle.turn_semantics.specs.Midway.{Place}
 use Rattle.turn_semantics.specs.Placed.{PlacedStop}
-use Rattle.turn_semantics.specs.Steps.{onward, makes, leaves, froms_after}
+use Rattle.turn_semantics.specs.Steps.{onward, makes, leaves, cancelled_from_after}
 use Rattle.turn_semantics.specs.Wakes.{lines_made, leaves_settled, notes_wait}
 use Rattle.turn_semantics.proofs.Agreeing.{label_of}
 use Rattle.task_machine.specs.declared.frame.Frame.{Frame}
@@ -58,15 +58,15 @@ by_wait P kids ended exc gs (p ∷ ps) placed go = go p ps refl placed.0
 
 -- the nursery that the task waits for was removed from the book, and is left
 pub took_settled : (b u : State) (book : NurseryBook) (id : ℕ) (kids : List ℕ) (ended : ℕ) (earlier : Option Exc) (exc goes : Option held.Exc)
-    (froms : Table) (numbers : Numbers) (ps : List Place) → Stands b froms numbers (Some (awaiting kids ended earlier)) ps →
+    (cancelled_from : Table) (numbers : Numbers) (ps : List Place) → Stands b cancelled_from numbers (Some (awaiting kids ended earlier)) ps →
     (HasBlock id (blocks_of b.frames) → ⊥) → Updates b.book book id None →
-    u ≡ record b { own = u.own; froms = u.froms; entries = u.entries; tree = u.tree; labels = u.labels; events = u.events; book = book } →
+    u ≡ record b { own = u.own; cancelled_from = u.cancelled_from; entries = u.entries; tree = u.tree; labels = u.labels; events = u.events; book = book } →
     ExitsAt (record b { book = book }) u kind.Nursery (option_map exc_of exc) (option_map exc_of goes) →
     Leaves (scoping_in b) (scoping_in u) → ((n : Members) → nursery_at b.book id ≡ Some n → IsOfOther b.own b.tree n → ⊥) →
-    Took b u (On goes) froms numbers (leaves_settled b.clock froms (now_at b) (option_map exc_of exc) (frames_of numbers b.frames) ps)
-took_settled b u book id kids ended earlier exc goes froms numbers ps stands apart closed stays exits one mine =
-    by_wait (λ (qs : List Place). Took b u (On goes) froms numbers
-    (leaves_settled b.clock froms (now_at b) e gs qs)) kids ended earlier gs ps
+    Took b u (On goes) cancelled_from numbers (leaves_settled b.clock cancelled_from (now_at b) (option_map exc_of exc) (frames_of numbers b.frames) ps)
+took_settled b u book id kids ended earlier exc goes cancelled_from numbers ps stands apart closed stays exits one mine =
+    by_wait (λ (qs : List Place). Took b u (On goes) cancelled_from numbers
+    (leaves_settled b.clock cancelled_from (now_at b) e gs qs)) kids ended earlier gs ps
     stands.placed at_place
   where
     e : Option Exc
@@ -81,21 +81,21 @@ took_settled b u book id kids ended earlier exc goes froms numbers ps stands apa
     ended_there : Updates b.book u.book id None
     ended_there = subst (λ (x : NurseryBook). Updates b.book x id None) (sym (ap (λ (s : State). s.book) stays)) closed
 
-    at_place : (p : Place) (qs : List Place) → ps ≡ p ∷ qs → p.is_event ≡ false → Took b u (On goes) froms numbers
-        (leaves b.clock froms (now_at b) meaning.a_nursery gs p qs e)
+    at_place : (p : Place) (qs : List Place) → ps ≡ p ∷ qs → p.is_event ≡ false → Took b u (On goes) cancelled_from numbers
+        (leaves b.clock cancelled_from (now_at b) meaning.a_nursery gs p qs e)
     at_place p qs is scope =
-        subst (λ (fs : List Frame). Took b u (On goes) froms numbers
-        (leaves b.clock froms (now_at b) meaning.a_nursery (frames_of numbers fs) p qs e)) left
-        (took_leaves b b.frames froms numbers (Some (awaiting kids ended earlier)) ps stands u book meaning.a_nursery e goes p qs
-        (exits froms p qs scope (subst (λ (rs : List Place). AreAt b.labels b.events froms (stack_in b) rs) is stands.places))
+        subst (λ (fs : List Frame). Took b u (On goes) cancelled_from numbers
+        (leaves b.clock cancelled_from (now_at b) meaning.a_nursery (frames_of numbers fs) p qs e)) left
+        (took_leaves b b.frames cancelled_from numbers (Some (awaiting kids ended earlier)) ps stands u book meaning.a_nursery e goes p qs
+        (exits cancelled_from p qs scope (subst (λ (rs : List Place). AreAt b.labels b.events cancelled_from (stack_in b) rs) is stands.places))
         (ap (λ (s : State). s.started) stays) (ap (λ (s : State). s.cancelled) stays)
         (nurseries_closed b u numbers id ended_there apart mine left stands.numbered) one)
 
 -- ---- lines that a kernel answers
 
-lines_quiet : (t : ℕ) (spans : List Span) (froms : Table) → froms_after froms (lines_made t spans) ≡ froms
-lines_quiet t [] froms = refl
-lines_quiet t (s ∷ spans) froms = lines_quiet t spans froms
+lines_quiet : (t : ℕ) (spans : List Span) (cancelled_from : Table) → cancelled_from_after cancelled_from (lines_made t spans) ≡ cancelled_from
+lines_quiet t [] cancelled_from = refl
+lines_quiet t (s ∷ spans) cancelled_from = lines_quiet t spans cancelled_from
 
 lines_shown : (clock : Clock) (input : List ℕ) (t : ℕ) (lines : List Line) → All (IsLineOf input) lines →
     map entry_of (map entries.Line lines) ≡ shown_made clock input (lines_made t (map span_of lines))
@@ -112,13 +112,13 @@ lines_slices input (l ∷ lines) a =
     (lines_slices input lines (All-tail (IsLineOf input) l lines a))
 
 -- the task notes them, and continues
-pub took_lines : (b : State) (froms : Table) (numbers : Numbers) (stopped : Option Stopped) (ps : List Place) (spans : List Span)
-    (lines : List Line) → Stands b froms numbers stopped ps → AreLinesAt (buffer_of b.part) spans lines →
-    Took b (record b { entries = b.entries ++ map entries.Line lines }) (On None) froms numbers
+pub took_lines : (b : State) (cancelled_from : Table) (numbers : Numbers) (stopped : Option Stopped) (ps : List Place) (spans : List Span)
+    (lines : List Line) → Stands b cancelled_from numbers stopped ps → AreLinesAt (buffer_of b.part) spans lines →
+    Took b (record b { entries = b.entries ++ map entries.Line lines }) (On None) cancelled_from numbers
     (makes (lines_made b.tick spans) (frames_of numbers b.frames) ps)
-took_lines b froms numbers stopped ps spans lines stands at =
+took_lines b cancelled_from numbers stopped ps spans lines stands at =
     let u : State = record b { entries = b.entries ++ map entries.Line lines } in
-    took_quiet b b.frames froms numbers stopped ps stands u (On None) (makes (lines_made b.tick spans) (frames_of numbers b.frames) ps)
+    took_quiet b b.frames cancelled_from numbers stopped ps stands u (On None) (makes (lines_made b.tick spans) (frames_of numbers b.frames) ps)
     (map entries.Line lines)
     (record { book = refl; started = refl; noted = refl; kept = λ id has. has; back = λ id has. has })
     (record {
@@ -127,27 +127,27 @@ took_lines b froms numbers stopped ps spans lines stands at =
           ∙ ap (λ (ss : List Span). shown_made b.clock (buffer_of b.part) (lines_made b.tick ss)) at.places;
       slices = lines_slices (buffer_of b.part) lines at.texts;
     })
-    refl refl (subst (λ (f : Table). AreAt b.labels b.events f (stack_in b) ps) (sym (lines_quiet b.tick spans froms)) stands.places) tt
+    refl refl (subst (λ (f : Table). AreAt b.labels b.events f (stack_in b) ps) (sym (lines_quiet b.tick spans cancelled_from)) stands.places) tt
     (refl, refl) refl
     (lines_acts b.tick b.tick spans (scoping_in b) (scoping_in b) refl) (own_lines b.clock b.cancelled b.tick spans)
 
 -- ---- a wait that ended
 
 -- the task notes it, if there is such an event, and continues
-pub took_noted : (b : State) (froms : Table) (numbers : Numbers) (stopped : Option Stopped) (ps : List Place) →
-    Stands b froms numbers stopped ps → (entries : List Entry) (level : Option (Level Label)) →
+pub took_noted : (b : State) (cancelled_from : Table) (numbers : Numbers) (stopped : Option Stopped) (ps : List Place) →
+    Stands b cancelled_from numbers stopped ps → (entries : List Entry) (level : Option (Level Label)) →
     NotesWait (label_of level) (tick_of b.clock b.tick) b.entries entries →
-    Took b (record b { entries = entries }) (On None) froms numbers (notes_wait level b.tick (frames_of numbers b.frames) ps)
-took_noted b froms numbers stopped ps stands es None notes =
+    Took b (record b { entries = entries }) (On None) cancelled_from numbers (notes_wait level b.tick (frames_of numbers b.frames) ps)
+took_noted b cancelled_from numbers stopped ps stands es None notes =
     let u : State = record b { entries = es } in
-    took_quiet b b.frames froms numbers stopped ps stands u (On None) (onward (frames_of numbers b.frames) ps None) []
+    took_quiet b b.frames cancelled_from numbers stopped ps stands u (On None) (onward (frames_of numbers b.frames) ps None) []
     (record { book = refl; started = refl; noted = notes ∙ sym (append-nil b.entries); kept = λ id has. has; back = λ id has. has })
     (none_noted b.clock (buffer_of b.part) [] refl) refl refl stands.places tt (refl, refl) refl (no_act (scoping_in b)) refl
-took_noted b froms numbers stopped ps stands es (Some l) notes =
+took_noted b cancelled_from numbers stopped ps stands es (Some l) notes =
     let u : State = record b { entries = es } in
     let tick : ℕ = tick_of b.clock b.tick in
     let one : Entry = entries.Wait notes.0 tick in
-    took_quiet b b.frames froms numbers stopped ps stands u (On None)
+    took_quiet b b.frames cancelled_from numbers stopped ps stands u (On None)
     (makes (rest.noted b.tick (waited l.label) ∷ []) (frames_of numbers b.frames) ps) (one ∷ [])
     (record { book = refl; started = refl; noted = notes.2; kept = λ id has. has; back = λ id has. has })
     (record {

@@ -115,7 +115,7 @@ keeps_then me before mid after old w new h k =
             own = after.own;
             task_state = after.task_state;
             entries = after.entries;
-            froms = after.froms;
+            cancelled_from = after.cancelled_from;
             cancelled = after.cancelled;
           }) h.task;
       world =
@@ -134,13 +134,13 @@ keeps_then me before mid after old w new h k =
 
 -- what a wake leaves as it was, after what the task had cancelled itself was forgotten
 pub keeps_woken : (me : ℕ) (before mid after : Task) (old new : World) → mid ≡ record before { cancelled = mid.cancelled } →
-    after ≡ record mid { own = after.own; task_state = after.task_state; entries = after.entries; froms = after.froms } →
+    after ≡ record mid { own = after.own; task_state = after.task_state; entries = after.entries; cancelled_from = after.cancelled_from } →
     new ≡ record old { scopes = new.scopes; labels = new.labels; events = new.events; book = new.book } → IsInRangeTaskState after.task_state →
     SameWaiters old.book new.book → KeepsRest me before after old new
 keeps_woken me before mid after old new forgot task world in_range waiters =
     let whole =
     task
-    ∙ ap (λ (t : Task). record t { own = after.own; task_state = after.task_state; entries = after.entries; froms = after.froms }) forgot in
+    ∙ ap (λ (t : Task). record t { own = after.own; task_state = after.task_state; entries = after.entries; cancelled_from = after.cancelled_from }) forgot in
     record {
       task =
           whole
@@ -151,7 +151,7 @@ keeps_woken me before mid after old new forgot task world in_range waiters =
             own = after.own;
             task_state = after.task_state;
             entries = after.entries;
-            froms = after.froms;
+            cancelled_from = after.cancelled_from;
             cancelled = t.cancelled;
           }) (sym whole);
       world =
@@ -185,7 +185,7 @@ keeps_task me before after world task in_range =
             own = t.own;
             task_state = after.task_state;
             entries = t.entries;
-            froms = t.froms;
+            cancelled_from = t.cancelled_from;
             cancelled = t.cancelled;
           }) (sym task);
       world = refl;
@@ -195,7 +195,7 @@ keeps_task me before after world task in_range =
 
 -- what a task that entered a scope, nursery or event left as it was
 pub keeps_entered : (me : ℕ) (before after : Task) (old new : World) →
-    after ≡ record before { frames = after.frames; own = after.own; froms = after.froms } →
+    after ≡ record before { frames = after.frames; own = after.own; cancelled_from = after.cancelled_from } →
     new ≡ record old { scopes = new.scopes; labels = new.labels; events = new.events; book = new.book } → IsInRangeTaskState before.task_state →
     OpenedBy me old.book new.book → KeepsRest me before after old new
 keeps_entered me before after old new task world in_range waiters =
@@ -209,7 +209,7 @@ keeps_entered me before after old new task world in_range waiters =
             own = after.own;
             task_state = t.task_state;
             entries = t.entries;
-            froms = after.froms;
+            cancelled_from = after.cancelled_from;
             cancelled = t.cancelled;
           }) (sym task);
       world =
@@ -242,7 +242,7 @@ keeps_signed me before after old new task world in_range =
             own = t.own;
             task_state = t.task_state;
             entries = t.entries;
-            froms = t.froms;
+            cancelled_from = t.cancelled_from;
             cancelled = after.cancelled;
           }) (sym task);
       world =

@@ -50,44 +50,44 @@ abbrev pub from_on : Option (Level Label) → Option Tick
 from_on level = option_map (λ (l : Level Label). l.from) level
 
 -- the event that has the label which a name finds is set from the moment that the table has for it
-pub found_event : (labels : Labels) (events : Events) (froms : Table) (st : scopes.Stack) (ps : List Place) (key : ℕ) (name : List ℕ) →
-    AreAt labels events froms st ps → OwnNames (names_at ps) → IsKey key st → labels key ≡ label_among true name ps →
-    events key ≡ from_on (event_on name (stack_at froms ps).events)
-found_event labels events froms [] ps key name a own i e = absurd i
-found_event labels events froms (l ∷ ls) [] key name a own i e = absurd a
-found_event labels events froms (l ∷ ls) (p ∷ ps) key name a own i e =
-    by_kind (λ k f. found_event labels events froms ls ps key name a.3 own.1 k f) p.is_event refl e
+pub found_event : (labels : Labels) (events : Events) (cancelled_from : Table) (st : scopes.Stack) (ps : List Place) (key : ℕ) (name : List ℕ) →
+    AreAt labels events cancelled_from st ps → OwnNames (names_at ps) → IsKey key st → labels key ≡ label_among true name ps →
+    events key ≡ from_on (event_on name (stack_at cancelled_from ps).events)
+found_event labels events cancelled_from [] ps key name a own i e = absurd i
+found_event labels events cancelled_from (l ∷ ls) [] key name a own i e = absurd a
+found_event labels events cancelled_from (l ∷ ls) (p ∷ ps) key name a own i e =
+    by_kind (λ k f. found_event labels events cancelled_from ls ps key name a.3 own.1 k f) p.is_event refl e
   where
     -- no other place has the label of this one
     clash : IsAmong p.label (labels_of ps) → ⊥
     clash k = own.0 (known_name p.label ps k)
 
     -- the event is further out
-    inside : (IsKey key ls → labels key ≡ label_among true name ps → events key ≡ from_on (event_on name (stack_at froms ps).events)) →
+    inside : (IsKey key ls → labels key ≡ label_among true name ps → events key ≡ from_on (event_on name (stack_at cancelled_from ps).events)) →
         IsKey key (l ∷ ls) → labels key ≡ label_among true name ps →
-        events key ≡ from_on (event_on name (stack_at froms ps).events)
+        events key ≡ from_on (event_on name (stack_at cancelled_from ps).events)
     inside further (inl same) found = absurd (clash (among_known true name ps p.label (sym found ∙ ap labels same ∙ a.0)))
     inside further (inr k) found = further k found
 
     -- it is the innermost
-    here_set : (o : Option Tick) → IsLevelOf o l froms p → p.is_event ≡ true → o ≡ Some (froms p.label)
+    here_set : (o : Option Tick) → IsLevelOf o l cancelled_from p → p.is_event ≡ true → o ≡ Some (cancelled_from p.label)
     here_set None h is = absurd (let f : false ≡ true = sym h.0 ∙ is in cc)
     here_set (Some set) h is = ap (λ (x : Tick). Some x) h.3
 
-    here : IsKey key (l ∷ ls) → p.is_event ≡ true → labels key ≡ Some p.label → events key ≡ Some (froms p.label)
+    here : IsKey key (l ∷ ls) → p.is_event ≡ true → labels key ≡ Some p.label → events key ≡ Some (cancelled_from p.label)
     here (inl same) is found = ap events same ∙ here_set (events l.label) a.2 is
-    here (inr k) is found = absurd (clash (key_known labels events froms ls ps key p.label found k a.3))
+    here (inr k) is found = absurd (clash (key_known labels events cancelled_from ls ps key p.label found k a.3))
 
-    by_kind : (IsKey key ls → labels key ≡ label_among true name ps → events key ≡ from_on (event_on name (stack_at froms ps).events)) →
+    by_kind : (IsKey key ls → labels key ≡ label_among true name ps → events key ≡ from_on (event_on name (stack_at cancelled_from ps).events)) →
         (b : Bool) → p.is_event ≡ b →
         labels key ≡ label_if (b && bytes_eq name p.label.name) p.label (label_among true name ps) →
         events key ≡ from_on (event_on name
-        (level_on b (record { label = p.label; shield = p.shield; from = froms p.label }) (stack_at froms ps)).events)
+        (level_on b (record { label = p.label; shield = p.shield; from = cancelled_from p.label }) (stack_at cancelled_from ps)).events)
     by_kind further true is found = by_name (bytes_eq name p.label.name) found
       where
         by_name : (t : Bool) → labels key ≡ label_if t p.label (label_among true name ps) →
-            events key ≡ from_on (level_if t (record { label = p.label; shield = p.shield; from = froms p.label })
-            (event_on name (stack_at froms ps).events))
+            events key ≡ from_on (level_if t (record { label = p.label; shield = p.shield; from = cancelled_from p.label })
+            (event_on name (stack_at cancelled_from ps).events))
         by_name true found = here i is found
         by_name false found = inside further i found
     by_kind further false is found = inside further i found
@@ -108,24 +108,24 @@ some_ticks n = by_test (suc n == 0) refl
     by_test true e = absurd (let f : suc n ≡ 0 = eqb-true (suc n) 0 e in cc)
     by_test false e = refl
 
-seen_asleep : (clock : Clock) (froms : Table) (t : ℕ) (paced : Bool) (n since : ℕ) (fs : List rest.Frame) (ps : List Place) →
-    sees_from clock froms t (asleep paced n since) fs ps ≡ gives_up_if (not paced && (n == 0)) t fs ps
-seen_asleep clock froms t true n since fs ps = refl
-seen_asleep clock froms t false zero since fs ps = refl
-seen_asleep clock froms t false (suc n) since fs ps = ap (λ (b : Bool). gives_up_if b t fs ps) (sym (some_ticks n))
+seen_asleep : (clock : Clock) (cancelled_from : Table) (t : ℕ) (paced : Bool) (n since : ℕ) (fs : List rest.Frame) (ps : List Place) →
+    sees_from clock cancelled_from t (asleep paced n since) fs ps ≡ gives_up_if (not paced && (n == 0)) t fs ps
+seen_asleep clock cancelled_from t true n since fs ps = refl
+seen_asleep clock cancelled_from t false zero since fs ps = refl
+seen_asleep clock cancelled_from t false (suc n) since fs ps = ap (λ (b : Bool). gives_up_if b t fs ps) (sym (some_ticks n))
 
 -- at a checkpoint it gives up, and otherwise it raises
-module _ (clock : Clock) (labels : Labels) (events : Events) (froms : Table) (st : scopes.Stack) (ps : List Place) (numbers : Numbers)
-    (book : NurseryBook) (part : Part) (t : ℕ) (a : AreAt labels events froms st ps) (own : OwnNames (names_at ps)) where
+module _ (clock : Clock) (labels : Labels) (events : Events) (cancelled_from : Table) (st : scopes.Stack) (ps : List Place) (numbers : Numbers)
+    (book : NurseryBook) (part : Part) (t : ℕ) (a : AreAt labels events cancelled_from st ps) (own : OwnNames (names_at ps)) where
   pub sees_as : (task_state : TaskState) (stopped : Stopped) → AwaitsEvent labels st (Some stopped) task_state ps →
       WakesFrom task_state part book Seen → IsTaskState numbers book task_state stopped → (fs : List rest.Frame) →
-      sees_from clock froms t stopped fs ps ≡ gives_up_if (at_checkpoint clock events task_state) t fs ps
+      sees_from clock cancelled_from t stopped fs ps ≡ gives_up_if (at_checkpoint clock events task_state) t fs ps
   sees_as (ToBegin at) stopped event w h fs = absurd w
   sees_as (Asked kernel purpose) stopped event w h fs = absurd w
   sees_as (Asleep paced ticks since) to_begin event w h fs = absurd h
   sees_as (Asleep paced ticks since) (asking k p) event w h fs = absurd h
   sees_as (Asleep paced ticks since) (asleep q n u) event w h fs =
-      seen_asleep clock froms t q n u fs ps
+      seen_asleep clock cancelled_from t q n u fs ps
       ∙ ap (λ (b : Bool). gives_up_if (not b && (n == 0)) t fs ps) (sym h.0)
       ∙ ap (λ (m : ℕ). gives_up_if (not paced && (m == 0)) t fs ps) (sym h.1)
   sees_as (Asleep paced ticks since) (waiting_for name u) event w h fs = absurd h
@@ -137,8 +137,8 @@ module _ (clock : Clock) (labels : Labels) (events : Events) (froms : Table) (st
   sees_as (Waiting key since) (asleep q n u) event w h fs = absurd h
   sees_as (Waiting key since) (waiting_for name u) event w h fs =
       ap (λ (x : ℕ). gives_up_if (is_checkpoint clock x u) t fs ps)
-      (sym (ends_as_set clock u (events key) (event_on name (stack_at froms ps).events)
-      (found_event labels events froms st ps key name a own event.0 event.1)))
+      (sym (ends_as_set clock u (events key) (event_on name (stack_at cancelled_from ps).events)
+      (found_event labels events cancelled_from st ps key name a own event.0 event.1)))
       ∙ ap (λ (v : ℕ). gives_up_if (is_checkpoint clock (set_by clock (events key) v) v) t fs ps) (sym h)
   sees_as (Waiting key since) (giving_up u) event w h fs = absurd h
   sees_as (Waiting key since) (awaiting kids u exc) event w h fs = absurd h
@@ -150,7 +150,7 @@ module _ (clock : Clock) (labels : Labels) (events : Events) (froms : Table) (st
 -- ---- a wait that begins
 
 module _ (clock : Clock) (labels : Labels) (events : Events) (name : List ℕ) (st : scopes.Stack) (t : ℕ) (numbers : Numbers)
-    (book : NurseryBook) (part : Part) (froms : Table) (fs : List rest.Frame) (ps : List Place) (a : AreAt labels events froms st ps) where
+    (book : NurseryBook) (part : Part) (cancelled_from : Table) (fs : List rest.Frame) (ps : List Place) (a : AreAt labels events cancelled_from st ps) where
   -- where there is no event of the name, the task continues
   pub waits_none : (task_state : TaskState) → scope_named true labels events name st ≡ None →
       MovesAs clock numbers book part (On None) task_state (waits_on (label_among true name ps) name t fs ps)
@@ -158,7 +158,7 @@ module _ (clock : Clock) (labels : Labels) (events : Events) (name : List ℕ) (
   waits_none task_state none =
       subst (λ (o : Option Label). MovesAs clock numbers book part (On None) task_state (waits_on o name t fs ps)
       × AwaitsEvent labels st (waits_on o name t fs ps).stopped task_state ps)
-      (sym (found_as true labels events froms name st ps None none a)) ((refl, refl), tt)
+      (sym (found_as true labels events cancelled_from name st ps None none a)) ((refl, refl), tt)
 
   -- otherwise it stops for that one
   pub waits_some : (key since : ℕ) (task_state : TaskState) → scope_named true labels events name st ≡ Some key → since ≡ t →
@@ -166,7 +166,7 @@ module _ (clock : Clock) (labels : Labels) (events : Events) (name : List ℕ) (
       MovesAs clock numbers book part (Stops (WaitFor key)) task_state (waits_on (label_among true name ps) name t fs ps)
       × AwaitsEvent labels st (waits_on (label_among true name ps) name t fs ps).stopped task_state ps
   waits_some key since task_state found same is =
-      let at = found_as true labels events froms name st ps (Some key) found a in
+      let at = found_as true labels events cancelled_from name st ps (Some key) found a in
       subst (λ (s : TaskState). MovesAs clock numbers book part (Stops (WaitFor key)) s (waits_on (label_among true name ps) name t fs ps)
       × AwaitsEvent labels st (waits_on (label_among true name ps) name t fs ps).stopped s ps) (sym is)
       (subst (λ (o : Option Label). MovesAs clock numbers book part (Stops (WaitFor key)) (Waiting key since) (waits_on o name t fs ps)

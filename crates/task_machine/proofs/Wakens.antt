@@ -111,29 +111,29 @@ task_states_awaits numbers book id since (at_end u e) h = absurd h
 
 -- a wake that continues, with this exception or none, wherever the task stopped
 wakes_onward : (s : State) (exc : Option held.Exc) (w : Wake) →
-    ((froms : Table) (numbers : Numbers) (stopped : Stopped) (fs : List rest.Frame) (ps : List Place) →
+    ((cancelled_from : Table) (numbers : Numbers) (stopped : Stopped) (fs : List rest.Frame) (ps : List Place) →
     IsTaskState numbers s.book s.task_state stopped →
-    wake_of froms (now_at s) (here_at s) w stopped fs ps ≡ onward fs ps (option_map exc_of exc)) →
+    wake_of cancelled_from (now_at s) (here_at s) w stopped fs ps ≡ onward fs ps (option_map exc_of exc)) →
     Wakens s s (On exc) w
-wakes_onward s exc w is froms numbers stopped ps stands task_state =
-    subst (λ (o : Move). Took s s (On exc) froms numbers o) (sym (is froms numbers stopped (frames_of numbers s.frames) ps task_state))
-    (took_task_states s s.frames froms numbers (Some stopped) ps stands s.frames s.task_state (On exc)
+wakes_onward s exc w is cancelled_from numbers stopped ps stands task_state =
+    subst (λ (o : Move). Took s s (On exc) cancelled_from numbers o) (sym (is cancelled_from numbers stopped (frames_of numbers s.frames) ps task_state))
+    (took_task_states s s.frames cancelled_from numbers (Some stopped) ps stands s.frames s.task_state (On exc)
     (onward (frames_of numbers s.frames) ps (option_map exc_of exc)) refl refl refl refl refl tt (refl, refl) tt)
 
 -- it begins
 pub wakes_begin : (s : State) → Wakens s s (On None) begins
-wakes_begin s = wakes_onward s None begins (λ froms numbers stopped fs ps h. refl)
+wakes_begin s = wakes_onward s None begins (λ cancelled_from numbers stopped fs ps h. refl)
 
 -- a round ago it was cancelled at a checkpoint
 pub wakes_gives_up : (s : State) (exc : Option held.Exc) → option_map exc_of exc ≡ Some cancelled → Wakens s s (On exc) gives_up
-wakes_gives_up s exc is = wakes_onward s exc gives_up (λ froms numbers stopped fs ps h. ap (λ (e : Option Exc). onward fs ps e) (sym is))
+wakes_gives_up s exc is = wakes_onward s exc gives_up (λ cancelled_from numbers stopped fs ps h. ap (λ (e : Option Exc). onward fs ps e) (sym is))
 
 -- its sleep is over
 pub wakes_due : (s : State) (paced : Bool) (ticks since : ℕ) → s.task_state ≡ Asleep paced ticks since → Wakens s s (On None) is_due
 wakes_due s paced ticks since sleeps_so =
     wakes_onward s None is_due
-    (λ froms numbers stopped fs ps h.
-    ap (λ (x : Stopped). is_due_from froms s.tick x fs ps)
+    (λ cancelled_from numbers stopped fs ps h.
+    ap (λ (x : Stopped). is_due_from cancelled_from s.tick x fs ps)
     (task_states_asleep numbers s.book paced ticks since stopped
     (subst (λ (x : TaskState). IsTaskState numbers s.book x stopped) sleeps_so h)))
 
@@ -141,36 +141,36 @@ wakes_due s paced ticks since sleeps_so =
 
 module _ (s : State) (fits : WakesFrom s.task_state s.part s.book Seen) where
   -- what the definitions do
-  seen_so : (froms : Table) (numbers : Numbers) (stopped : Stopped) (ps : List Place) → Stands s froms numbers (Some stopped) ps →
+  seen_so : (cancelled_from : Table) (numbers : Numbers) (stopped : Stopped) (ps : List Place) → Stands s cancelled_from numbers (Some stopped) ps →
       IsTaskState numbers s.book s.task_state stopped →
-      wake_of froms (now_at s) (here_at s) sees stopped (frames_of numbers s.frames) ps
+      wake_of cancelled_from (now_at s) (here_at s) sees stopped (frames_of numbers s.frames) ps
       ≡ gives_up_if (at_checkpoint s.clock s.events s.task_state) s.tick (frames_of numbers s.frames) ps
-  seen_so froms numbers stopped ps stands h =
-      sees_as s.clock s.labels s.events froms (stack_in s) ps numbers s.book s.part s.tick stands.places stands.own s.task_state stopped
+  seen_so cancelled_from numbers stopped ps stands h =
+      sees_as s.clock s.labels s.events cancelled_from (stack_in s) ps numbers s.book s.part s.tick stands.places stands.own s.task_state stopped
       stands.event fits h (frames_of numbers s.frames)
 
   -- it raises if it is not at a checkpoint
   pub wakes_seen : (exc : Option held.Exc) → option_map exc_of exc ≡ Some cancelled → at_checkpoint s.clock s.events s.task_state ≡ false →
       Wakens s s (On exc) sees
-  wakes_seen exc is not_at froms numbers stopped ps stands task_state =
+  wakes_seen exc is not_at cancelled_from numbers stopped ps stands task_state =
       let gs = frames_of numbers s.frames in
-      subst (λ (o : Move). Took s s (On exc) froms numbers o)
-      (sym (seen_so froms numbers stopped ps stands task_state ∙ ap (λ (b : Bool). gives_up_if b s.tick gs ps) not_at
+      subst (λ (o : Move). Took s s (On exc) cancelled_from numbers o)
+      (sym (seen_so cancelled_from numbers stopped ps stands task_state ∙ ap (λ (b : Bool). gives_up_if b s.tick gs ps) not_at
       ∙ ap (λ (e : Option Exc). onward gs ps e) (sym is)))
-      (took_task_states s s.frames froms numbers (Some stopped) ps stands s.frames s.task_state (On exc) (onward gs ps (option_map exc_of exc))
+      (took_task_states s s.frames cancelled_from numbers (Some stopped) ps stands s.frames s.task_state (On exc) (onward gs ps (option_map exc_of exc))
       refl refl refl refl refl tt (refl, refl) tt)
 
   -- at a checkpoint it gives up, and raises a round later
   pub wakes_at_checkpoint : (u : State) (goes : Moved) (due : ℕ) → at_checkpoint s.clock s.events s.task_state ≡ true → due ≡ suc s.tick →
       u ≡ record s { task_state = GivingUp s.tick } → goes ≡ Stops (GiveUp due) → Wakens s u goes sees
-  wakes_at_checkpoint u goes due at later stays stops froms numbers stopped ps stands task_state =
+  wakes_at_checkpoint u goes due at later stays stops cancelled_from numbers stopped ps stands task_state =
       let gs = frames_of numbers s.frames in
-      let o : Move = wake_of froms (now_at s) (here_at s) sees stopped gs ps in
-      subst (λ (g : Moved). Took s u g froms numbers o) (sym stops)
-      (subst (λ (v : State). Took s v (Stops (GiveUp due)) froms numbers o) (sym stays)
-      (subst (λ (m : Move). Took s (record s { task_state = GivingUp s.tick }) (Stops (GiveUp due)) froms numbers m)
-      (sym (seen_so froms numbers stopped ps stands task_state ∙ ap (λ (b : Bool). gives_up_if b s.tick gs ps) at))
-      (took_task_states s s.frames froms numbers (Some stopped) ps stands s.frames (GivingUp s.tick) (Stops (GiveUp due))
+      let o : Move = wake_of cancelled_from (now_at s) (here_at s) sees stopped gs ps in
+      subst (λ (g : Moved). Took s u g cancelled_from numbers o) (sym stops)
+      (subst (λ (v : State). Took s v (Stops (GiveUp due)) cancelled_from numbers o) (sym stays)
+      (subst (λ (m : Move). Took s (record s { task_state = GivingUp s.tick }) (Stops (GiveUp due)) cancelled_from numbers m)
+      (sym (seen_so cancelled_from numbers stopped ps stands task_state ∙ ap (λ (b : Bool). gives_up_if b s.tick gs ps) at))
+      (took_task_states s s.frames cancelled_from numbers (Some stopped) ps stands s.frames (GivingUp s.tick) (Stops (GiveUp due))
       (blocks_on (giving_up s.tick) gs ps) refl refl refl refl refl tt (refl, (refl, later)) tt)))
 
 -- ---- an event that is set
@@ -178,13 +178,13 @@ module _ (s : State) (fits : WakesFrom s.task_state s.part s.book Seen) where
 -- the task notes that it waited
 pub wakes_noted : (s u : State) (key since : ℕ) → s.task_state ≡ Waiting key since → u ≡ record s { entries = u.entries } →
     NotesWait (s.labels key) (tick_of s.clock s.tick) s.entries u.entries → Wakens s u (On None) is_due
-wakes_noted s u key since waits stays notes froms numbers stopped ps stands task_state =
-    subst (λ (v : State). Took s v (On None) froms numbers (wake_at s is_due stopped froms numbers ps)) (sym stays)
-    (subst (λ (x : Stopped). Took s (record s { entries = u.entries }) (On None) froms numbers (wake_at s is_due x froms numbers ps))
+wakes_noted s u key since waits stays notes cancelled_from numbers stopped ps stands task_state =
+    subst (λ (v : State). Took s v (On None) cancelled_from numbers (wake_at s is_due stopped cancelled_from numbers ps)) (sym stays)
+    (subst (λ (x : Stopped). Took s (record s { entries = u.entries }) (On None) cancelled_from numbers (wake_at s is_due x cancelled_from numbers ps))
     (sym w.is)
-    (took_noted s froms numbers (Some stopped) ps stands u.entries (event_on w.name (stack_at froms ps).events)
+    (took_noted s cancelled_from numbers (Some stopped) ps stands u.entries (event_on w.name (stack_at cancelled_from ps).events)
     (subst (λ (o : Option Label). NotesWait o (tick_of s.clock s.tick) s.entries u.entries)
-    (event.1 ∙ sym (event_found froms w.name ps)) notes)))
+    (event.1 ∙ sym (event_found cancelled_from w.name ps)) notes)))
   where
     w : WaitsSo since stopped
     w =
@@ -201,22 +201,22 @@ wakes_noted s u key since waits stays notes froms numbers stopped ps stands task
 -- a task that asked a kernel for a purpose
 module _ (s : State) (kernel : Kernel) (purpose : Purpose) (asked : s.task_state ≡ Asked kernel purpose) where
   -- what it does is what it does with the answer for its purpose
-  answered_as : (froms : Table) (numbers : Numbers) (stopped : Stopped) (fs : List rest.Frame) (ps : List Place) (answer : ask.Answer) →
+  answered_as : (cancelled_from : Table) (numbers : Numbers) (stopped : Stopped) (fs : List rest.Frame) (ps : List Place) (answer : ask.Answer) →
       IsTaskState numbers s.book s.task_state stopped →
-      wake_of froms (now_at s) (here_at s) (has_answer answer) stopped fs ps
-      ≡ goes_on_with froms s.tick (here_at s) answer (purpose_in purpose) fs ps
-  answered_as froms numbers stopped fs ps answer h =
-      ap (λ (x : Stopped). wake_of froms (now_at s) (here_at s) (has_answer answer) x fs ps)
+      wake_of cancelled_from (now_at s) (here_at s) (has_answer answer) stopped fs ps
+      ≡ goes_on_with cancelled_from s.tick (here_at s) answer (purpose_in purpose) fs ps
+  answered_as cancelled_from numbers stopped fs ps answer h =
+      ap (λ (x : Stopped). wake_of cancelled_from (now_at s) (here_at s) (has_answer answer) x fs ps)
       (task_states_asked numbers s.book kernel purpose stopped (subst (λ (x : TaskState). IsTaskState numbers s.book x stopped) asked h))
 
   -- there is nothing more to do with the answer
   pub wakes_answered : (answer : ask.Answer) →
-      ((froms : Table) (fs : List rest.Frame) (ps : List Place) → goes_on_with froms s.tick (here_at s) answer (purpose_in purpose) fs
+      ((cancelled_from : Table) (fs : List rest.Frame) (ps : List Place) → goes_on_with cancelled_from s.tick (here_at s) answer (purpose_in purpose) fs
       ps ≡ onward fs ps None) →
       Wakens s s (On None) (has_answer answer)
   wakes_answered answer is =
       wakes_onward s None (has_answer answer)
-      (λ froms numbers stopped fs ps h. answered_as froms numbers stopped fs ps answer h ∙ is froms fs ps)
+      (λ cancelled_from numbers stopped fs ps h. answered_as cancelled_from numbers stopped fs ps answer h ∙ is cancelled_from fs ps)
 
   -- no line was there that was needed: it raises
   pub wakes_missing : (goes : Moved) (name : List ℕ) → purpose_in purpose ≡ ask.needs name →
@@ -224,51 +224,51 @@ module _ (s : State) (kernel : Kernel) (purpose : Purpose) (asked : s.task_state
       MovesAs s.clock numbers book s.part goes s.task_state
       (onward fs ps (Some (raised name s.label (tick_of s.clock s.tick))))) →
       Wakens s s goes (has_answer ask.missing)
-  wakes_missing goes name for_name raises froms numbers stopped ps stands task_state =
+  wakes_missing goes name for_name raises cancelled_from numbers stopped ps stands task_state =
       let gs = frames_of numbers s.frames in
-      subst (λ (o : Move). Took s s goes froms numbers o)
-      (sym (answered_as froms numbers stopped gs ps ask.missing task_state
-      ∙ ap (λ (p : ask.Purpose). goes_on_with froms s.tick (here_at s) ask.missing p gs ps) for_name))
-      (took_task_states s s.frames froms numbers (Some stopped) ps stands s.frames s.task_state goes
+      subst (λ (o : Move). Took s s goes cancelled_from numbers o)
+      (sym (answered_as cancelled_from numbers stopped gs ps ask.missing task_state
+      ∙ ap (λ (p : ask.Purpose). goes_on_with cancelled_from s.tick (here_at s) ask.missing p gs ps) for_name))
+      (took_task_states s s.frames cancelled_from numbers (Some stopped) ps stands s.frames s.task_state goes
       (onward gs ps (Some (raised name s.label (tick_of s.clock s.tick)))) refl refl refl refl refl tt (raises numbers s.book gs ps) tt)
 
   -- lines were counted to sleep by
   pub wakes_counted : (u : State) (goes : Moved) (k n ticks : ℕ) → purpose_in purpose ≡ ask.paces k → ticks ≡ pace_ticks n k →
       u ≡ record s { task_state = u.task_state } →
-      ((froms : Table) (numbers : Numbers) (book : NurseryBook) (fs : List rest.Frame) (ps : List Place) →
-      AreAt s.labels s.events froms (stack_in s) ps →
-      MovesAs s.clock numbers book s.part goes u.task_state (sleeps s.clock froms true ticks s.tick fs ps)) →
+      ((cancelled_from : Table) (numbers : Numbers) (book : NurseryBook) (fs : List rest.Frame) (ps : List Place) →
+      AreAt s.labels s.events cancelled_from (stack_in s) ps →
+      MovesAs s.clock numbers book s.part goes u.task_state (sleeps s.clock cancelled_from true ticks s.tick fs ps)) →
       Wakens s u goes (has_answer (ask.counted n))
-  wakes_counted u goes k n ticks by_count long stays sleep froms numbers stopped ps stands task_state =
+  wakes_counted u goes k n ticks by_count long stays sleep cancelled_from numbers stopped ps stands task_state =
       let gs = frames_of numbers s.frames in
-      subst (λ (v : State). Took s v goes froms numbers (wake_at s (has_answer (ask.counted n)) stopped froms numbers ps)) (sym stays)
-      (subst (λ (o : Move). Took s (record s { task_state = u.task_state }) goes froms numbers o)
-      (sym (answered_as froms numbers stopped gs ps (ask.counted n) task_state
-      ∙ ap (λ (p : ask.Purpose). goes_on_with froms s.tick (here_at s) (ask.counted n) p gs ps) by_count
-      ∙ ap (λ (x : ℕ). sleeps s.clock froms true x s.tick gs ps) (sym long)))
-      (took_sleep s s.frames froms numbers (Some stopped) ps stands u.task_state goes true ticks refl
-      (λ at. sleep froms numbers s.book gs ps at)))
+      subst (λ (v : State). Took s v goes cancelled_from numbers (wake_at s (has_answer (ask.counted n)) stopped cancelled_from numbers ps)) (sym stays)
+      (subst (λ (o : Move). Took s (record s { task_state = u.task_state }) goes cancelled_from numbers o)
+      (sym (answered_as cancelled_from numbers stopped gs ps (ask.counted n) task_state
+      ∙ ap (λ (p : ask.Purpose). goes_on_with cancelled_from s.tick (here_at s) (ask.counted n) p gs ps) by_count
+      ∙ ap (λ (x : ℕ). sleeps s.clock cancelled_from true x s.tick gs ps) (sym long)))
+      (took_sleep s s.frames cancelled_from numbers (Some stopped) ps stands u.task_state goes true ticks refl
+      (λ at. sleep cancelled_from numbers s.book gs ps at)))
 
   -- lines were found: it notes them
   pub wakes_lines : (spans : List Span) (lines : List Line) → AreLinesAt (buffer_of s.part) spans lines →
       Wakens s (record s { entries = s.entries ++ map entries.Line lines }) (On None) (has_answer (ask.lines spans))
-  wakes_lines spans lines at froms numbers stopped ps stands task_state =
+  wakes_lines spans lines at cancelled_from numbers stopped ps stands task_state =
       let gs = frames_of numbers s.frames in
-      subst (λ (o : Move). Took s (record s { entries = s.entries ++ map entries.Line lines }) (On None) froms numbers o)
-      (sym (answered_as froms numbers stopped gs ps (ask.lines spans) task_state))
-      (took_lines s froms numbers (Some stopped) ps spans lines stands at)
+      subst (λ (o : Move). Took s (record s { entries = s.entries ++ map entries.Line lines }) (On None) cancelled_from numbers o)
+      (sym (answered_as cancelled_from numbers stopped gs ps (ask.lines spans) task_state))
+      (took_lines s cancelled_from numbers (Some stopped) ps spans lines stands at)
 
 -- ---- a nursery that is settled
 
 -- the nursery that it waits for is closed and left; none of its blocks has it
 pub wakes_settled : (s u : State) (book : NurseryBook) (id since : ℕ) (exc goes : Option held.Exc) → s.task_state ≡ Awaits id since →
     (HasBlock id (blocks_of s.frames) → ⊥) → Updates s.book book id None →
-    u ≡ record s { own = u.own; froms = u.froms; entries = u.entries; tree = u.tree; labels = u.labels; events = u.events; book = book } →
+    u ≡ record s { own = u.own; cancelled_from = u.cancelled_from; entries = u.entries; tree = u.tree; labels = u.labels; events = u.events; book = book } →
     ExitsAt (record s { book = book }) u kind.Nursery (option_map exc_of exc) (option_map exc_of goes) →
     Leaves (scoping_in s) (scoping_in u) →
     ((n : Nursery) → nursery_at s.book id ≡ Some n → IsOfOther s.own s.tree n → ⊥) →
     Wakens s u (On goes) (settles (option_map exc_of exc))
-wakes_settled s u book id since exc goes waits apart closed stays exits one mine froms numbers stopped ps stands task_state =
+wakes_settled s u book id since exc goes waits apart closed stays exits one mine cancelled_from numbers stopped ps stands task_state =
     let w = task_states_awaits numbers s.book id since stopped (subst (λ (x : TaskState). IsTaskState numbers s.book x stopped) waits task_state) in
-    took_settled s u book id (numbers id) since w.exc exc goes froms numbers ps
-    (subst (λ (x : Stopped). Stands s froms numbers (Some x) ps) w.is stands) apart closed stays exits one mine
+    took_settled s u book id (numbers id) since w.exc exc goes cancelled_from numbers ps
+    (subst (λ (x : Stopped). Stands s cancelled_from numbers (Some x) ps) w.is stands) apart closed stays exits one mine

@@ -14,7 +14,7 @@ use Rattle.nursery_book.specs.declared.book.NurseryBook.{NurseryBook}
 use Rattle.turn_semantics.specs.Midway.{Place, Midway, Move, then_move, own_after, now_after}
 use Rattle.turn_semantics.specs.Placed.{PlacedAfter}
 use Rattle.turn_semantics.specs.Names.{NewIn, OwnNames, names_at, StaysNew}
-use Rattle.turn_semantics.specs.Steps.{froms_after, turn_of}
+use Rattle.turn_semantics.specs.Steps.{cancelled_from_after, turn_of}
 use Rattle.turn_semantics.specs.Wakes.{CanWake, from_start, from_asking, from_sleep, from_due, from_seen_waiting, from_set, from_giving_up, from_wait, turn_from}
 use Rattle.turn_semantics.specs.Wakes as wakes
 use Rattle.turn_semantics.proofs.Waking.{turned_from}
@@ -135,39 +135,39 @@ can_wake Over part book numbers Settled s f h = absurd f
 
 -- ---- the state of a task that continues after its wake
 
-placed_on : (o : Move) (froms : Table) (t : Now) (here : Here) (count : ℕ) → o.stopped ≡ None →
-    (let p = then_move o.stopped o (turn_of zero froms t here (record { frames = o.frames; places = o.places; exc = o.exc; count = count }))
+placed_on : (o : Move) (cancelled_from : Table) (t : Now) (here : Here) (count : ℕ) → o.stopped ≡ None →
+    (let p = then_move o.stopped o (turn_of zero cancelled_from t here (record { frames = o.frames; places = o.places; exc = o.exc; count = count }))
     in PlacedAfter p.stopped p.frames p.places) →
     PlacedAfter None o.frames o.places
 unfolding turn_of
-placed_on o froms t here count e h =
+placed_on o cancelled_from t here count e h =
     subst (λ (s : Option Stopped).
-    (let p = then_move s o (turn_of zero froms t here (record { frames = o.frames; places = o.places; exc = o.exc; count = count })) in
+    (let p = then_move s o (turn_of zero cancelled_from t here (record { frames = o.frames; places = o.places; exc = o.exc; count = count })) in
     PlacedAfter p.stopped p.frames p.places)) e h
 
-names_on : (o : Move) (froms : Table) (t : Now) (here : Here) (count : ℕ) → o.stopped ≡ None →
+names_on : (o : Move) (cancelled_from : Table) (t : Now) (here : Here) (count : ℕ) → o.stopped ≡ None →
     StaysNew (then_move o.stopped o
-    (turn_of zero froms t here (record { frames = o.frames; places = o.places; exc = o.exc; count = count }))) → NewIn o.frames o.places
+    (turn_of zero cancelled_from t here (record { frames = o.frames; places = o.places; exc = o.exc; count = count }))) → NewIn o.frames o.places
     × OwnNames (names_at o.places)
 unfolding turn_of
-names_on o froms t here count e h =
+names_on o cancelled_from t here count e h =
     let k = subst (λ (s : Option Stopped). StaysNew (then_move s o
-    (turn_of zero froms t here (record { frames = o.frames; places = o.places; exc = o.exc; count = count })))) e h in (k.frames, k.own)
+    (turn_of zero cancelled_from t here (record { frames = o.frames; places = o.places; exc = o.exc; count = count })))) e h in (k.frames, k.own)
 
 -- a task that woke and continues is in the middle of its turn, where the wake of the definitions leaves it
-pub wake_stands : (s u : State) (exc : Option held.Exc) (froms : Table) (numbers : Numbers) (ps : List Place) (count : ℕ)
-    (stopped : Stopped) (w : wakes.Wake) → CanWake w stopped → Stands s froms numbers (Some stopped) ps →
-    (took : Took s u (On exc) froms numbers (wake_at s w stopped froms numbers ps)) →
-    Stands u (froms_after froms (wake_at s w stopped froms numbers ps).made) took.numbers_after None
-    (wake_at s w stopped froms numbers ps).places
+pub wake_stands : (s u : State) (exc : Option held.Exc) (cancelled_from : Table) (numbers : Numbers) (ps : List Place) (count : ℕ)
+    (stopped : Stopped) (w : wakes.Wake) → CanWake w stopped → Stands s cancelled_from numbers (Some stopped) ps →
+    (took : Took s u (On exc) cancelled_from numbers (wake_at s w stopped cancelled_from numbers ps)) →
+    Stands u (cancelled_from_after cancelled_from (wake_at s w stopped cancelled_from numbers ps).made) took.numbers_after None
+    (wake_at s w stopped cancelled_from numbers ps).places
 unfolding turn_from
-wake_stands s u exc froms numbers ps count stopped w can stands took =
-    let o = wake_at s w stopped froms numbers ps in
+wake_stands s u exc cancelled_from numbers ps count stopped w can stands took =
+    let o = wake_at s w stopped cancelled_from numbers ps in
     let r : rest.Rest = record { stopped = stopped; frames = frames_of numbers s.frames } in
-    let kept = (turned_from zero (now_at s) (now_at s) (here_at s) froms w r ps count can stands.placed).placed in
+    let kept = (turned_from zero (now_at s) (now_at s) (here_at s) cancelled_from w r ps count can stands.placed).placed in
     let none : o.stopped ≡ None = took.moves.1 in
     let names = names_on o _ (now_after s.clock (now_at s) o.made) (here_at s) _ none
-    (turn_stays_new zero (now_at s) (here_at s) froms w r ps count can stands.new
+    (turn_stays_new zero (now_at s) (here_at s) cancelled_from w r ps count can stands.new
     stands.own) in
     record {
       places = took.places;
@@ -182,21 +182,21 @@ wake_stands s u exc froms numbers ps count stopped w can stands took =
 -- ---- the whole turn
 
 -- a turn from a state, in its moment
-record TurnsIn (s u : State) (w : wakes.Wake) (stop : Stop) (froms : Table) (numbers : Numbers) (stopped : Stopped) (ps : List Place)
+record TurnsIn (s u : State) (w : wakes.Wake) (stop : Stop) (cancelled_from : Table) (numbers : Numbers) (stopped : Stopped) (ps : List Place)
     (count : ℕ) : Type 0 where
   steps : ℕ
-  took : TookTo s u stop froms numbers (turn_from steps froms (now_at s) (here_at s) w stopped (frames_of numbers s.frames) ps count)
+  took : TookTo s u stop cancelled_from numbers (turn_from steps cancelled_from (now_at s) (here_at s) w stopped (frames_of numbers s.frames) ps count)
 
 -- it stopped in its wake
-at_once : (s u : State) (w : wakes.Wake) (stop : Stop) (froms : Table) (numbers : Numbers) (ps : List Place) (count : ℕ)
-    (stopped : Stopped) → TookTo s u stop froms numbers (wake_at s w stopped froms numbers ps) →
-    TurnsIn s u w stop froms numbers stopped ps count
+at_once : (s u : State) (w : wakes.Wake) (stop : Stop) (cancelled_from : Table) (numbers : Numbers) (ps : List Place) (count : ℕ)
+    (stopped : Stopped) → TookTo s u stop cancelled_from numbers (wake_at s w stopped cancelled_from numbers ps) →
+    TurnsIn s u w stop cancelled_from numbers stopped ps count
 unfolding turn_from
-at_once s u w stop froms numbers ps count stopped took =
-    let o = wake_at s w stopped froms numbers ps in
+at_once s u w stop cancelled_from numbers ps count stopped took =
+    let o = wake_at s w stopped cancelled_from numbers ps in
     record {
       steps = zero;
-      took = subst (λ (p : Move). TookTo s u stop froms numbers p) (sym (then_none o.stopped o _ took.moves.1)) took;
+      took = subst (λ (p : Move). TookTo s u stop cancelled_from numbers p) (sym (then_none o.stopped o _ took.moves.1)) took;
     }
   where
     then_none : (x : Option Stopped) (o q : Move) → StopsAs s.clock took.numbers_after u.book s.part stop u.task_state x →
@@ -205,34 +205,34 @@ at_once s u w stop froms numbers ps count stopped took =
     then_none (Some x) o q h = refl
 
 -- it went on, and stopped later
-later_on : (s m u : State) (w : wakes.Wake) (exc : Option held.Exc) (stop : Stop) (froms : Table) (numbers : Numbers)
+later_on : (s m u : State) (w : wakes.Wake) (exc : Option held.Exc) (stop : Stop) (cancelled_from : Table) (numbers : Numbers)
     (ps : List Place) (count : ℕ) (stopped : Stopped) → m.part ≡ s.part → m.label ≡ s.label → m.clock ≡ s.clock → m.tick ≡ s.tick →
-    CanWake w stopped → Stands s froms numbers (Some stopped) ps →
-    Took s m (On exc) froms numbers (wake_at s w stopped froms numbers ps) →
-    StopsAfter m u (option_map exc_of exc) stop → TurnsIn s u w stop froms numbers stopped ps count
+    CanWake w stopped → Stands s cancelled_from numbers (Some stopped) ps →
+    Took s m (On exc) cancelled_from numbers (wake_at s w stopped cancelled_from numbers ps) →
+    StopsAfter m u (option_map exc_of exc) stop → TurnsIn s u w stop cancelled_from numbers stopped ps count
 unfolding turn_from
-later_on s m u w exc stop froms numbers ps count stopped part label clock tick can stands took steps =
+later_on s m u w exc stop cancelled_from numbers ps count stopped part label clock tick can stands took steps =
     let k : Midway = record { frames = o.frames; places = o.places; exc = o.exc; count = count + length o.begun } in
-    let x = steps (froms_after froms o.made) took.numbers_after o.places (count + length o.begun)
-    (wake_stands s m exc froms numbers ps count stopped w can stands took) in
+    let x = steps (cancelled_from_after cancelled_from o.made) took.numbers_after o.places (count + length o.begun)
+    (wake_stands s m exc cancelled_from numbers ps count stopped w can stands took) in
     record {
       steps = x.steps;
       took =
-          took_then s m u exc (Stops stop) froms numbers o
-          (turn_of x.steps (froms_after froms o.made) (now_after s.clock (now_at s) o.made) (here_at s) k) took
-          (subst (λ (t : Now). TookTo m u stop (froms_after froms o.made) took.numbers_after
-          (turn_of x.steps (froms_after froms o.made) t (here_at s) k)) now
-          (subst (λ (h : Here). TookTo m u stop (froms_after froms o.made) took.numbers_after
-          (turn_of x.steps (froms_after froms o.made) (now_at m) h k)) here
-          (subst (λ (y : Midway). TookTo m u stop (froms_after froms o.made) took.numbers_after
-          (turn_of x.steps (froms_after froms o.made) (now_at m) (here_at m) y))
+          took_then s m u exc (Stops stop) cancelled_from numbers o
+          (turn_of x.steps (cancelled_from_after cancelled_from o.made) (now_after s.clock (now_at s) o.made) (here_at s) k) took
+          (subst (λ (t : Now). TookTo m u stop (cancelled_from_after cancelled_from o.made) took.numbers_after
+          (turn_of x.steps (cancelled_from_after cancelled_from o.made) t (here_at s) k)) now
+          (subst (λ (h : Here). TookTo m u stop (cancelled_from_after cancelled_from o.made) took.numbers_after
+          (turn_of x.steps (cancelled_from_after cancelled_from o.made) (now_at m) h k)) here
+          (subst (λ (y : Midway). TookTo m u stop (cancelled_from_after cancelled_from o.made) took.numbers_after
+          (turn_of x.steps (cancelled_from_after cancelled_from o.made) (now_at m) (here_at m) y))
           (same (frames_of took.numbers_after m.frames) o.frames (option_map exc_of exc) o.exc took.frames_after took.moves.0)
           x.took)))
           part clock tick;
     }
   where
     o : Move
-    o = wake_at s w stopped froms numbers ps
+    o = wake_at s w stopped cancelled_from numbers ps
 
     here : here_at m ≡ here_at s
     here = cc
@@ -257,9 +257,9 @@ now_woken (Answer answer) s = refl
 now_woken Settled s = refl
 
 -- what it cancelled before does not change its places
-pub woken_stands : (wake : Wake) (s : State) (froms : Table) (numbers : Numbers) (stopped : Option Stopped) (ps : List Place) →
-    Stands s froms numbers stopped ps → Stands (woken_at wake s) froms numbers stopped ps
-woken_stands wake s froms numbers stopped ps stands =
+pub woken_stands : (wake : Wake) (s : State) (cancelled_from : Table) (numbers : Numbers) (stopped : Option Stopped) (ps : List Place) →
+    Stands s cancelled_from numbers stopped ps → Stands (woken_at wake s) cancelled_from numbers stopped ps
+woken_stands wake s cancelled_from numbers stopped ps stands =
     record {
       places = stands.places;
       numbered = stands.numbered;
@@ -269,36 +269,36 @@ woken_stands wake s froms numbers stopped ps stands =
       event = stands.event;
     }
 
-turns_woken : (s u : State) (wake : Wake) (stop : Stop) (froms : Table) (numbers : Numbers) (ps : List Place) (count : ℕ)
-    (stopped : Stopped) → TurnsIn (woken_at wake s) u (wake_in s.book s.task_state wake) stop froms numbers stopped ps count →
-    TookTurn s u wake stop froms numbers stopped ps count
-turns_woken s u wake stop froms numbers ps count stopped t =
+turns_woken : (s u : State) (wake : Wake) (stop : Stop) (cancelled_from : Table) (numbers : Numbers) (ps : List Place) (count : ℕ)
+    (stopped : Stopped) → TurnsIn (woken_at wake s) u (wake_in s.book s.task_state wake) stop cancelled_from numbers stopped ps count →
+    TookTurn s u wake stop cancelled_from numbers stopped ps count
+turns_woken s u wake stop cancelled_from numbers ps count stopped t =
     record {
       steps = t.steps;
       took =
-          subst (λ (n : Now). TookTo (woken_at wake s) u stop froms numbers
-          (turn_from t.steps froms n (here_at s) (wake_in s.book s.task_state wake) stopped (frames_of numbers s.frames) ps count))
+          subst (λ (n : Now). TookTo (woken_at wake s) u stop cancelled_from numbers
+          (turn_from t.steps cancelled_from n (here_at s) (wake_in s.book s.task_state wake) stopped (frames_of numbers s.frames) ps count))
           (now_woken wake s) t.took;
     }
 
 -- it stopped in its wake
-pub turns_at_once : (s u : State) (wake : Wake) (stop : Stop) (froms : Table) (numbers : Numbers) (ps : List Place) (count : ℕ)
+pub turns_at_once : (s u : State) (wake : Wake) (stop : Stop) (cancelled_from : Table) (numbers : Numbers) (ps : List Place) (count : ℕ)
     (stopped : Stopped) →
-    TookTo (woken_at wake s) u stop froms numbers
-    (wake_at (woken_at wake s) (wake_in s.book s.task_state wake) stopped froms numbers ps) →
-    TookTurn s u wake stop froms numbers stopped ps count
-turns_at_once s u wake stop froms numbers ps count stopped took =
-    turns_woken s u wake stop froms numbers ps count stopped
-    (at_once (woken_at wake s) u (wake_in s.book s.task_state wake) stop froms numbers ps count stopped took)
+    TookTo (woken_at wake s) u stop cancelled_from numbers
+    (wake_at (woken_at wake s) (wake_in s.book s.task_state wake) stopped cancelled_from numbers ps) →
+    TookTurn s u wake stop cancelled_from numbers stopped ps count
+turns_at_once s u wake stop cancelled_from numbers ps count stopped took =
+    turns_woken s u wake stop cancelled_from numbers ps count stopped
+    (at_once (woken_at wake s) u (wake_in s.book s.task_state wake) stop cancelled_from numbers ps count stopped took)
 
 -- it went on, and stopped later
-pub turns_later : (s m u : State) (wake : Wake) (exc : Option held.Exc) (stop : Stop) (froms : Table) (numbers : Numbers)
+pub turns_later : (s m u : State) (wake : Wake) (exc : Option held.Exc) (stop : Stop) (cancelled_from : Table) (numbers : Numbers)
     (ps : List Place) (count : ℕ) (stopped : Stopped) → m.part ≡ s.part → m.label ≡ s.label → m.clock ≡ s.clock → m.tick ≡ s.tick →
-    CanWake (wake_in s.book s.task_state wake) stopped → Stands s froms numbers (Some stopped) ps →
-    Took (woken_at wake s) m (On exc) froms numbers
-    (wake_at (woken_at wake s) (wake_in s.book s.task_state wake) stopped froms numbers ps) →
-    StopsAfter m u (option_map exc_of exc) stop → TookTurn s u wake stop froms numbers stopped ps count
-turns_later s m u wake exc stop froms numbers ps count stopped part label clock tick can stands took steps =
-    turns_woken s u wake stop froms numbers ps count stopped
-    (later_on (woken_at wake s) m u (wake_in s.book s.task_state wake) exc stop froms numbers ps count stopped part label clock tick can
-    (woken_stands wake s froms numbers (Some stopped) ps stands) took steps)
+    CanWake (wake_in s.book s.task_state wake) stopped → Stands s cancelled_from numbers (Some stopped) ps →
+    Took (woken_at wake s) m (On exc) cancelled_from numbers
+    (wake_at (woken_at wake s) (wake_in s.book s.task_state wake) stopped cancelled_from numbers ps) →
+    StopsAfter m u (option_map exc_of exc) stop → TookTurn s u wake stop cancelled_from numbers stopped ps count
+turns_later s m u wake exc stop cancelled_from numbers ps count stopped part label clock tick can stands took steps =
+    turns_woken s u wake stop cancelled_from numbers ps count stopped
+    (later_on (woken_at wake s) m u (wake_in s.book s.task_state wake) exc stop cancelled_from numbers ps count stopped part label clock tick can
+    (woken_stands wake s cancelled_from numbers (Some stopped) ps stands) took steps)

@@ -14,15 +14,15 @@ use Rattle.task_machine.specs.Labels.{Labels, Events, Updates, home_key}
 use Rattle.task_machine.specs.States.{State}
 use Rattle.task_machine.specs.Worlds.{label_at, event_at}
 
--- the open scopes of a world, their labels, which of them are events, which events were set in this turn, and the scopes that a task
--- opened, and its froms
+-- the open scopes of a world, their labels, which of them are events, which events were set in this turn, and the scopes that a
+-- task opened, and its moments of cancellation
 pub record Scoping : Type 0 where
   pub tree : Tree
   pub labels : Labels
   pub events : Events
   pub set : List ℕ
   pub own : List Own
-  pub froms : List ScopeFrom
+  pub cancelled_from : List ScopeFrom
 
 abbrev pub scoping_of : Task → World → Scoping
 scoping_of task world =
@@ -32,12 +32,12 @@ scoping_of task world =
       events = event_at world;
       set = world.set.items;
       own = task.own.items;
-      froms = task.froms.items;
+      cancelled_from = task.cancelled_from.items;
     }
 
--- the same of a state
+-- what a state has of scopes
 abbrev pub scoping_in : State → Scoping
-scoping_in s = record { tree = s.tree; labels = s.labels; events = s.events; set = s.set; own = s.own; froms = s.froms }
+scoping_in s = record { tree = s.tree; labels = s.labels; events = s.events; set = s.set; own = s.own; cancelled_from = s.cancelled_from }
 
 -- the scope with this key is cancelled in a moment: this changes it in each stack, and each scope whose effective deadline
 -- (`sight`) is lowered by it is marked as changed
@@ -57,7 +57,7 @@ pub record Signs (tick : ℕ) (label : Label) (old new : Scoping) : Type 0 where
   pub events : new.events ≡ old.events
   pub set : new.set ≡ old.set
   pub own : new.own ≡ old.own
-  pub froms : new.froms ≡ old.froms
+  pub cancelled_from : new.cancelled_from ≡ old.cancelled_from
 
 -- the event with this key is set in a moment, which others see from the next one on; it is among those that were set in this turn
 pub record SetsKey (key tick : ℕ) (old new : Events) (set more : List ℕ) : Type 0 where
@@ -75,7 +75,7 @@ pub record Sets (tick : ℕ) (label : Label) (old new : Scoping) : Type 0 where
   pub tree : new.tree ≡ old.tree
   pub labels : new.labels ≡ old.labels
   pub own : new.own ≡ old.own
-  pub froms : new.froms ≡ old.froms
+  pub cancelled_from : new.cancelled_from ≡ old.cancelled_from
 
 -- what is kept of a scope that is entered: of an event, that nothing has set it
 abbrev pub set_at_entry : (is_event : Bool) → Option Tick
@@ -83,12 +83,12 @@ set_at_entry true = Some None
 set_at_entry false = None
 
 -- A scope that was not open is opened with this label and deadline inside the parent, the last that the task opened, with a new
--- place at the end of its froms. It is an event, or it is none. Every other scope stays, and keeps its label.
+-- place at the end of its moments of cancellation. It is an event, or it is none. Every other scope stays, and keeps its label.
 pub record Enters (parent : Option ℕ) (label : Label) (is_event : Bool) (deadline : Tick) (old new : Scoping) : Type 0 where
   pub scope : Own
   pub opened : new.own ≡ old.own ++ scope ∷ []
-  pub place : scope.at ≡ length old.froms
-  pub froms : new.froms ≡ old.froms ++ record { label = label; seen = None } ∷ []
+  pub index : scope.at ≡ length old.cancelled_from
+  pub cancelled_from : new.cancelled_from ≡ old.cancelled_from ++ record { label = label; seen = None } ∷ []
   pub fresh : stack_of old.tree scope.id ≡ None
   pub level : Level ℕ
   pub stack : stack_of new.tree scope.id ≡ Some (level ∷ outer_of old.tree parent)
@@ -116,8 +116,8 @@ pub record Leaves (old new : Scoping) : Type 0 where
   pub from : Tick
   pub seen : ForSome (stack_of old.tree scope.id) (λ st. from ≡ kept_from (old.events scope.id) st)
   pub entry : ScopeFrom
-  pub was : slice_get old.froms scope.at ≡ Some entry
-  pub froms : new.froms ≡ slice_set old.froms scope.at (record entry { seen = from })
+  pub was : slice_get old.cancelled_from scope.at ≡ Some entry
+  pub cancelled_from : new.cancelled_from ≡ slice_set old.cancelled_from scope.at (record entry { seen = from })
   pub closed : stack_of new.tree scope.id ≡ None
   pub others : OthersKeep old.tree new.tree scope.id
   pub marks : OtherMarksKeep old.tree new.tree scope.id

@@ -12,7 +12,7 @@ use Rattle.job_meaning.specs.Log.{Table}
 use Rattle.job_meaning.specs.Walk.{with_own}
 use Rattle.turn_semantics.specs.Midway.{Place, label_among}
 use Rattle.turn_semantics.specs.Names.{names_at, OwnNames}
-use Rattle.turn_semantics.specs.Steps.{froms_after_entry, signs_to, froms_after}
+use Rattle.turn_semantics.specs.Steps.{cancelled_from_after_entry, signs_to, cancelled_from_after}
 use Rattle.task_machine.specs.declared.frame.Frame.{Frame}
 use Rattle.task_machine.specs.declared.frame.Frame.TheVariants as frame
 use Rattle.task_machine.specs.declared.task.Task.{Task}
@@ -26,9 +26,9 @@ use Rattle.task_machine.specs.Tasks.{path_of}
 -- label is entered, with this deadline. No enclosing one has its name.
 abbrev pub EntersAt : State → State → Place → Tick → Type 0
 EntersAt before after p deadline =
-    (froms : Table) (ps : List Place) → (IsAmong p.label.name (names_at ps) → ⊥) →
-    AreAt before.labels before.events froms (stack_in before) ps →
-    AreAt after.labels after.events (froms_after_entry froms p.label deadline) (stack_in after) (p ∷ ps)
+    (cancelled_from : Table) (ps : List Place) → (IsAmong p.label.name (names_at ps) → ⊥) →
+    AreAt before.labels before.events cancelled_from (stack_in before) ps →
+    AreAt after.labels after.events (cancelled_from_after_entry cancelled_from p.label deadline) (stack_in after) (p ∷ ps)
 
 -- a scope or nursery that encloses a task, and an event
 abbrev pub a_scope_at : Label → (shield : Bool) → Place
@@ -61,13 +61,13 @@ pub record EntersNursery (me : ℕ) (before after : State) (label : Label) (body
   pub stands : book.Updates before.book after.book id (Some (new_nursery scope me label))
   pub frames : EntersBlock before.frames after.frames (frame.Nursery id) body
 
--- The innermost scope of this name is cancelled, if there is one, and the froms of the scopes and nurseries that enclose the task are
--- lowered by that sign. The task itself sees it in this moment, where there are rounds.
+-- The innermost scope of this name is cancelled, if there is one, and the moments of cancellation of the scopes and nurseries
+-- that enclose the task are lowered by that sign. The task itself sees it in this moment, where there are rounds.
 abbrev pub CancelsAt : State → State → List ℕ → Type 0
 CancelsAt before after name =
     Signed before.tick before.tree after.tree (scope_named false before.labels before.events name (stack_in before))
-    × ((froms : Table) (ps : List Place) → OwnNames (names_at ps) → AreAt before.labels before.events froms (stack_in before) ps →
-    AreAt after.labels after.events (froms_after froms (signs_to (label_among false name ps) before.tick)) (stack_in after) ps
+    × ((cancelled_from : Table) (ps : List Place) → OwnNames (names_at ps) → AreAt before.labels before.events cancelled_from (stack_in before) ps →
+    AreAt after.labels after.events (cancelled_from_after cancelled_from (signs_to (label_among false name ps) before.tick)) (stack_in after) ps
     × (after.cancelled ≡ with_own before.clock (label_among false name ps) before.cancelled))
 
 -- the event with this key is set, or none is
@@ -80,6 +80,6 @@ SetAt before after (Some key) = SetsKey key before.tick before.events after.even
 abbrev pub SetsAt : State → State → List ℕ → Type 0
 SetsAt before after name =
     SetAt before after (scope_named true before.labels before.events name (stack_in before))
-    × ((froms : Table) (ps : List Place) → OwnNames (names_at ps) → AreAt before.labels before.events froms (stack_in before) ps →
-    AreAt after.labels after.events (froms_after froms (signs_to (label_among true name ps) before.tick)) (stack_in after) ps
+    × ((cancelled_from : Table) (ps : List Place) → OwnNames (names_at ps) → AreAt before.labels before.events cancelled_from (stack_in before) ps →
+    AreAt after.labels after.events (cancelled_from_after cancelled_from (signs_to (label_among true name ps) before.tick)) (stack_in after) ps
     × (after.cancelled ≡ with_own before.clock (label_among true name ps) before.cancelled))

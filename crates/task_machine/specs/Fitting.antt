@@ -180,7 +180,7 @@ pub record CanRun
     pub home : ForSome within (IsOpen tree)
     pub scope : ForSome (last_or within (map (λ (o : Own). o.id) own)) (IsOpen tree)
     pub first : OwnFirst tree within own
-    pub froms : All (λ (o : Own). o.at < entered) own
+    pub cancelled_from : All (λ (o : Own). o.at < entered) own
     pub opened : Opened labels book (blocks_of frames) own waits
 
 -- What holds of it between moves: this, a part that is not too long, and that scopes of other tasks are inside its own only while a
@@ -195,4 +195,4 @@ pub record FitsIn
 
 abbrev pub Fits : State → Option ℕ → Type 0
 Fits s waits =
-    FitsIn s.frames s.part (option_map (λ (h : Home). h.scope) s.home) s.own (length s.froms) s.tree s.labels s.book waits
+    FitsIn s.frames s.part (option_map (λ (h : Home). h.scope) s.home) s.own (length s.cancelled_from) s.tree s.labels s.book waits

@@ -24,16 +24,16 @@ keys_in (o ∷ os) = keys_in os ++ o.id ∷ []
 abbrev pub OwnFirst : Tree → Option ℕ → List Own → Type 0
 OwnFirst tree home own = keys_of (outer_of tree (last_or home (map (λ (o : Own). o.id) own))) ≡ keys_in own ++ keys_of (outer_of tree home)
 
--- The innermost scope or nursery is left: the task is enclosed by the others, with the same froms, and the scope that was
--- left catches as its place does.
-pub record LeavesFrom (before after : State) (closed : Closed) (froms : Table) (p : Place) (ps : List Place) : Type 0 where
+-- The innermost scope or nursery is left: the task is enclosed by the others, with the same moments of cancellation, and the
+-- scope that was left catches as its place does.
+pub record LeavesFrom (before after : State) (closed : Closed) (cancelled_from : Table) (p : Place) (ps : List Place) : Type 0 where
   pub label : closed.label ≡ p.label
   pub caught :
-      p.is_event ≡ false → closed.catches ≡ catches (from_for before.cancelled before.tick p.label (froms p.label)) p.shield
-      (stack_for before.cancelled before.tick (stack_at froms ps).scopes) before.tick
-  pub around : AreAt after.labels after.events froms (stack_in after) ps
+      p.is_event ≡ false → closed.catches ≡ catches (from_for before.cancelled before.tick p.label (cancelled_from p.label)) p.shield
+      (stack_for before.cancelled before.tick (stack_at cancelled_from ps).scopes) before.tick
+  pub around : AreAt after.labels after.events cancelled_from (stack_in after) ps
 
 abbrev pub LeavesAt : State → State → Closed → Type 0
 LeavesAt before after closed =
-    (froms : Table) (p : Place) (ps : List Place) → AreAt before.labels before.events froms (stack_in before) (p ∷ ps) →
-    LeavesFrom before after closed froms p ps
+    (cancelled_from : Table) (p : Place) (ps : List Place) → AreAt before.labels before.events cancelled_from (stack_in before) (p ∷ ps) →
+    LeavesFrom before after closed cancelled_from p ps

@@ -14,17 +14,17 @@ use Rattle.task_machine.specs.Labels.{Labels, Events}
 -- A level is cancelled from the moment that the table has for the label of a place, which is no event; or it is an event, which is set
 -- from that moment, is never cancelled and hides nothing.
 abbrev pub IsLevelOf : Option Tick → Level ℕ → Table → Place → Type 0
-IsLevelOf None l froms p = (p.is_event ≡ false) × (l.from ≡ froms p.label)
-IsLevelOf (Some set) l froms p = (p.is_event ≡ true) × (l.shield ≡ false) × (l.from ≡ None) × (set ≡ froms p.label)
+IsLevelOf None l cancelled_from p = (p.is_event ≡ false) × (l.from ≡ cancelled_from p.label)
+IsLevelOf (Some set) l cancelled_from p = (p.is_event ≡ true) × (l.shield ≡ false) × (l.from ≡ None) × (set ≡ cancelled_from p.label)
 
--- A stack of open scopes corresponds to these places with the froms of a table: each scope has the place's label and
--- shield, and is cancelled, or set, from the moment that the table has for its label.
+-- A stack of open scopes corresponds to these places with the moments of cancellation of a table: each scope has the place's
+-- label and shield, and is cancelled, or set, from the moment that the table has for its label.
 abbrev pub AreAt : Labels → Events → Table → scopes.Stack → List Place → Type 0
-AreAt labels events froms [] [] = Unit {0}
-AreAt labels events froms [] (p ∷ ps) = ⊥
-AreAt labels events froms (l ∷ ls) [] = ⊥
-AreAt labels events froms (l ∷ ls) (p ∷ ps) =
-    (labels l.label ≡ Some p.label) × (l.shield ≡ p.shield) × IsLevelOf (events l.label) l froms p × AreAt labels events froms ls ps
+AreAt labels events cancelled_from [] [] = Unit {0}
+AreAt labels events cancelled_from [] (p ∷ ps) = ⊥
+AreAt labels events cancelled_from (l ∷ ls) [] = ⊥
+AreAt labels events cancelled_from (l ∷ ls) (p ∷ ps) =
+    (labels l.label ≡ Some p.label) × (l.shield ≡ p.shield) × IsLevelOf (events l.label) l cancelled_from p × AreAt labels events cancelled_from ls ps
 
 -- a scope is one of a stack
 abbrev pub IsKey : ℕ → scopes.Stack → Type 0
@@ -51,7 +51,8 @@ abbrev pub IsEventNamed : Labels → scopes.Stack → TaskState → List ℕ →
 IsEventNamed labels st (Waiting key since) name ps = IsKey key st × (labels key ≡ label_among true name ps)
 IsEventNamed labels st _ name ps = Unit {0}
 
--- the same for a task that stopped to wait for an event of a name
+-- the event for which a task stopped to wait, if it did, is one of the stack, and has the label that its name finds among the
+-- places
 abbrev pub AwaitsEvent : Labels → scopes.Stack → Option Stopped → TaskState → List Place → Type 0
 AwaitsEvent labels st None task_state ps = Unit {0}
 AwaitsEvent labels st (Some (waiting_for name u)) task_state ps = IsEventNamed labels st task_state name ps

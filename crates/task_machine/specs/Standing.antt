@@ -20,7 +20,7 @@ use Rattle.task_machine.specs.Noted.{AreNoted}
 use Rattle.turn_semantics.specs.Midway.{Place, Midway, Begun, Move}
 use Rattle.turn_semantics.specs.Placed.{PlacedAfter, outer_places}
 use Rattle.turn_semantics.specs.Names.{NewIn, OwnNames, names_at}
-use Rattle.turn_semantics.specs.Steps.{froms_after, step_of, turn_of}
+use Rattle.turn_semantics.specs.Steps.{cancelled_from_after, step_of, turn_of}
 use Rattle.turn_semantics.specs.Wakes as wakes
 use Rattle.turn_semantics.specs.Wakes.{wake_of, turn_from}
 use Rattle.task_machine.specs.declared.frame.Frame.{Frame}
@@ -78,18 +78,18 @@ abbrev pub AllNumbered : Numbers → NurseryBook → List Frame → Option ℕ �
 AllNumbered numbers book fs waits = (id : ℕ) → HasNurseryOf id (blocks_of fs) waits →
     HasNursery book id (λ n. length (numbers id) ≡ length n.children)
 
--- A task in the middle of a turn or where it stopped is in these places (the scopes, nurseries and events that enclose it) with the froms
--- of a table, and numbered its children so. Each scope, nursery and event has its place, and nested ones have different names. An event
--- for which it waits is one of them.
-pub record Stands (s : State) (froms : Table) (numbers : Numbers) (stopped : Option Stopped) (ps : List Place) : Type 0 where
-  pub places : AreAt s.labels s.events froms (stack_in s) ps
+-- A task in the middle of a turn or where it stopped is in these places (the scopes, nurseries and events that enclose it) with
+-- the moments of cancellation of a table, and numbered its children so. Each scope, nursery and event has its place, and nested
+-- ones have different names. An event for which it waits is one of them.
+pub record Stands (s : State) (cancelled_from : Table) (numbers : Numbers) (stopped : Option Stopped) (ps : List Place) : Type 0 where
+  pub places : AreAt s.labels s.events cancelled_from (stack_in s) ps
   pub numbered : AreNumbered numbers s.book s.frames
   pub placed : PlacedAfter stopped (frames_of numbers s.frames) ps
   pub new : NewIn (frames_of numbers s.frames) (outer_places stopped ps)
   pub own : OwnNames (names_at ps)
   pub event : AwaitsEvent s.labels (stack_in s) stopped s.task_state ps
 
--- A task that was started is this child: it has not begun its steps, and runs at its place of its nursery, which has its
+-- A task that was started is this child: it has not begun its steps, and runs at its index in its nursery, which has its
 -- number there.
 pub record IsBegun
     (clock : Clock) (at : ℕ) (numbers : Numbers) (book : NurseryBook) (bs : List Block) (waits : Option ℕ) (task : Task)
@@ -100,12 +100,12 @@ pub record IsBegun
     pub own : task.own.items ≡ []
     pub task_state : task.task_state ≡ ToBegin at
     pub entries : task.entries.items ≡ []
-    pub froms : task.froms.items ≡ []
+    pub cancelled_from : task.cancelled_from.items ≡ []
     pub cancelled : task.cancelled.items ≡ []
     pub home : Home
     pub at_home : task.home ≡ Some home
-    pub number : slice_get (numbers home.nursery) home.place ≡ Some b.number
-    pub nursery : HasNursery book home.nursery (λ n. (n.scope ≡ home.scope) × (slice_get n.children home.place ≡ Some None))
+    pub number : slice_get (numbers home.nursery) home.index ≡ Some b.number
+    pub nursery : HasNursery book home.nursery (λ n. (n.scope ≡ home.scope) × (slice_get n.children home.index ≡ Some None))
     pub owned : HasNurseryOf home.nursery bs waits
     pub in_range : AreInRange b.body
 
@@ -116,11 +116,11 @@ AreBegun clock at numbers book bs waits (t ∷ ts) [] = ⊥
 AreBegun clock at numbers book bs waits (t ∷ ts) (c ∷ cs) =
     IsBegun clock at numbers book bs waits t c × AreBegun clock at numbers book bs waits ts cs
 
--- a task that was started in this nursery has this place there, and began as the child with this number
+-- a task that was started in this nursery has this index there, and began as the child with this number
 abbrev pub BeginsAt : ℕ → ℕ → ℕ → List Task → List Begun → Type 0
-BeginsAt id place number [] bs = ⊥
-BeginsAt id place number (t ∷ ts) [] = ⊥
-BeginsAt id place number (t ∷ ts) (b ∷ bs) = ((home_of t ≡ Some (id, place)) × (b.number ≡ number)) ⊎ BeginsAt id place number ts bs
+BeginsAt id index number [] bs = ⊥
+BeginsAt id index number (t ∷ ts) [] = ⊥
+BeginsAt id index number (t ∷ ts) (b ∷ bs) = ((home_of t ≡ Some (id, index)) × (b.number ≡ number)) ⊎ BeginsAt id index number ts bs
 
 -- A nursery after a move in this moment: it has the same scope, waiter and label, and more children, which run and have numbers. No
 -- member of it ended, or its body did.
@@ -171,8 +171,8 @@ Owns bs own tree old cs waits =
 -- each child of a nursery of the task had its number before, in one of these blocks, or began in the move
 abbrev pub Covers : List Block → Numbers → Numbers → List Block → Option ℕ → List Task → List Begun → Type 0
 Covers bs numbers after cs waits tasks begun =
-    (id place number : ℕ) → HasNurseryOf id cs waits → slice_get (after id) place ≡ Some number →
-    (HasBlock id bs × (slice_get (numbers id) place ≡ Some number)) ⊎ BeginsAt id place number tasks begun
+    (id index number : ℕ) → HasNurseryOf id cs waits → slice_get (after id) index ≡ Some number →
+    (HasBlock id bs × (slice_get (numbers id) index ≡ Some number)) ⊎ BeginsAt id index number tasks begun
 
 -- the nurseries of other tasks, which are none of these blocks, stay as they are
 abbrev pub OthersStay : List Block → List Own → Tree → NurseryBook → NurseryBook → Type 0
@@ -195,10 +195,10 @@ pub record ChangesNurseries
     pub others : OthersStay (blocks_of before.frames) before.own before.tree before.book after.book
 
 -- A move of the code from one state to another is this move of the definitions.
-pub record Took (before after : State) (moved : Moved) (froms : Table) (numbers : Numbers) (o : Move) : Type 0 where
+pub record Took (before after : State) (moved : Moved) (cancelled_from : Table) (numbers : Numbers) (o : Move) : Type 0 where
   pub numbers_after : Numbers
   pub frames_after : frames_of numbers_after after.frames ≡ o.frames
-  pub places : AreAt after.labels after.events (froms_after froms o.made) (stack_in after) o.places
+  pub places : AreAt after.labels after.events (cancelled_from_after cancelled_from o.made) (stack_in after) o.places
   pub event : AwaitsEvent after.labels (stack_in after) o.stopped after.task_state o.places
   pub moves : MovesAs before.clock numbers_after after.book before.part moved after.task_state o
   pub entries : List Entry
@@ -213,11 +213,12 @@ pub record Took (before after : State) (moved : Moved) (froms : Table) (numbers 
   pub acts : Acts before.tick (scoping_in before) o.made (scoping_in after)
   pub own : OwnAfter before.clock before.cancelled after.cancelled o.made o.stopped
 
--- the same for each table of froms, each numbering, and any places and counts
+-- the move of the code is this move of the definitions for each table of moments of cancellation, each numbering, and any places
+-- and counts
 abbrev pub Takes : State → State → Moved → (Table → Numbers → List Place → ℕ → Move) → Type 0
 Takes before after moved move =
-    (froms : Table) (numbers : Numbers) (ps : List Place) (count : ℕ) → Stands before froms numbers None ps →
-    Took before after moved froms numbers (move froms numbers ps count)
+    (cancelled_from : Table) (numbers : Numbers) (ps : List Place) (count : ℕ) → Stands before cancelled_from numbers None ps →
+    Took before after moved cancelled_from numbers (move cancelled_from numbers ps count)
 
 -- a task of this state in the definitions, with this exception
 abbrev pub midway_at : State → Option Exc → Numbers → List Place → ℕ → Midway
@@ -225,7 +226,7 @@ midway_at s exc numbers ps count = record { frames = frames_of numbers s.frames;
 
 -- one step of the definitions from this state, with this exception
 abbrev pub step_at : State → Option Exc → Table → Numbers → List Place → ℕ → Move
-step_at s exc froms numbers ps count = step_of froms (now_at s) (here_at s) (midway_at s exc numbers ps count)
+step_at s exc cancelled_from numbers ps count = step_of cancelled_from (now_at s) (here_at s) (midway_at s exc numbers ps count)
 
 -- one step of the code corresponds to that of the definitions
 abbrev pub StepsAs : State → State → Option Exc → Moved → Type 0
@@ -235,7 +236,7 @@ StepsAs before after exc moved = Takes before after moved (step_at before exc)
 abbrev pub with_frames : State → List Frame → State
 with_frames s frames = record s { frames = frames }
 
--- the same for a task whose innermost frame, the steps of a block, was removed
+-- one step of a task whose innermost frame, the steps of a block, was removed, corresponds to that of the definitions
 abbrev pub BlockStepsAs : Bor (List held.Step) → State → State → Option Exc → Moved → Type 0
 BlockStepsAs steps before after exc moved = StepsAs (with_frames before (before.frames ++ code.Steps steps ∷ [])) after exc moved
 
@@ -256,28 +257,28 @@ RunsAs before after first moved = (a : AtStep before first) → StepsAs (before_
 
 -- steps of the code until it stops correspond to the given number of steps of the definitions
 pub record TookSteps
-    (before after : State) (exc : Option Exc) (stop : Stop) (froms : Table) (numbers : Numbers) (ps : List Place) (count : ℕ) : Type 0
+    (before after : State) (exc : Option Exc) (stop : Stop) (cancelled_from : Table) (numbers : Numbers) (ps : List Place) (count : ℕ) : Type 0
   where
     pub steps : ℕ
     pub took :
-        Took before after (Stops stop) froms numbers
-        (turn_of steps froms (now_at before) (here_at before) (midway_at before exc numbers ps count))
+        Took before after (Stops stop) cancelled_from numbers
+        (turn_of steps cancelled_from (now_at before) (here_at before) (midway_at before exc numbers ps count))
 
 abbrev pub StopsAfter : State → State → Option Exc → Stop → Type 0
 StopsAfter before after exc stop =
-    (froms : Table) (numbers : Numbers) (ps : List Place) (count : ℕ) → Stands before froms numbers None ps →
-    TookSteps before after exc stop froms numbers ps count
+    (cancelled_from : Table) (numbers : Numbers) (ps : List Place) (count : ℕ) → Stands before cancelled_from numbers None ps →
+    TookSteps before after exc stop cancelled_from numbers ps count
 
 -- the wake of the definitions in this state
 abbrev pub wake_at : State → wakes.Wake → Stopped → Table → Numbers → List Place → Move
-wake_at s w stopped froms numbers ps = wake_of froms (now_at s) (here_at s) w stopped (frames_of numbers s.frames) ps
+wake_at s w stopped cancelled_from numbers ps = wake_of cancelled_from (now_at s) (here_at s) w stopped (frames_of numbers s.frames) ps
 
 -- The code does what the wake of the definitions does, for each stop that the blocked state of the task corresponds to.
 abbrev pub Wakens : State → State → Moved → wakes.Wake → Type 0
 Wakens before after goes w =
-    (froms : Table) (numbers : Numbers) (stopped : Stopped) (ps : List Place) → Stands before froms numbers (Some stopped) ps →
+    (cancelled_from : Table) (numbers : Numbers) (stopped : Stopped) (ps : List Place) → Stands before cancelled_from numbers (Some stopped) ps →
     IsTaskState numbers before.book before.task_state stopped →
-    Took before after goes froms numbers (wake_at before w stopped froms numbers ps)
+    Took before after goes cancelled_from numbers (wake_at before w stopped cancelled_from numbers ps)
 
 -- a move that stops
 abbrev pub TookTo : State → State → Stop → Table → Numbers → Move → Type 0
@@ -297,17 +298,17 @@ woken_at wake s = record s { cancelled = (now_for wake s).own }
 
 -- A turn of the code corresponds to one of the definitions, with at most the given number of steps.
 pub record TookTurn
-    (before after : State) (wake : Wake) (stop : Stop) (froms : Table) (numbers : Numbers) (stopped : Stopped) (ps : List Place)
+    (before after : State) (wake : Wake) (stop : Stop) (cancelled_from : Table) (numbers : Numbers) (stopped : Stopped) (ps : List Place)
     (count : ℕ) : Type 0
   where
     pub steps : ℕ
     pub took :
-        TookTo (woken_at wake before) after stop froms numbers
-        (turn_from steps froms (now_for wake before) (here_at before) (wake_in before.book before.task_state wake) stopped
+        TookTo (woken_at wake before) after stop cancelled_from numbers
+        (turn_from steps cancelled_from (now_for wake before) (here_at before) (wake_in before.book before.task_state wake) stopped
         (frames_of numbers before.frames) ps count)
 
 abbrev pub TurnsAs : State → State → Wake → Stop → Type 0
 TurnsAs before after wake stop =
-    (froms : Table) (numbers : Numbers) (ps : List Place) (count : ℕ) (stopped : Stopped) →
-    IsTaskState numbers before.book before.task_state stopped → Stands before froms numbers (Some stopped) ps →
-    TookTurn before after wake stop froms numbers stopped ps count
+    (cancelled_from : Table) (numbers : Numbers) (ps : List Place) (count : ℕ) (stopped : Stopped) →
+    IsTaskState numbers before.book before.task_state stopped → Stands before cancelled_from numbers (Some stopped) ps →
+    TookTurn before after wake stop cancelled_from numbers stopped ps count

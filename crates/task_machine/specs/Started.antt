@@ -28,7 +28,7 @@ pub record IsChild (at : ℕ) (task : Task) (label : Label) (input : List ℕ) (
   pub own : task.own.items ≡ []
   pub task_state : task.task_state ≡ ToBegin at
   pub entries : task.entries.items ≡ []
-  pub froms : task.froms.items ≡ []
+  pub cancelled_from : task.cancelled_from.items ≡ []
   pub cancelled : task.cancelled.items ≡ []
 
 -- the given number of children that run
@@ -38,7 +38,7 @@ running_children (suc k) = running_children k ++ None ∷ []
 
 -- the home of a child that is started in a nursery after the given number of other new ones
 abbrev pub home_at : ℕ → Nursery → ℕ → Home
-home_at id n before = record { nursery = id; place = length n.children + before; scope = n.scope }
+home_at id n before = record { nursery = id; index = length n.children + before; scope = n.scope }
 
 -- the moment in which a child begins that is started now
 abbrev pub begins_in : State → ℕ

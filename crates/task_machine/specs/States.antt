@@ -34,7 +34,7 @@ pub record State : Type 0 where
   pub own : List Own
   pub task_state : TaskState
   pub entries : List Entry
-  pub froms : List ScopeFrom
+  pub cancelled_from : List ScopeFrom
   pub cancelled : List Label
   pub clock : Clock
   pub tick : ℕ
@@ -55,7 +55,7 @@ state_of task world =
       own = task.own.items;
       task_state = task.task_state;
       entries = task.entries.items;
-      froms = task.froms.items;
+      cancelled_from = task.cancelled_from.items;
       cancelled = task.cancelled.items;
       clock = world.clock;
       tick = world.tick;

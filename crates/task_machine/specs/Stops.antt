@@ -53,19 +53,19 @@ IsTaskState numbers book Over (at_end u e) = Unit {0}
 IsTaskState numbers book _ _ = ⊥
 
 -- the stop that is returned to the caller, for a task on this part
-abbrev pub IsTold : Clock → Part → Stop → TaskState → Stopped → Type 0
-IsTold clock part (Ask request) (Asked kernel purpose) stopped = (request.kernel ≡ kernel) × (request.part ≡ part)
-IsTold clock part (Sleep due) (Asleep paced ticks since) stopped = due ≡ wakes_at clock ticks since
-IsTold clock part (WaitFor event) (Waiting key since) stopped = event ≡ key
-IsTold clock part (GiveUp due) (GivingUp since) stopped = due ≡ suc since
-IsTold clock part (Wait id) (Awaits nursery since) stopped = id ≡ nursery
-IsTold clock part (Ended exc) Over (at_end u e) = option_map exc_of exc ≡ e
-IsTold clock part _ _ _ = ⊥
+abbrev pub IsReturned : Clock → Part → Stop → TaskState → Stopped → Type 0
+IsReturned clock part (Ask request) (Asked kernel purpose) stopped = (request.kernel ≡ kernel) × (request.part ≡ part)
+IsReturned clock part (Sleep due) (Asleep paced ticks since) stopped = due ≡ wakes_at clock ticks since
+IsReturned clock part (WaitFor event) (Waiting key since) stopped = event ≡ key
+IsReturned clock part (GiveUp due) (GivingUp since) stopped = due ≡ suc since
+IsReturned clock part (Wait id) (Awaits nursery since) stopped = id ≡ nursery
+IsReturned clock part (Ended exc) Over (at_end u e) = option_map exc_of exc ≡ e
+IsReturned clock part _ _ _ = ⊥
 
 abbrev pub StopsAs : Clock → Numbers → NurseryBook → Part → Stop → TaskState → Option Stopped → Type 0
 StopsAs clock numbers book part stop task_state None = ⊥
 StopsAs clock numbers book part stop task_state (Some stopped) =
-    IsTaskState numbers book task_state stopped × IsTold clock part stop task_state stopped
+    IsTaskState numbers book task_state stopped × IsReturned clock part stop task_state stopped
 
 -- the code continues as a move does, with the same exception, or stops where it stops
 abbrev pub MovesAs : Clock → Numbers → NurseryBook → Part → Moved → TaskState → Move → Type 0

@@ -15,9 +15,9 @@ home_scope task = option_map (λ (h : Home). h.scope) task.home
 abbrev pub scope_of : Task → Option ℕ
 scope_of task = last_or (home_scope task) (map (λ (o : Own). o.id) task.own.items)
 
--- the nursery in which it was started, and its place there
+-- the nursery in which it was started, and its index among the children there
 abbrev pub home_of : Task → Option (ℕ × ℕ)
-home_of task = option_map (λ (h : Home). (h.nursery, h.place)) task.home
+home_of task = option_map (λ (h : Home). (h.nursery, h.index)) task.home
 
 -- the path of indices of what it enters or starts: its own, followed by the numbers of the passes that it is in
 abbrev pub path_of : Task → List ℕ

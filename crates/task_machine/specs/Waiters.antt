@@ -32,7 +32,7 @@ pub record KeepsRest (me : ℕ) (before after : Task) (old new : World) : Type 0
         own = after.own;
         task_state = after.task_state;
         entries = after.entries;
-        froms = after.froms;
+        cancelled_from = after.cancelled_from;
         cancelled = after.cancelled;
       }
   pub world :

@@ -16,8 +16,8 @@ use job_tree::Name;
 use std::alloc::AllocError;
 
 impl<'a> Task<'a> {
-    // Cancels the innermost scope or nursery of that name that encloses the task, from the next moment on. Where there are rounds,
-    // the task itself sees that at once. After an error the task and the world can only be dropped.
+    // Cancels the innermost scope or nursery of that name that encloses the task, from the next moment on. Where there are
+    // rounds, the task itself sees that at once. After an error the task and the world can only be dropped.
     pub(crate) fn cancel(&mut self, name: Name, world: &mut World<'a>) -> Result<(), AllocError>
         requires scope { ForSome (scope_of self.old) (IsOpen world.old.scopes) }
         requires tick { world.old.tick + 1 < 2 ^ 63 }
@@ -34,8 +34,8 @@ impl<'a> Task<'a> {
         Ok(())
     }
 
-    // Sets the innermost event of that name that encloses the task, from the next moment on. Its label is kept with those of what the
-    // task has cancelled, among which it matters to nothing. After an error the task and the world can only be dropped.
+    // Sets the innermost event of that name that encloses the task, from the next moment on. Its label is kept with those of what
+    // the task has cancelled, among which it matters to nothing. After an error the task and the world can only be dropped.
     pub(crate) fn set(&mut self, name: Name, world: &mut World<'a>) -> Result<(), AllocError>
         requires scope { ForSome (scope_of self.old) (IsOpen world.old.scopes) }
         requires tick { world.old.tick + 1 < 2 ^ 63 }

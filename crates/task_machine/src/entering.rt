@@ -31,7 +31,7 @@ impl<'a> Task<'a> {
     ) -> Result<ScopeId, AllocError>
         requires scope { ForSome (scope_of self.old) (IsOpen world.old.scopes) }
         requires deadline { ForSome deadline (λ tick. tick < 2 ^ 63) }
-        ensures stays { OnOk result (self.new ≡ record self.old { own = self.new.own; froms = self.new.froms }) }
+        ensures stays { OnOk result (self.new ≡ record self.old { own = self.new.own; cancelled_from = self.new.cancelled_from }) }
         ensures inner { IfOk result (λ id. scope_of self.new ≡ Some id) }
         ensures own { OnOk result (Enters (scope_of self.old) label false deadline (scoping_of self.old world.old) (scoping_of self.new world.new)) }
         ensures world { OnOk result (world.new
@@ -41,8 +41,8 @@ impl<'a> Task<'a> {
         stacks_are_chains(&world.scopes);
         let kept = label.copy(self.alloc)?;
         let id = world.enter(self.scope(), label, shield, deadline)?;
-        let at = self.froms.len();
-        self.froms.push(ScopeFrom {
+        let at = self.cancelled_from.len();
+        self.cancelled_from.push(ScopeFrom {
             label: kept,
             seen: None,
         })?;
@@ -64,7 +64,7 @@ impl<'a> Task<'a> {
         requires in_range { IsInRangeDeadline deadline }
         requires tick { world.old.tick ≤ 2 ^ 62 }
         ensures stays { OnOk result (self.new
-            ≡ record self.old { frames = self.new.frames; own = self.new.own; froms = self.new.froms }) }
+            ≡ record self.old { frames = self.new.frames; own = self.new.own; cancelled_from = self.new.cancelled_from }) }
         ensures frames { OnOk result (EntersBlock self.old.frames.items self.new.frames.items (Scope fail) body.now) }
         ensures own { OnOk result (Enters (scope_of self.old) (label_in self.old name) false
             (due world.old.clock deadline world.old.tick) (scoping_of self.old world.old) (scoping_of self.new world.new)) }
@@ -89,7 +89,7 @@ impl<'a> Task<'a> {
     ) -> Result<(), AllocError>
         requires scope { ForSome (scope_of self.old) (IsOpen world.old.scopes) }
         ensures stays { OnOk result (self.new
-            ≡ record self.old { frames = self.new.frames; own = self.new.own; froms = self.new.froms }) }
+            ≡ record self.old { frames = self.new.frames; own = self.new.own; cancelled_from = self.new.cancelled_from }) }
         ensures frames { OnOk result (EntersBlock self.old.frames.items self.new.frames.items Event body.now) }
         ensures own { OnOk result (Enters (scope_of self.old) (label_in self.old name) true None
             (scoping_of self.old world.old) (scoping_of self.new world.new)) }
@@ -102,8 +102,8 @@ impl<'a> Task<'a> {
         let label = self.label_here(name)?;
         let kept = label.copy(self.alloc)?;
         let id = world.enter_event(self.scope(), label)?;
-        let at = self.froms.len();
-        self.froms.push(ScopeFrom {
+        let at = self.cancelled_from.len();
+        self.cancelled_from.push(ScopeFrom {
             label: kept,
             seen: None,
         })?;
@@ -128,7 +128,7 @@ impl<'a> Task<'a> {
         requires in_range { IsInRangeDeadline deadline }
         requires tick { world.old.tick ≤ 2 ^ 62 }
         ensures stays { OnOk result (self.new
-            ≡ record self.old { frames = self.new.frames; own = self.new.own; froms = self.new.froms }) }
+            ≡ record self.old { frames = self.new.frames; own = self.new.own; cancelled_from = self.new.cancelled_from }) }
         ensures nursery { OnOk result (EntersNursery me (state_of self.old world.old) (state_of self.new world.new)
             (label_in self.old name) body.now) }
         ensures own { OnOk result (Enters (scope_of self.old) (label_in self.old name) false

@@ -39,9 +39,8 @@ pub enum Entry<'a> {
 pub struct ScopeFrom {
     /// The label of the scope, nursery or event.
     pub label: Label,
-    /// The moment from which the scope or nursery itself was cancelled, by its deadline or by a
-    /// `cancel` or a failed member. It is not an effective deadline: cancellations of enclosing
-    /// scopes do not count. Of an event, the moment from which it was set. `None` if it never was cancelled, or set, and until it
-    /// is left.
+    /// The moment from which the scope or nursery itself was cancelled, by its deadline or by a `cancel` or a failed member. It
+    /// is not an effective deadline: cancellations of enclosing scopes do not count. Of an event, the moment from which it was
+    /// set. `None` if it never was cancelled, or set, and until it is left.
     pub seen: Option<u64>,
 }

@@ -40,10 +40,10 @@ impl<'a> Task<'a> {
         requires open { ForSome (scope_of self.old) (IsOpen world.old.scopes) }
         requires innermost { ForSome (scope_of self.old) (IsInnermost world.old.scopes) }
         requires labelled { ForSome (scope_of self.old) (λ id. IsSome (label_at world.old id)) }
-        requires froms { All (λ own. own.at < length self.old.froms.items) self.old.own.items }
+        requires cancelled_from { All (λ own. own.at < length self.old.cancelled_from.items) self.old.own.items }
         requires own { OwnFirst world.old.scopes (home_scope self.old) self.old.own.items }
         ensures stays { OnOk result (self.new
-            ≡ record self.old { own = self.new.own; froms = self.new.froms; entries = self.new.entries }) }
+            ≡ record self.old { own = self.new.own; cancelled_from = self.new.cancelled_from; entries = self.new.entries }) }
         ensures world { OnOk result (world.new
             ≡ record world.old { scopes = world.new.scopes; labels = world.new.labels; events = world.new.events }) }
         ensures left { OnOk result (Leaves (scoping_of self.old world.old) (scoping_of self.new world.new)) }
@@ -60,8 +60,8 @@ impl<'a> Task<'a> {
         Ok(exc)
     }
 
-    // A task or body that ends with an exception cancels the innermost enclosing scope that is no event, if there is one, from the
-    // next moment on.
+    // A task or body that ends with an exception cancels the innermost enclosing scope that is no event, if there is one, from
+    // the next moment on.
     fn fail(&self, exc: &Option<Exc>, world: &mut World<'a>)
         requires scope { ForSome (scope_of self.now) (IsOpen world.old.scopes) }
         requires tick { world.old.tick + 1 < 2 ^ 63 }

@@ -27,9 +27,9 @@ impl<'a> Task<'a> {
         requires open { ForSome (scope_of self.old) (IsOpen world.old.scopes) }
         requires innermost { ForSome (scope_of self.old) (IsInnermost world.old.scopes) }
         requires labelled { ForSome (scope_of self.old) (λ id. IsSome (label_at world.old id)) }
-        requires froms { All (λ own. own.at < length self.old.froms.items) self.old.own.items }
+        requires cancelled_from { All (λ own. own.at < length self.old.cancelled_from.items) self.old.own.items }
         requires own { OwnFirst world.old.scopes (home_scope self.old) self.old.own.items }
-        ensures stays { self.new ≡ record self.old { own = self.new.own; froms = self.new.froms } }
+        ensures stays { self.new ≡ record self.old { own = self.new.own; cancelled_from = self.new.cancelled_from } }
         ensures world { world.new ≡ record world.old { scopes = world.new.scopes; labels = world.new.labels; events = world.new.events } }
         ensures left { Leaves (scoping_of self.old world.old) (scoping_of self.new world.new) }
         ensures own { OwnFirst world.new.scopes (home_scope self.old) self.new.own.items }
@@ -41,7 +41,7 @@ impl<'a> Task<'a> {
         };
         let catches = world.catches(own.id, &self.cancelled);
         let (label, from) = world.leave(own.id);
-        self.froms[own.at].seen = from;
+        self.cancelled_from[own.at].seen = from;
         Closed { label, catches }
     }
 }

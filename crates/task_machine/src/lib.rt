@@ -5,9 +5,9 @@
 //! that were not taken yet. A task that is woken (`Wake`) has a turn: it runs until it blocks or ends (`Stop`).
 //!
 //! The layer promises that a label belongs to the scope or event that was entered with it until that is left, that a name finds
-//! the innermost scope, or event, of that name, that a call of the world changes only the parts that it names, and that a turn does to
-//! the task and the world what a turn of the definitions does (`turn_semantics`). It uses the scope tree, the book of nurseries,
-//! and the jobs whose steps it borrows.
+//! the innermost scope, or event, of that name, that a call of the world changes only the parts that it names, and that a turn
+//! does to the task and the world what a turn of the definitions does (`turn_semantics`). It uses the scope tree, the book of
+//! nurseries, and the jobs whose steps it borrows.
 #![tactic(auto)]
 
 mod block_entries;

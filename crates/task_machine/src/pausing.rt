@@ -29,8 +29,8 @@ use job_tree::Name;
 use std::alloc::AllocError;
 
 impl<'a> Task<'a> {
-    // A sleep of `ticks` ticks, for a `pace` or not. Where a moment is a tick, it is a checkpoint, which raises if a cancellation is
-    // seen; where there are rounds, each sleep takes a round.
+    // A sleep of `ticks` ticks, for a `pace` or not. Where a moment is a tick, it is a checkpoint, which raises if a cancellation
+    // is seen; where there are rounds, each sleep takes a round.
     pub(crate) fn sleep(&mut self, paced: bool, ticks: u64, world: &World<'a>) -> Moved<'a>
         requires scope { ForSome (scope_of self.old) (IsOpen world.now.scopes) }
         requires ticks { ticks ≤ 2 ^ 40 }
@@ -38,10 +38,10 @@ impl<'a> Task<'a> {
         ensures stays { self.new ≡ record self.old { task_state = self.new.task_state } }
         ensures task_state { IsInRangeTaskState self.old.task_state → IsInRangeTaskState self.new.task_state }
         ensures waits { waits_by result self.new.task_state ≡ None }
-        ensures sleeps { (froms : Table) (numbers : Numbers) (book : Book) (fs : List Left) (ps : List Place) →
-            AreAt (label_at world.now) (event_at world.now) froms (outer_of world.now.scopes (scope_of self.old)) ps →
+        ensures sleeps { (cancelled_from : Table) (numbers : Numbers) (book : Book) (fs : List Left) (ps : List Place) →
+            AreAt (label_at world.now) (event_at world.now) cancelled_from (outer_of world.now.scopes (scope_of self.old)) ps →
             MovesAs world.now.clock numbers book self.old.part result self.new.task_state
-            (sleeps world.now.clock froms paced ticks world.now.tick fs ps) }
+            (sleeps world.now.clock cancelled_from paced ticks world.now.tick fs ps) }
     {
         match world.clock() {
             Clock::ByTicks => {

@@ -73,7 +73,7 @@ impl<'a> Task<'a> {
         }
     }
 
-    // The same for a step that begins a block or starts children.
+    // Runs a step that begins a block or starts children.
     fn run_block(
         &mut self,
         me: TaskId,

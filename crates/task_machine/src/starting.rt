@@ -42,7 +42,7 @@ impl<'a> Task<'a> {
         ensures own { IfOk result (λ task. task.own.items ≡ []) }
         ensures task_state { IfOk result (λ task. task.task_state ≡ ToBegin at) }
         ensures entries { IfOk result (λ task. task.entries.items ≡ []) }
-        ensures froms { IfOk result (λ task. task.froms.items ≡ []) }
+        ensures cancelled_from { IfOk result (λ task. task.cancelled_from.items ≡ []) }
         ensures cancelled { IfOk result (λ task. task.cancelled.items ≡ []) }
     {
         let mut frames = SmallVec::new(alloc);
@@ -56,7 +56,7 @@ impl<'a> Task<'a> {
             own: Vec::new(alloc),
             task_state: TaskState::ToBegin { at },
             entries: Vec::new(alloc),
-            froms: Vec::new(alloc),
+            cancelled_from: Vec::new(alloc),
             cancelled: VecDeque::new(alloc),
         })
     }
@@ -76,10 +76,10 @@ impl<'a> Task<'a> {
         ensures started { OnOk result (StartsOne (state_of self.now world.old) (state_of self.now world.new) nursery label part.entry body.now) }
     {
         let scope = world.book.scope(nursery);
-        let place = world.book.start(nursery)?;
+        let index = world.book.start(nursery)?;
         let home = Home {
             nursery,
-            place,
+            index,
             scope,
         };
         let at = world.clock().a_round_after(world.now());

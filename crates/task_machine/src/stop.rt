@@ -9,8 +9,8 @@ use nursery_book::NurseryId;
 pub enum Wake<'a> {
     /// It was started, and has its first turn.
     Begin,
-    /// Its moment has come: its sleep is due, and it sees no cancellation; the event that it waits for is set; or, a round later than
-    /// something else, it begins, it raises `Cancelled` after a checkpoint, or the nursery that it waits for is left.
+    /// Its moment has come: its sleep is due, and it sees no cancellation; the event that it waits for is set; or, a round later
+    /// than something else, it begins, it raises `Cancelled` after a checkpoint, or the nursery that it waits for is left.
     Due,
     /// It sees a cancellation while it sleeps, or while it waits for an event.
     Seen,

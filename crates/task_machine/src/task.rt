@@ -15,7 +15,7 @@ use cancel_scopes::ScopeId;
 use exceptions::Label;
 use input_lines::Part;
 use job_reader::Job;
-use nursery_book::{NurseryId, Place};
+use nursery_book::{ChildIndex, NurseryId};
 use smallvec::SmallVec;
 use std::alloc::{AllocError, Global};
 use std::collections::VecDeque;
@@ -25,7 +25,7 @@ use std::collections::VecDeque;
 pub(crate) struct Own {
     /// The scope.
     pub(crate) id: ScopeId,
-    /// Its index among the task's froms.
+    /// Its index among the task's moments of cancellation.
     pub(crate) at: usize,
 }
 
@@ -34,8 +34,8 @@ pub(crate) struct Own {
 pub(crate) struct Home {
     /// Its nursery.
     pub(crate) nursery: NurseryId,
-    /// Its place among the nursery's children.
-    pub(crate) place: Place,
+    /// Its index among the nursery's children.
+    pub(crate) index: ChildIndex,
     /// The nursery's cancel scope.
     pub(crate) scope: ScopeId,
 }
@@ -54,9 +54,9 @@ pub struct Task<'a> {
     pub(crate) own: Vec<Own>,
     pub(crate) task_state: TaskState<'a>,
     pub(crate) entries: Vec<Entry<'a>>,
-    pub(crate) froms: Vec<ScopeFrom>,
-    // What it has cancelled itself in this moment, where there are rounds, the latest first. A request takes no round, so it stays
-    // while a kernel is asked.
+    pub(crate) cancelled_from: Vec<ScopeFrom>,
+    // What it has cancelled itself in this moment, where there are rounds, the latest first. A request takes no round, so it
+    // stays while a kernel is asked.
     pub(crate) cancelled: VecDeque<Label>,
 }
 
@@ -74,7 +74,7 @@ impl<'a> Task<'a> {
         ensures own { IfOk result (λ task. task.own.items ≡ []) }
         ensures task_state { IfOk result (λ task. task.task_state ≡ ToBegin 0) }
         ensures entries { IfOk result (λ task. task.entries.items ≡ []) }
-        ensures froms { IfOk result (λ task. task.froms.items ≡ []) }
+        ensures cancelled_from { IfOk result (λ task. task.cancelled_from.items ≡ []) }
         ensures cancelled { IfOk result (λ task. task.cancelled.items ≡ []) }
     {
         let mut frames = SmallVec::new(alloc);
@@ -88,7 +88,7 @@ impl<'a> Task<'a> {
             own: Vec::new(alloc),
             task_state: TaskState::ToBegin { at: 0 },
             entries: Vec::new(alloc),
-            froms: Vec::new(alloc),
+            cancelled_from: Vec::new(alloc),
             cancelled: VecDeque::new(alloc),
         })
     }
@@ -121,13 +121,13 @@ impl<'a> Task<'a> {
         }
     }
 
-    /// Returns the nursery in which the task was started, and its place among that nursery's children; `None` for the
+    /// Returns the nursery in which the task was started, and its index among that nursery's children; `None` for the
     /// root.
-    pub fn home(&self) -> Option<(NurseryId, Place)>
+    pub fn home(&self) -> Option<(NurseryId, ChildIndex)>
         ensures { result ≡ home_of self.now }
     {
         match &self.home {
-            Some(home) => Some((home.nursery, home.place)),
+            Some(home) => Some((home.nursery, home.index)),
             None => None,
         }
     }
@@ -141,26 +141,26 @@ impl<'a> Task<'a> {
 
     /// Returns the scopes, nurseries and events that the task opened, in that order, each with the moment from which it was
     /// cancelled, or set. It is `None` until it is left.
-    pub fn froms(&self) -> &[ScopeFrom]
-        ensures { result.now ≡ self.now.froms.items }
+    pub fn cancelled_from(&self) -> &[ScopeFrom]
+        ensures { result.now ≡ self.now.cancelled_from.items }
     {
-        self.froms.as_slice()
+        self.cancelled_from.as_slice()
     }
 
     /// Returns the label of a task that has ended, what it noted, and the scopes, nurseries and events that it opened, as
-    /// `label`, `entries` and `froms` do. Takes no memory.
+    /// `label`, `entries` and `cancelled_from` do. Takes no memory.
     pub fn into_parts(self) -> (Label, Vec<Entry<'a>>, Vec<ScopeFrom>)
         ensures label { result.0 ≡ self.entry.label }
         ensures entries { result.1.items ≡ self.entry.entries.items }
-        ensures froms { result.2.items ≡ self.entry.froms.items }
+        ensures cancelled_from { result.2.items ≡ self.entry.cancelled_from.items }
     {
         let Task {
             label,
             entries,
-            froms,
+            cancelled_from,
             ..
         } = self;
-        (label, entries, froms)
+        (label, entries, cancelled_from)
     }
 
     // Adds a frame inside the others.

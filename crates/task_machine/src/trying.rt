@@ -125,7 +125,8 @@ impl<'a> Task<'a> {
     }
 }
 
-// Returns the part of an exception that a handler with this name does not handle, in a box, or `None` if it handles nothing of it.
+// Returns the part of an exception that a handler with this name does not handle, in a box, or `None` if it handles nothing of
+// it.
 fn rest_at(alloc: Global, name: Name, exc: &Exc) -> Result<Option<Option<Box<Exc>>>, AllocError>
     ensures { IfOk result (λ rest. option_map rest_of rest ≡ rest_if (keep (named name) (exc_of exc.now)) (drop (named name) (exc_of exc.now))) }
 {

@@ -29,10 +29,10 @@ impl<'a> Task<'a> {
     /// (`take_started`).
     ///
     /// The caller must ensure that the wake fits the last stop: `Begin` for the first turn, `Due` or `Seen` after `Sleep` and
-    /// `WaitFor`, `Due` after `GiveUp`, the answer to the request after `Ask`, and `Settled` after `Wait` once that nursery is settled (`Due` may
-    /// stand for `Begin` and `Settled`); that there is no turn after `Ended`; that the scopes and nurseries of the task are open in
-    /// the world; and that the moment is at most 2 to the 62. The only error is that memory runs out, after which the task and
-    /// the world can only be dropped.
+    /// `WaitFor`, `Due` after `GiveUp`, the answer to the request after `Ask`, and `Settled` after `Wait` once that nursery is
+    /// settled (`Due` may stand for `Begin` and `Settled`); that there is no turn after `Ended`; that the scopes and nurseries of
+    /// the task are open in the world; and that the moment is at most 2 to the 62. The only error is that memory runs out, after
+    /// which the task and the world can only be dropped.
     pub fn turn(
         &mut self,
         me: TaskId,

@@ -27,8 +27,8 @@ use job_tree::Name;
 use std::alloc::AllocError;
 
 impl<'a> Task<'a> {
-    /// Returns whether the task waits for an event, not at a checkpoint, that is set by the present moment. It then goes on, also if it
-    /// sees a cancellation. The moment in which it began to wait is at most 2 to the 62.
+    /// Returns whether the task waits for an event, not at a checkpoint, that is set by the present moment. It then goes on, also
+    /// if it sees a cancellation. The moment in which it began to wait is at most 2 to the 62.
     pub fn is_wait_over(&self, world: &World<'a>) -> bool
         requires { WaitsWithin self.now.task_state }
         ensures { result ≡ is_wait_over world.now.clock (event_at world.now) self.now.task_state world.now.tick }
@@ -47,8 +47,8 @@ impl<'a> Task<'a> {
         ensures stays { self.new ≡ record self.old { task_state = self.new.task_state } }
         ensures task_state { IsInRangeTaskState self.old.task_state → IsInRangeTaskState self.new.task_state }
         ensures waits { waits_by result self.new.task_state ≡ None }
-        ensures moves { (froms : Table) (numbers : Numbers) (book : Book) (fs : List Left) (ps : List Place) →
-            AreAt (label_at world.now) (event_at world.now) froms (outer_of world.now.scopes (scope_of self.old)) ps →
+        ensures moves { (cancelled_from : Table) (numbers : Numbers) (book : Book) (fs : List Left) (ps : List Place) →
+            AreAt (label_at world.now) (event_at world.now) cancelled_from (outer_of world.now.scopes (scope_of self.old)) ps →
             MovesAs world.now.clock numbers book self.old.part result self.new.task_state
             (waits_on (label_among true name ps) name world.now.tick fs ps)
             × AwaitsEvent (label_at world.now) (outer_of world.now.scopes (scope_of self.old))

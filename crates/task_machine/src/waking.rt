@@ -38,7 +38,7 @@ impl<'a> Task<'a> {
         requires task_state { IsInRangeTaskState self.old.task_state }
         requires wake { WakesFrom self.old.task_state self.old.part world.old.book wake }
         ensures stays { OnOk result (self.new
-            ≡ record self.old { own = self.new.own; task_state = self.new.task_state; entries = self.new.entries; froms = self.new.froms }) }
+            ≡ record self.old { own = self.new.own; task_state = self.new.task_state; entries = self.new.entries; cancelled_from = self.new.cancelled_from }) }
         ensures world { OnOk result (world.new
             ≡ record world.old { scopes = world.new.scopes; labels = world.new.labels; events = world.new.events; book = world.new.book }) }
         ensures task_state { OnOk result (IsInRangeTaskState self.new.task_state) }
@@ -70,7 +70,7 @@ impl<'a> Task<'a> {
         requires fits { Fits (state_of self.old world.old) (waits_of self.old.task_state) }
         requires wake { WakesFrom self.old.task_state self.old.part world.old.book wakes.Due }
         ensures stays { OnOk result (self.new
-            ≡ record self.old { own = self.new.own; entries = self.new.entries; froms = self.new.froms }) }
+            ≡ record self.old { own = self.new.own; entries = self.new.entries; cancelled_from = self.new.cancelled_from }) }
         ensures world { OnOk result (world.new
             ≡ record world.old { scopes = world.new.scopes; labels = world.new.labels; events = world.new.events; book = world.new.book }) }
         ensures fits { IfOk result (λ moved. Fits (state_of self.new world.new) (waits_by moved self.new.task_state)) }
@@ -191,7 +191,7 @@ impl<'a> Task<'a> {
         requires fits { Fits (state_of self.old world.old) (waits_of self.old.task_state) }
         requires wake { WakesFrom self.old.task_state self.old.part world.old.book wakes.Settled }
         ensures stays { OnOk result (self.new
-            ≡ record self.old { own = self.new.own; entries = self.new.entries; froms = self.new.froms }) }
+            ≡ record self.old { own = self.new.own; entries = self.new.entries; cancelled_from = self.new.cancelled_from }) }
         ensures world { OnOk result (world.new
             ≡ record world.old { scopes = world.new.scopes; labels = world.new.labels; events = world.new.events; book = world.new.book }) }
         ensures fits { IfOk result (λ moved. Fits (state_of self.new world.new) (waits_by moved self.new.task_state)) }

@@ -22,8 +22,8 @@ use std::collections::VecDeque;
 /// What all tasks of a run share: the clock, the moment, the cancel scopes, each with its label, the events, the nurseries, and
 /// the started tasks that were not taken yet.
 ///
-/// An event is an open scope of the tree too, which is never cancelled and is no shield: so names are found, and blocks are left, as
-/// those of scopes are.
+/// An event is an open scope of the tree too, which is never cancelled and is no shield: so names are found, and blocks are left,
+/// as those of scopes are.
 ///
 /// Moments are at most 4,611,686,018,427,387,904 (2 to the 62).
 #[derive(Drop)]
@@ -195,8 +195,8 @@ impl<'a> World<'a> {
         Ok(id)
     }
 
-    // Opens an event with that label inside a scope, or as an outermost one. Nothing has set it. After an error the world can only be
-    // dropped.
+    // Opens an event with that label inside a scope, or as an outermost one. Nothing has set it. After an error the world can
+    // only be dropped.
     pub(crate) fn enter_event(
         &mut self,
         outer: Option<ScopeId>,
@@ -217,8 +217,8 @@ impl<'a> World<'a> {
         Ok(id)
     }
 
-    // Closes a cancel scope or event that has no open children. Returns its label and the moment from which it was cancelled, or an
-    // event set, or `None` if it never was.
+    // Closes a cancel scope or event that has no open children. Returns its label and the moment from which it was cancelled, or
+    // an event set, or `None` if it never was.
     pub(crate) fn leave(&mut self, id: ScopeId) -> (Label, Option<u64>)
         requires id { IsOpen self.old.scopes id }
         requires innermost { IsInnermost self.old.scopes id }
@@ -369,7 +369,8 @@ impl<'a> World<'a> {
         self.labels.get(id.key())?.as_ref()
     }
 
-    // Whether the scope catches a cancellation that leaves it now, for a task that has itself cancelled some labels in this moment.
+    // Whether the scope catches a cancellation that leaves it now, for a task that has itself cancelled some labels in this
+    // moment.
     pub(crate) fn catches(&self, id: ScopeId, cancelled: &VecDeque<Label>) -> bool
         requires { IsOpen self.now.scopes id }
         ensures { ForSome (stack_of self.now.scopes id) (λ stack.
@@ -411,8 +412,8 @@ impl<'a> World<'a> {
         }
     }
 
-    // Whether such a task, in a scope or in none, sees a cancellation: from the scope outwards, up to and including the first shielded
-    // one.
+    // Whether such a task, in a scope or in none, sees a cancellation: from the scope outwards, up to and including the first
+    // shielded one.
     fn sees_with(&self, scope: Option<ScopeId>, cancelled: &VecDeque<Label>) -> bool
         requires { ForSome scope (IsOpen self.now.scopes) }
         ensures { result

@@ -97,12 +97,12 @@ pub record Apart (n : ℕ) (rows : List TaskRow) (stack : List ℕ) : Type 0 whe
 -- one step of the loop: the place on top of the stack is taken off, its row is taken out, and the row's children are
 -- put on the stack
 pub record TakesTop (rows after : List TaskRow) (stack grown : List ℕ) : Type 0 where
-  pub place : ℕ
+  pub row_number : ℕ
   pub popped : List ℕ
   pub row : TaskRow
-  pub top : stack ≡ popped ++ place ∷ []
-  pub was : slice_get rows place ≡ Some row
-  pub out : IsTakenOut rows place after
+  pub top : stack ≡ popped ++ row_number ∷ []
+  pub was : slice_get rows row_number ≡ Some row
+  pub out : IsTakenOut rows row_number after
   pub grows : grown ≡ popped ++ reverse row.children.items
 
 -- at first the root alone is on the stack
@@ -123,11 +123,11 @@ apart_first rows stack is all tree =
 
     once : (c : ℕ) → times_all c rows (0 ∷ []) ≤ 1
     once zero =
-        let gone = none_taken rows 0 all in
+        let absent = none_taken rows 0 all in
         let one : times 0 (0 ∷ []) ≡ 1 = refl in
         omega (arith, root_none)
     once (suc c) =
-        let gone = none_taken rows (suc c) all in
+        let absent = none_taken rows (suc c) all in
         let root : times (suc c) (0 ∷ []) ≡ 0 + one_if (0 == suc c) = refl in
         let none : one_if (0 == suc c) ≡ 0 = ap one_if (eqb-zero-suc c) in
         let child : times_child (suc c) rows ≤ 1 = tree.once (suc c) in
@@ -156,12 +156,12 @@ times_step : (c s : ℕ) (rows : List TaskRow) (stack : List ℕ) (row hollow : 
     times_all c (slice_set rows s hollow) (stack ++ reverse row.children.items) ≤ times_all c rows (stack ++ s ∷ [])
 times_step c s rows stack row hollow is none =
     let moved = times_child-set c rows s row hollow is in
-    let gone : times c hollow.children.items ≡ 0 = ap (times c) none in
+    let absent : times c hollow.children.items ≡ 0 = ap (times c) none in
     let before = times_push c stack s in
     let after = times_append c stack (reverse row.children.items) in
     let turned = times_reverse c row.children.items in
     let taken = taken_after rows s c hollow in
-    omega (arith, moved, gone, before, after, turned, taken)
+    omega (arith, moved, absent, before, after, turned, taken)
 
 apart_next : (n s : ℕ) (rows : List TaskRow) (stack : List ℕ) (row hollow : TaskRow) → Apart n rows (stack ++ s ∷ []) →
     slice_get rows s ≡ Some row → hollow.children.items ≡ [] → Apart n (slice_set rows s hollow) (stack ++ reverse row.children.items)
@@ -185,7 +185,7 @@ apart_next n s rows stack row hollow a is none =
 pub apart_step : {n : ℕ} {rows after : List TaskRow} {stack grown : List ℕ} → Apart n rows stack → TakesTop rows after stack grown →
     Apart n after grown
 apart_step {n} {rows} a t =
-    rw (t.out.set, t.grows) (apart_next n t.place rows t.popped t.row t.out.hollow (rw t.top at a) t.was t.out.childless)
+    rw (t.out.set, t.grows) (apart_next n t.row_number rows t.popped t.row t.out.hollow (rw t.top at a) t.was t.out.childless)
 
 -- ---- how many rows have not been taken
 
@@ -199,11 +199,11 @@ one_less s rows row hollow ended is some none =
     rw (get_or_from_slice_get rows s row row is)
     at (sum_by-set (λ (r : TaskRow). one_if (is_some r.end)) rows s hollow row (slice_get_within rows s row is)) in
     let one : one_if (is_some row.end) ≡ 1 = ap (λ (e : Option Ended). one_if (is_some e)) some in
-    let gone : one_if (is_some hollow.end) ≡ 0 = ap (λ (e : Option Ended). one_if (is_some e)) none in
-    omega (arith, moved, one, gone)
+    let absent : one_if (is_some hollow.end) ≡ 0 = ap (λ (e : Option Ended). one_if (is_some e)) none in
+    omega (arith, moved, one, absent)
 
 -- it falls with each that is taken
 pub fewer_left : {rows after : List TaskRow} {stack grown : List ℕ} (t : TakesTop rows after stack grown) (ended : Ended) →
     t.row.end ≡ Some ended → rows_left after < rows_left rows
 fewer_left {rows} t ended some =
-    rw t.out.set (one_less t.place rows t.row t.out.hollow ended t.was some t.out.endless)
+    rw t.out.set (one_less t.row_number rows t.row t.out.hollow ended t.was some t.out.endless)

@@ -27,9 +27,9 @@ tree_first row none = record {
   once = λ c.
       let it : times_child c (row ∷ []) ≡ times_child c [] + times c row.children.items =
       sum_by_push (λ (r : TaskRow). times c r.children.items) [] row in
-      let gone : times c row.children.items ≡ 0 = ap (times c) none in
+      let absent : times c row.children.items ≡ 0 = ap (times c) none in
       let nothing : times_child c [] ≡ 0 = refl in
-      omega (arith, it, gone, nothing);
+      omega (arith, it, absent, nothing);
 }
 
 -- a row whose children stay the same, as when its task ends
@@ -88,12 +88,12 @@ module _ (rows : List TaskRow) (p : ℕ) (parent grown new : TaskRow) (tree : Ch
       let pushed : times_child c (slice_set rows p grown ++ new ∷ [])
       ≡ times_child c (slice_set rows p grown) + times c new.children.items =
       sum_by_push (λ (r : TaskRow). times c r.children.items) (slice_set rows p grown) new in
-      let gone : times c new.children.items ≡ 0 = ap (times c) none in
+      let absent : times c new.children.items ≡ 0 = ap (times c) none in
       let moved = times_child-set c rows p parent grown is in
       let one : times c grown.children.items ≡ times c parent.children.items + one_if (length rows == c) =
       rw grows (times_push c parent.children.items (length rows)) in
       let more = one_more rows c tree in
-      omega (arith, pushed, gone, moved, one, more)
+      omega (arith, pushed, absent, moved, one, more)
 
   pub tree_more : ChildrenAreApart (slice_set rows p grown ++ new ∷ [])
   tree_more =

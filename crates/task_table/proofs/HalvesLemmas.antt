@@ -147,7 +147,7 @@ filled_all depth d c m l r e n some first last base =
     let whole : c ≡ m + (c - m) = omega (arith, some.most) in
     let seam : numbers base m ++ numbers off (c - m) ≡ numbers base m ++ numbers (base + m) (c - m) = elim some.all [
       | inl full ↦ let there : off ≡ base + m = omega (arith, full) in ap (λ n. numbers base m ++ numbers n (c - m)) there
-      | inr none ↦ let gone : c - m ≡ 0 = omega (arith, none) in rw gone refl
+      | inr none ↦ let absent : c - m ≡ 0 = omega (arith, none) in rw absent refl
     ] in
     let cut = left_cut d base c (l ++ m ∷ r) l m r (cut_at d l m r n) in
     rw e (cut ∙ ap (λ xs. xs ++ places_by_counts d off r (c - m)) (first base) ∙ ap (λ xs. numbers base m ++ xs) (last off) ∙ seam

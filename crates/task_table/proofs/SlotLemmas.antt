@@ -23,7 +23,7 @@ module _ {T : Type 0} where
     pub rest : values_in (slice_set slots index None) ≡ remove (values_in slots) k
     pub places : places_from place (slice_set slots index None) ≡ remove (places_from place slots) k
 
-  -- whichever of the full slots is emptied, its value and its place are gone, and the others stay in their order
+  -- whichever of the full slots is emptied, its value and its place are removed, and the others stay in their order
   pub taken : (place k : ℕ) (slots : List (Option T)) → k < length (places_from place slots) → Taken place k slots
   taken place k [] lt = absurd (omega (arith, lt))
   taken place k (None ∷ slots) lt =

@@ -14,7 +14,7 @@ use Rattle.task_table.specs.declared.rows.Ended.{Ended}
 use Rattle.task_table.specs.declared.task_table.Running.{Running}
 use Rattle.task_table.specs.declared.task_table.TaskTable.{TaskTable}
 use Rattle.task_table.specs.Rows.{ChildrenAreApart, IsNewRow}
-use Rattle.task_table.specs.TaskTable.{running_at, row_at, task_count, task_unless, task_by, gone_from, gone_by, start_by, children_by, parent_by, id_by, task_of, HasRow, Lives, IsTaskTable, SameBut, HasRoot, Starts, Ends}
+use Rattle.task_table.specs.TaskTable.{running_at, row_at, task_count, task_unless, task_by, ended_task_from, ended_task_by, start_by, children_by, parent_by, id_by, task_of, HasRow, Lives, IsTaskTable, SameBut, HasRoot, Starts, Ends}
 use Rattle.task_table.proofs.Growth.{tree_first, tree_same, tree_more}
 use Rattle.task_table.proofs.Inverse.{AreInverse, inverse_same, inverse_added, inverse_removed, other_pair}
 use Rattle.task_table.proofs.Lists.{Changes, changes_set, changes_push, kept, set_same}
@@ -167,9 +167,9 @@ module _ {old new : TaskTable} {p : ℕ} {child : Task} {tick id : ℕ} (ok : Is
     same_task = λ j less.
         said_still (task_by new.live) (rw a.same refl) j less
         ∙ task_kept old.live new.live (row_at old j) (λ other is. a.live.others other (another j other is));
-    same_gone = λ j.
-        kept next_changes gone_by (ap (option_map gone_from) a.begins.end) j
-        ∙ said_before gone_by (rw a.same refl) j;
+    same_ended_task = λ j.
+        kept next_changes ended_task_by (ap (option_map ended_task_from) a.begins.end) j
+        ∙ said_before ended_task_by (rw a.same refl) j;
     same_start = said_still start_by (rw a.same refl);
     same_children = λ j less differs. ap children_by (old_row j less ∙ parent_changes.others j differs);
     same_parent = said_still parent_by (rw a.same refl);
@@ -230,7 +230,7 @@ module _ {old new : TaskTable} {id : ℕ} {x : Running} {y : Option Running} {be
     task = λ j differs.
         ap (task_by new.live) (row_changes.others j differs)
         ∙ task_kept old.live new.live (row_at old j) (λ other is. w.live.others other (different j other differs is));
-    gone = λ j differs. ap gone_by (row_changes.others j differs);
+    ended_task = λ j differs. ap ended_task_by (row_changes.others j differs);
     start = said_alike start_by (rw w.same refl);
     children = said_alike children_by (rw w.same refl);
     parent = said_alike parent_by (rw w.same refl);
@@ -288,7 +288,7 @@ pub record Closes (old new : TaskTable) (id tick : ℕ) (exc : Option held.Exc) 
   pub tick_is : ended.tick ≡ tick
   pub exc_is : unboxed_exc ended.exc ≡ exc
   pub entries : ended.entries.items ≡ x.task.entries.items
-  pub froms : ended.froms.items ≡ x.task.froms.items
+  pub cancelled_from : ended.cancelled_from.items ≡ x.task.cancelled_from.items
 
 module _ {old new : TaskTable} {id tick : ℕ} {exc : Option held.Exc} {x : Running} (ok : IsTaskTable old) (c : Closes old new id tick exc x) where
   abbrev after_end : TaskRow
@@ -303,10 +303,10 @@ module _ {old new : TaskTable} {id tick : ℕ} {exc : Option held.Exc} {x : Runn
     row = x.row;
     task = x.task;
     lived = c.writes.lived;
-    gone = c.writes.live.changed;
+    removed = c.writes.live.changed;
     others = c.writes.live.others;
     left = ap (task_by new.live) end_changes.is;
-    kept = ap gone_by end_changes.is ∙ rw (c.label, c.tick_is, c.exc_is, c.entries, c.froms) refl;
+    kept = ap ended_task_by end_changes.is ∙ rw (c.label, c.tick_is, c.exc_is, c.entries, c.cancelled_from) refl;
     same = same_but ok c.writes;
   }
 
@@ -353,7 +353,7 @@ module _ {r : TaskTable} {root : Task} {id : ℕ} (f : First r root id) where
     others = first_others;
     task = task_here r.live (row_at r 0) f.row _ first_changes.is f.begins.end (ap (live_at r.live) f.begins.task ∙ f.live.changed);
     none = λ j. ap (task_by r.live) (first_changes.others (j + 1) (λ e. omega (arith, e)));
-    gone = kept first_changes gone_by (ap (option_map gone_from) f.begins.end);
+    ended_task = kept first_changes ended_task_by (ap (option_map ended_task_from) f.begins.end);
     start = ap start_by first_changes.is ∙ f.begins.start;
     children = ap children_by first_changes.is ∙ f.begins.children;
   }

@@ -22,7 +22,7 @@ pub record ShowsEnd (input : List ℕ) (row : interleaving.Row) (ended : Ended) 
   pub exc : option_map exc_of (unboxed_exc ended.exc) ≡ row.exc
   pub entries : map entry_of ended.entries.items ≡ map (as_shown input) row.entries
   pub slices : All (IsSlice input) ended.entries.items
-  pub froms : map from_of ended.froms.items ≡ row.froms
+  pub cancelled_from : map from_of ended.cancelled_from.items ≡ row.cancelled_from
 
 abbrev pub EndIsShown : List ℕ → interleaving.Row → Option Ended → Type 0
 EndIsShown input row None = Unit {0}
@@ -57,13 +57,13 @@ pub record ChildrenAreApart (rows : List TaskRow) : Type 0 where
 
 -- ---- the records of rows
 
--- records and froms show those of rows, depth first from the root's
-pub record ShowRecords (input : List ℕ) (rs : ℕ → interleaving.Row) (shown : List Record) (shown_froms : List ScopeFrom) : Type 0 where
+-- records and moments of cancellation show those of rows, depth first from the root's
+pub record ShowRecords (input : List ℕ) (rs : ℕ → interleaving.Row) (shown : List Record) (shown_cancelled_from : List ScopeFrom) : Type 0 where
   pub taken : List ℕ
   pub order : interleaving.DepthFirst rs (0 ∷ []) taken
   pub records : map row_in shown ≡ map (row_of input) (interleaving.records_by rs taken)
   pub slices : AreSlices input shown
-  pub froms : map from_of shown_froms ≡ interleaving.froms_in rs taken
+  pub cancelled_from : map from_of shown_cancelled_from ≡ interleaving.cancelled_from_in rs taken
 
 -- the record of a task that was started in this tick and ended so
 pub record IsRecordOf (start : ℕ) (ended : Ended) (r : Record) : Type 0 where
@@ -82,8 +82,8 @@ pub record IsNewRow (up id tick : ℕ) (row : TaskRow) : Type 0 where
   pub end : row.end ≡ None
 
 -- the row that was there is replaced by one without children and without an end
-pub record IsTakenOut (old : List TaskRow) (place : ℕ) (new : List TaskRow) : Type 0 where
+pub record IsTakenOut (old : List TaskRow) (row_number : ℕ) (new : List TaskRow) : Type 0 where
   pub hollow : TaskRow
   pub childless : hollow.children.items ≡ []
   pub endless : hollow.end ≡ None
-  pub set : new ≡ slice_set old place hollow
+  pub set : new ≡ slice_set old row_number hollow

@@ -16,7 +16,7 @@ use Rattle.task_machine.specs.Frames.{unboxed_exc}
 use Rattle.task_machine.specs.Standing.{TurnsAs}
 use Rattle.task_machine.specs.Waking.{IsInRangeTaskState, WakesFrom}
 use Rattle.task_machine.specs.Waiters.{KeepsRest}
-use Rattle.run_refinement.specs.RunState.{RunState, Gone}
+use Rattle.run_refinement.specs.RunState.{RunState, EndedTask}
 use Rattle.task_table.specs.declared.rows.TaskRow.{TaskRow}
 use Rattle.task_table.specs.declared.rows.Ended.{Ended}
 use Rattle.task_table.specs.declared.task_table.Running.{Running}
@@ -50,12 +50,12 @@ task_by live None = None
 task_by live (Some row) = task_unless row.end (live_at live row.task)
 
 -- what is kept of an end
-abbrev pub gone_from : Ended → Gone
-gone_from e = record { label = e.label; end = e.tick; exc = option_map exc_of (unboxed_exc e.exc); entries = e.entries.items; froms = e.froms.items }
+abbrev pub ended_task_from : Ended → EndedTask
+ended_task_from e = record { label = e.label; end = e.tick; exc = option_map exc_of (unboxed_exc e.exc); entries = e.entries.items; cancelled_from = e.cancelled_from.items }
 
-abbrev pub gone_by : Option TaskRow → Option Gone
-gone_by None = None
-gone_by (Some row) = option_map gone_from row.end
+abbrev pub ended_task_by : Option TaskRow → Option EndedTask
+ended_task_by None = None
+ended_task_by (Some row) = option_map ended_task_from row.end
 
 abbrev pub start_by : Option TaskRow → ℕ
 start_by None = 0
@@ -73,13 +73,13 @@ abbrev pub id_by : Option TaskRow → ℕ
 id_by None = 0
 id_by (Some row) = row.task
 
--- ---- the same by the number of the row, which is the task's serial number
+-- ---- tasks by the number of the row, which is the task's serial number
 
 abbrev pub task_of : TaskTable → ℕ → Option Task
 task_of r p = task_by r.live (row_at r p)
 
-abbrev pub gone_of : TaskTable → ℕ → Option Gone
-gone_of r p = gone_by (row_at r p)
+abbrev pub ended_task_of : TaskTable → ℕ → Option EndedTask
+ended_task_of r p = ended_task_by (row_at r p)
 
 abbrev pub start_of : TaskTable → ℕ → ℕ
 start_of r p = start_by (row_at r p)
@@ -98,7 +98,7 @@ id_of r p = id_by (row_at r p)
 -- the tasks of the program in this world, after the given number of turns
 abbrev pub run_state : TaskTable → World → ℕ → RunState
 run_state r world turns =
-    record { world = world; turns = turns; task = task_of r; gone = gone_of r; start = start_of r; children = children_of r }
+    record { world = world; turns = turns; task = task_of r; ended_task = ended_task_of r; start = start_of r; children = children_of r }
 
 -- ---- rows and ids agree
 
@@ -128,7 +128,7 @@ pub record IsTaskTable (r : TaskTable) : Type 0 where
 pub record SameBut (old new : TaskTable) (s : ℕ) : Type 0 where
   pub many : task_count new ≡ task_count old
   pub task : (p : ℕ) → p ≢ s → task_of new p ≡ task_of old p
-  pub gone : (p : ℕ) → p ≢ s → gone_of new p ≡ gone_of old p
+  pub ended_task : (p : ℕ) → p ≢ s → ended_task_of new p ≡ ended_task_of old p
   pub start : (p : ℕ) → start_of new p ≡ start_of old p
   pub children : (p : ℕ) → children_of new p ≡ children_of old p
   pub parent : (p : ℕ) → parent_of new p ≡ parent_of old p
@@ -141,7 +141,7 @@ pub record HasRoot (r : TaskTable) (root : Task) (id : ℕ) : Type 0 where
   pub others : (other : ℕ) → other ≢ id → running_at r other ≡ None
   pub task : task_of r 0 ≡ Some root
   pub none : (p : ℕ) → task_of r (p + 1) ≡ None
-  pub gone : (p : ℕ) → gone_of r p ≡ None
+  pub ended_task : (p : ℕ) → ended_task_of r p ≡ None
   pub start : start_of r 0 ≡ 0
   pub children : children_of r 0 ≡ []
 
@@ -158,7 +158,7 @@ pub record Starts (old new : TaskTable) (parent : ℕ) (started : Task) (tick id
   pub id_is : id_of new (task_count old) ≡ id
   pub child : children_of new parent ≡ children_of old parent ++ task_count old ∷ []
   pub same_task : (p : ℕ) → p < task_count old → task_of new p ≡ task_of old p
-  pub same_gone : (p : ℕ) → gone_of new p ≡ gone_of old p
+  pub same_ended_task : (p : ℕ) → ended_task_of new p ≡ ended_task_of old p
   pub same_start : (p : ℕ) → p < task_count old → start_of new p ≡ start_of old p
   pub same_children : (p : ℕ) → p < task_count old → p ≢ parent → children_of new p ≡ children_of old p
   pub same_parent : (p : ℕ) → p < task_count old → parent_of new p ≡ parent_of old p
@@ -180,7 +180,7 @@ pub record HasTurn (old new : TaskTable) (was now : World) (id : ℕ) (wake : Wa
   pub others : (other : ℕ) → other ≢ id → running_at new other ≡ running_at old other
   pub task : task_of new row ≡ Some after
   pub same : SameBut old new row
-  pub gone : gone_of new row ≡ gone_of old row
+  pub ended_task : ended_task_of new row ≡ ended_task_of old row
   pub keeps : KeepsRest id before after was now
   pub fits : Fits (state_of after now) (waits_of after.task_state)
   pub turn : TurnsAs (state_of before was) (state_of after now) wake stop
@@ -190,17 +190,17 @@ pub record Ends (old new : TaskTable) (id tick : ℕ) (exc : Option held.Exc) : 
   pub row : ℕ
   pub task : Task
   pub lived : running_at old id ≡ Some (record { task = task; row = row })
-  pub gone : running_at new id ≡ None
+  pub removed : running_at new id ≡ None
   pub others : (other : ℕ) → other ≢ id → running_at new other ≡ running_at old other
   pub left : task_of new row ≡ None
   pub kept :
-      gone_of new row
+      ended_task_of new row
       ≡ Some (record {
         label = task.label;
         end = tick;
         exc = option_map exc_of exc;
         entries = task.entries.items;
-        froms =
-            task.froms.items;
+        cancelled_from =
+            task.cancelled_from.items;
       })
   pub same : SameBut old new row

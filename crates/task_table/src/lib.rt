@@ -1,5 +1,5 @@
-//! Pickers; the ready tasks of a tick, and the order of their turns; the tasks of a run by their ids and by rows, and the records of a
-//! run that is over.
+//! Pickers; the ready tasks of a tick, and the order of their turns; the tasks of a run by their ids and by rows, and the records
+//! of a run that is over.
 //!
 //! Trio runs the tasks that are ready as one batch, in an order of its own choice; here a picker chooses the order. While
 //! a batch is current its requests are answered together, then each of its tasks has one turn, and what becomes ready

@@ -42,12 +42,12 @@ pub struct Ended<'a> {
     pub entries: Vec<Entry<'a>>,
     /// The scopes and nurseries that it entered, with the tick from which each was cancelled, in the order of
     /// entering.
-    pub froms: Vec<ScopeFrom>,
+    pub cancelled_from: Vec<ScopeFrom>,
 }
 
-/// Returns the records of rows whose tasks have all ended, the root's first, and each followed by those of its
-/// descendants in the order of their starts; and their froms, in the same order. The caller must ensure that all have
-/// ended, and that no row is a child twice. The only error is that memory runs out.
+/// Returns the records of rows whose tasks have all ended, the root's first, and each followed by those of its descendants in the
+/// order of their starts; and their moments of cancellation, in the same order. The caller must ensure that all have ended, and
+/// that no row is a child twice. The only error is that memory runs out.
 pub fn records_of<'a>(
     alloc: Global,
     rows: Vec<TaskRow<'a>>,
@@ -62,30 +62,30 @@ pub fn records_of<'a>(
     let mut stack = Vec::new(alloc);
     stack.push(0)?;
     let mut records = Vec::new(alloc);
-    let mut froms = Vec::new(alloc);
-    'rows: while let Some(place) = stack.pop() {
+    let mut cancelled_from = Vec::new(alloc);
+    'rows: while let Some(row_number) = stack.pop() {
         let TaskRow {
             start,
             children,
             end,
             ..
-        } = take_row(alloc, left, place);
+        } = take_row(alloc, left, row_number);
         let Some(ended) = end else {
             unreachable!();
         };
         push_reversed(&mut stack, children)?;
-        let (record, mut below) = record_and_froms(start, ended);
+        let (record, mut below) = record_and_cancelled_from(start, ended);
         records.push(record)?;
-        froms.append(&mut below)?;
+        cancelled_from.append(&mut below)?;
     }
-    Ok((records, froms))
+    Ok((records, cancelled_from))
 }
 
 // Takes a row out, and replaces it by one that has no children and no end.
-fn take_row<'a>(alloc: Global, rows: &mut [TaskRow<'a>], place: usize) -> TaskRow<'a>
-    requires { place < length rows.old }
-    ensures taken { slice_get rows.old place ≡ Some result }
-    ensures left { IsTakenOut rows.old place rows.new }
+fn take_row<'a>(alloc: Global, rows: &mut [TaskRow<'a>], row_number: usize) -> TaskRow<'a>
+    requires { row_number < length rows.old }
+    ensures taken { slice_get rows.old row_number ≡ Some result }
+    ensures left { IsTakenOut rows.old row_number rows.new }
 {
     let hollow = TaskRow {
         parent: 0,
@@ -94,7 +94,7 @@ fn take_row<'a>(alloc: Global, rows: &mut [TaskRow<'a>], place: usize) -> TaskRo
         children: Vec::new(alloc),
         end: None,
     };
-    mem::replace(&mut rows[place], hollow)
+    mem::replace(&mut rows[row_number], hollow)
 }
 
 // Puts numbers on a stack, the last one first.
@@ -106,17 +106,17 @@ fn push_reversed(stack: &mut Vec<usize>, numbers: Vec<usize>) -> Result<(), Allo
     stack.append(&mut numbers)
 }
 
-// The record and the froms of a task that has ended.
-fn record_and_froms<'a>(start: u64, ended: Ended<'a>) -> (Record<'a>, Vec<ScopeFrom>)
+// The record and the moments of cancellation of a task that has ended.
+fn record_and_cancelled_from<'a>(start: u64, ended: Ended<'a>) -> (Record<'a>, Vec<ScopeFrom>)
     ensures record { IsRecordOf start ended.entry result.0 }
-    ensures froms { result.1.items ≡ ended.entry.froms.items }
+    ensures cancelled_from { result.1.items ≡ ended.entry.cancelled_from.items }
 {
     let Ended {
         label,
         tick,
         exc,
         entries,
-        froms,
+        cancelled_from,
     } = ended;
     let record = Record {
         label,
@@ -125,7 +125,7 @@ fn record_and_froms<'a>(start: u64, ended: Ended<'a>) -> (Record<'a>, Vec<ScopeF
         outcome: outcome_of(unbox_exc(exc)),
         entries,
     };
-    (record, froms)
+    (record, cancelled_from)
 }
 
 // How a task with this exception ended.

@@ -5,14 +5,14 @@ ghost use Rattle.task_machine.specs.Events.{WaitsWithin, is_wait_over};
 ghost use Rattle.task_machine.specs.Tasks.{scope_of, home_of};
 ghost use Rattle.task_machine.specs.Worlds.{event_at};
 ghost use Rattle.task_table.specs.Rows.{IsNewRow};
-ghost use Rattle.task_table.specs.TaskTable.{running_at, task_count, row_at, gone_of, id_of, parent_of, IsTaskTable, HasRoot, Starts, MayTurn, HasTurn, Ends};
+ghost use Rattle.task_table.specs.TaskTable.{running_at, task_count, row_at, ended_task_of, id_of, parent_of, IsTaskTable, HasRoot, Starts, MayTurn, HasTurn, Ends};
 
 use crate::Live;
 use crate::rows::{Ended, TaskRow};
 use cancel_scopes::ScopeId;
 use clock::TaskId;
 use exceptions::Exc;
-use nursery_book::{NurseryId, Place};
+use nursery_book::{ChildIndex, NurseryId};
 use std::alloc::{AllocError, Global};
 use task_machine::{Stop, Task, Wake, World, box_exc};
 
@@ -101,13 +101,13 @@ impl<'a> TaskTable<'a> {
         let Some(Running { task, row }) = self.live.take(id) else {
             unreachable!()
         };
-        let (label, entries, froms) = task.into_parts();
+        let (label, entries, cancelled_from) = task.into_parts();
         self.rows[row].end = Some(Ended {
             label,
             tick,
             exc: in_box,
             entries,
-            froms,
+            cancelled_from,
         });
         Ok(())
     }
@@ -134,8 +134,8 @@ impl<'a> TaskTable<'a> {
         }
     }
 
-    /// Returns whether a task that has not ended waits for an event, not at a checkpoint, that is set by the present moment. It then
-    /// goes on, also if it sees a cancellation.
+    /// Returns whether a task that has not ended waits for an event, not at a checkpoint, that is set by the present moment. It
+    /// then goes on, also if it sees a cancellation.
     pub fn is_wait_over(&self, id: TaskId, world: &World<'a>) -> bool
         requires lives { IsSome (running_at self.now id) }
         requires within { ForSome (running_at self.now id) (λ x. WaitsWithin x.task.task_state) }
@@ -147,8 +147,9 @@ impl<'a> TaskTable<'a> {
         }
     }
 
-    /// Returns the nursery in which a task that has not ended was started, and its place there, or `None` for the root.
-    pub fn home(&self, id: TaskId) -> Option<(NurseryId, Place)>
+    /// Returns the nursery in which a task that has not ended was started, and its index among the children there, or `None` for
+    /// the root.
+    pub fn home(&self, id: TaskId) -> Option<(NurseryId, ChildIndex)>
         requires { IsSome (running_at self.now id) }
         ensures { ForSome (running_at self.now id) (λ x. result ≡ home_of x.task) }
     {
@@ -172,7 +173,7 @@ impl<'a> TaskTable<'a> {
     /// Returns whether the root has ended. The caller must ensure that the table has a task.
     pub fn is_over(&self) -> bool
         requires { 0 < task_count self.now }
-        ensures { IsTrue result ↔ IsSome (gone_of self.now 0) }
+        ensures { IsTrue result ↔ IsSome (ended_task_of self.now 0) }
     {
         self.rows[0].end.is_some()
     }

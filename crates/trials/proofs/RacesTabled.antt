@@ -14,14 +14,14 @@ use Rattle.job_meaning.specs.Meaning.{meaning_end}
 use Rattle.job_meaning.specs.Shown.{Row, meaning_rows}
 use Rattle.job_edits.specs.Sites.{sites_in}
 use Rattle.job_edits.specs.Copied.{copied_in}
-use Rattle.job_edits.specs.Finer.{fits, by_thousand, by_hundred, by_ten, finer_for, most_ticks, hair_scope, shifts_of}
+use Rattle.job_edits.specs.FinerTicks.{fits, by_thousand, by_hundred, by_ten, finer_ticks_for, most_ticks, hair_scope, shifts_of}
 use Rattle.job_edits.specs.declared.site.Site.{Site}
 use Rattle.job_edits.specs.declared.copied.CopiedStart.{CopiedStart}
-use Rattle.job_edits.specs.declared.finer.Finer.{Finer}
-use Rattle.race_text.specs.Lines as told
+use Rattle.job_edits.specs.declared.finer_ticks.FinerTicks.{FinerTicks}
+use Rattle.race_text.specs.Lines as race_lines
 use Rattle.trials.specs.TextRuns.{TextRun, ran, text_run_of}
 use Rattle.trials.specs.Lines.{AreLines}
-use Rattle.trials.specs.Races.{AreRaceLines, IsLate, HasNoFiner}
+use Rattle.trials.specs.Races.{AreRaceLines, IsLate, HasNoFinerTicks}
 
 le_test : (m n : ℕ) → m ≤ n → nat_le m n ≡ true
 le_test m n h = grind (arith, nat_tests)
@@ -51,13 +51,13 @@ clock_is : (format : Format) (job : Tree) (clock : Clock) → format ≡ job.for
 clock_is format job clock same is = is ∙ ap clock_of same
 
 -- the lines, if the clock is that of the job, and places and starts of copies are those of the text's tokens
-pub are_lines : (text input : List ℕ) (limit l : ℕ) (job : Tree) (tokens : List Token) (format : Format) (clock : Clock) (f : Finer)
-    (scope : List ℕ) (sites : List Site) (starts : List CopiedStart) (first : TextRun) (lines : List told.Line) (hairs : ℕ) →
+pub are_lines : (text input : List ℕ) (limit l : ℕ) (job : Tree) (tokens : List Token) (format : Format) (clock : Clock) (f : FinerTicks)
+    (scope : List ℕ) (sites : List Site) (starts : List CopiedStart) (first : TextRun) (lines : List race_lines.Line) (hairs : ℕ) →
     Spells text job → meaning_end job input ≤ limit → HasTokens text tokens None → format ≡ job.format → clock ≡ clock_of format →
     scope ≡ hair_scope tokens → sites ≡ sites_in tokens → starts ≡ copied_in tokens →
-    Some f ≡ finer_for clock limit sites → l ≡ u64_saturate (limit * f.factor) → first ≡ text_run_of limit job input →
+    Some f ≡ finer_ticks_for clock limit sites → l ≡ u64_saturate (limit * f.factor) → first ≡ text_run_of limit job input →
     AreLines clock text input l f scope sites starts first lines → hairs ≡ length (shifts_of sites) → AreRaceLines text input limit hairs lines
-are_lines text input limit l job tokens format clock f scope sites starts first lines hairs spells soon has as_read counted named s c finer at same are h =
+are_lines text input limit l job tokens format clock f scope sites starts first lines hairs spells soon has as_read counted named s c finer_ticks at same are h =
     let by = clock_is format job clock as_read counted in
     let by_clock = subst (λ (k : Clock). AreLines k text input l f scope sites starts first lines) by are in
     let by_limit = subst (λ (n : ℕ). AreLines (clock_of job.format) text input n f scope sites starts first lines) at by_clock in
@@ -74,17 +74,17 @@ are_lines text input limit l job tokens format clock f scope sites starts first 
       tokens = tokens;
       tokens_are = has;
       f = f;
-      finer_is = ap (λ (k : Clock). finer_for k limit (sites_in tokens)) (sym by) ∙ ap (finer_for clock limit) (sym s) ∙ sym finer;
+      finer_ticks_are = ap (λ (k : Clock). finer_ticks_for k limit (sites_in tokens)) (sym by) ∙ ap (finer_ticks_for clock limit) (sym s) ∙ sym finer_ticks;
       lines_are =
           subst (λ (r : TextRun). AreLines (clock_of job.format) text input (u64_saturate (limit * f.factor)) f (hair_scope tokens) (sites_in tokens) (copied_in tokens) r lines) same by_starts;
       hairs_are = h ∙ ap (λ (ss : List Site). length (shifts_of ss)) s;
     }
 
 -- a text whose numbers of ticks cannot be made finer
-pub has_no_finer : (text input : List ℕ) (limit l : ℕ) (job : Tree) (tokens : List Token) (format : Format) (clock : Clock) (sites : List Site) →
+pub has_no_finer_ticks : (text input : List ℕ) (limit l : ℕ) (job : Tree) (tokens : List Token) (format : Format) (clock : Clock) (sites : List Site) →
     Spells text job → meaning_end job input ≤ limit → HasTokens text tokens None → format ≡ job.format → clock ≡ clock_of format →
-    l ≡ limit → sites ≡ sites_in tokens → None ≡ finer_for clock l sites → HasNoFiner text input limit
-has_no_finer text input limit l job tokens format clock sites spells soon has as_read counted at s none =
+    l ≡ limit → sites ≡ sites_in tokens → None ≡ finer_ticks_for clock l sites → HasNoFinerTicks text input limit
+has_no_finer_ticks text input limit l job tokens format clock sites spells soon has as_read counted at s none =
     record {
       job = job;
       spells = spells;
@@ -92,15 +92,15 @@ has_no_finer text input limit l job tokens format clock sites spells soon has as
       tokens = tokens;
       tokens_are = has;
       none =
-          ap (λ (k : Clock). finer_for k limit (sites_in tokens)) (sym (clock_is format job clock as_read counted))
-          ∙ ap (λ (n : ℕ). finer_for clock n (sites_in tokens)) (sym at) ∙ ap (finer_for clock l) (sym s) ∙ sym none;
+          ap (λ (k : Clock). finer_ticks_for k limit (sites_in tokens)) (sym (clock_is format job clock as_read counted))
+          ∙ ap (λ (n : ℕ). finer_ticks_for clock n (sites_in tokens)) (sym at) ∙ ap (finer_ticks_for clock l) (sym s) ∙ sym none;
     }
 
-abbrev factor_or : Option Finer → ℕ
+abbrev factor_or : Option FinerTicks → ℕ
 factor_or None = 1
 factor_or (Some f) = f.factor
 
-some_factor : (a b c : Bool) (f : Finer) →
+some_factor : (a b c : Bool) (f : FinerTicks) →
     Some f
     ≡ (if a then Some by_thousand
     else if b then Some by_hundred
@@ -112,7 +112,7 @@ some_factor false false true f is = let ticks : f.factor ≡ 10 = ap factor_or i
 some_factor false false false f is = let ticks : f.factor ≡ 1 = ap factor_or is in omega arith
 
 -- an original tick is at least one finer tick
-pub some_ticks : (clock : Clock) (limit : ℕ) (sites : List Site) (f : Finer) → Some f ≡ finer_for clock limit sites → 0 < f.factor
+pub some_ticks : (clock : Clock) (limit : ℕ) (sites : List Site) (f : FinerTicks) → Some f ≡ finer_ticks_for clock limit sites → 0 < f.factor
 some_ticks by_ticks limit sites f is =
     let most = most_ticks sites in some_factor (fits most limit by_thousand) (fits most limit by_hundred) (fits most limit by_ten) f is
 some_ticks by_rounds limit sites f is = some_factor false false (fits (most_ticks sites) limit by_ten) f is

@@ -7,7 +7,7 @@ use Rattle.job_edits.specs.declared.number.Number.{Number}
 use Rattle.job_edits.specs.declared.number.Target.{Target}
 use Rattle.outcomes.specs.JobOutcomes.{JobOutcome}
 use Rattle.outcomes.specs.JobOutcomes as job_outcomes
-use Rattle.outcomes.specs.Groups as told
+use Rattle.outcomes.specs.Groups as groups
 use Rattle.outcomes.specs.SweepViews.{value_held}
 use Rattle.outcomes.specs.declared.value.Value.{Value}
 use Rattle.workers.specs.Answers.{AreAnswers}
@@ -30,10 +30,10 @@ are_seen text input limit number job values first vs f are =
 
 -- given the tokens and the limit, as they were passed on
 pub are_values : (text : List ℕ) (job : Tree) (input : List ℕ) (limit l : ℕ) (target : Target) (values : List ℕ) (tokens ts : List Token)
-    (number : Number) (first : JobOutcome) (vs : List told.Value) →
+    (number : Number) (first : JobOutcome) (vs : List groups.Value) →
     Spells text job → HasTokens text tokens None → ts ≡ tokens → IsNumber text ts target number → l ≡ limit →
     AreValues text input l number job values first vs → AreSweepValues text input limit target values first vs
-are_values text job input limit l target values tokens ts number first vs spells has same is at told =
+are_values text job input limit l target values tokens ts number first vs spells has same is at values_are =
     record {
       job = job;
       spells = spells;
@@ -41,7 +41,7 @@ are_values text job input limit l target values tokens ts number first vs spells
       tokens_are = has;
       number = number;
       number_is = subst (λ (xs : List Token). IsNumber text xs target number) same is;
-      told = subst (λ (n : ℕ). AreValues text input n number job values first vs) at told;
+      values_are = subst (λ (n : ℕ). AreValues text input n number job values first vs) at values_are;
     }
 
 pub is_without_target : (text : List ℕ) (job : Tree) (target : Target) (missing : Missing) (tokens ts : List Token) →

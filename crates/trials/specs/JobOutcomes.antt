@@ -103,7 +103,7 @@ IsTriedWhere text input limit tokens roles first v (Some part) outcome reached i
 -- A line says what becomes of the job with a fault. Its place is that of the step in the original text. `first` is the outcome without
 -- a fault.
 pub record IsLine (text input : List ℕ) (limit : ℕ) (is_named : Bool) (tokens : List Token) (roles : List Role) (first : JobOutcome) (v : Variant) (l : Line) : Type 0 where
-  pub told : l.variant ≡ v
+  pub variant : l.variant ≡ v
   pub line : l.line ≡ line_of text v.step.from
   pub column : l.column ≡ column_of text v.step.from
   pub named : l.is_named ≡ is_named

@@ -8,8 +8,8 @@ use Rattle.job_meaning.specs.Moments.{clock_of}
 use Rattle.job_meaning.specs.Meaning.{meaning_end}
 use Rattle.job_edits.specs.Sites.{sites_in}
 use Rattle.job_edits.specs.Copied.{copied_in}
-use Rattle.job_edits.specs.Finer.{finer_for, hair_scope, shifts_of}
-use Rattle.job_edits.specs.declared.finer.Finer.{Finer}
+use Rattle.job_edits.specs.FinerTicks.{finer_ticks_for, hair_scope, shifts_of}
+use Rattle.job_edits.specs.declared.finer_ticks.FinerTicks.{FinerTicks}
 use Rattle.race_text.specs.Lines.{Line}
 use Rattle.race_text.specs.LineViews.{line_held}
 use Rattle.trials.specs.TextRuns.{text_run_of}
@@ -24,8 +24,8 @@ pub record AreRaceLines (text input : List ℕ) (limit : ℕ) (hairs : ℕ) (lin
   pub in_time : meaning_end job input ≤ limit
   pub tokens : List Token
   pub tokens_are : HasTokens text tokens None
-  pub f : Finer
-  pub finer_is : finer_for (clock_of job.format) limit (sites_in tokens) ≡ Some f
+  pub f : FinerTicks
+  pub finer_ticks_are : finer_ticks_for (clock_of job.format) limit (sites_in tokens) ≡ Some f
   pub lines_are :
       AreLines (clock_of job.format) text input (u64_saturate (limit * f.factor)) f (hair_scope tokens) (sites_in tokens) (copied_in tokens)
       (text_run_of limit job input) lines
@@ -38,17 +38,17 @@ pub record IsLate (text input : List ℕ) (limit : ℕ) : Type 0 where
   pub late : limit < meaning_end job input
 
 -- the job that the text spells ends by the limit, and some number of its ticks is too large to be made finer
-pub record HasNoFiner (text input : List ℕ) (limit : ℕ) : Type 0 where
+pub record HasNoFinerTicks (text input : List ℕ) (limit : ℕ) : Type 0 where
   pub job : Tree
   pub spells : Spells text job
   pub in_time : meaning_end job input ≤ limit
   pub tokens : List Token
   pub tokens_are : HasTokens text tokens None
-  pub none : finer_for (clock_of job.format) limit (sites_in tokens) ≡ None
+  pub none : finer_ticks_for (clock_of job.format) limit (sites_in tokens) ≡ None
 
 -- ---- the values of the code
 
 abbrev pub IsRaceAnswer : List ℕ → List ℕ → ℕ → RaceAnswer → Type 0
-IsRaceAnswer text input limit (Lines told) = AreRaceLines text input limit told.hairs (map line_held told.lines.items)
+IsRaceAnswer text input limit (Lines found) = AreRaceLines text input limit found.hairs (map line_held found.lines.items)
 IsRaceAnswer text input limit Limit = IsLate text input limit
-IsRaceAnswer text input limit NoFinerTicks = HasNoFiner text input limit
+IsRaceAnswer text input limit NoFinerTicks = HasNoFinerTicks text input limit

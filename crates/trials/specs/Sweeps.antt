@@ -23,7 +23,7 @@ pub record AreValues (text input : List ℕ) (limit : ℕ) (number : Number) (jo
   pub first_is : first ≡ job_outcome_of limit None job input
   pub vs_are : AreAnswers (IsValue text input limit number) values vs
 
--- the same for the job that the text spells, and the number of the text that is meant
+-- these outcomes for the job that the text spells, and the number of the text that is meant
 pub record AreSweepValues (text input : List ℕ) (limit : ℕ) (target : Target) (values : List ℕ) (first : JobOutcome) (vs : List Value) : Type 0 where
   pub job : Tree
   pub spells : Spells text job
@@ -31,7 +31,7 @@ pub record AreSweepValues (text input : List ℕ) (limit : ℕ) (target : Target
   pub tokens_are : HasTokens text tokens None
   pub number : Number
   pub number_is : IsNumber text tokens target number
-  pub told : AreValues text input limit number job values first vs
+  pub values_are : AreValues text input limit number job values first vs
 
 -- the text spells a job, and does not have the number that is meant, for this reason
 pub record IsWithoutTarget (text : List ℕ) (target : Target) (missing : Missing) : Type 0 where
@@ -44,10 +44,10 @@ pub record IsWithoutTarget (text : List ℕ) (target : Target) (missing : Missin
 -- ---- the values of the code
 
 abbrev pub AreValuesOf : Tree → Swept → List ℕ → SweepValues → Type 0
-AreValuesOf job swept values told =
-    AreValues swept.text.now swept.input.now swept.limit swept.number job values (job_outcome_held told.first) (map value_held told.values.items)
+AreValuesOf job swept values found =
+    AreValues swept.text.now swept.input.now swept.limit swept.number job values (job_outcome_held found.first) (map value_held found.values.items)
 
 abbrev pub IsSweepAnswer : List ℕ → List ℕ → ℕ → Target → List ℕ → SweepAnswer → Type 0
-IsSweepAnswer text input limit target values (Values told) =
-    AreSweepValues text input limit target values (job_outcome_held told.first) (map value_held told.values.items)
+IsSweepAnswer text input limit target values (Values found) =
+    AreSweepValues text input limit target values (job_outcome_held found.first) (map value_held found.values.items)
 IsSweepAnswer text input limit target values (NoTarget missing) = IsWithoutTarget text target missing

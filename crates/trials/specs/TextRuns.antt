@@ -8,7 +8,7 @@ use Rattle.job_meaning.specs.Shown.{Row, meaning_rows}
 use Rattle.job_story.specs.Events.{Event}
 use Rattle.outcomes.specs.JobOutcomes.{walked_events}
 use Rattle.race_text.specs.Runs.{of_runs}
-use Rattle.race_text.specs.Lines as told
+use Rattle.race_text.specs.Lines as race_lines
 use Rattle.race_text.specs.Lines.{Found}
 
 -- the text is refused; or its job ended by the limit or did not, with these records
@@ -29,9 +29,9 @@ IsTextRun text input limit r events =
 -- what a run shows that another one does not show, apart from ticks and from the exits of scopes with the name `scope`, which are
 -- those of hairs; nothing is compared where a text is refused
 abbrev pub found_between : (scope : List ℕ) → TextRun → TextRun → Found
-found_between scope (refused fault) r = told.not_tried fault
-found_between scope (ran a before) (refused fault) = told.not_tried fault
-found_between scope (ran a before) (ran b after) = told.differs (of_runs scope a before b after)
+found_between scope (refused fault) r = race_lines.not_tried fault
+found_between scope (ran a before) (refused fault) = race_lines.not_tried fault
+found_between scope (ran a before) (ran b after) = race_lines.differs (of_runs scope a before b after)
 
 -- what the job that a text spells shows that a run does not show; or the refusal of a text, with which nothing is compared
 abbrev pub IsComparison : (scope : List ℕ) → List ℕ → List ℕ → ℕ → TextRun → Found → Type 0

@@ -5,13 +5,13 @@ use Rattle.job_edits.specs.Changes.{changed_text}
 use Rattle.job_edits.specs.Numbers.{set_to}
 use Rattle.job_edits.specs.declared.number.Number.{Number}
 use Rattle.trials.specs.JobOutcomes.{IsJobOutcome}
-use Rattle.outcomes.specs.Groups as told
+use Rattle.outcomes.specs.Groups as groups
 use Rattle.outcomes.specs.SweepViews.{value_held}
 use Rattle.outcomes.specs.declared.value.Value.{Value}
 use Rattle.trials.specs.declared.values.Swept.{Swept}
 
 -- the outcome of the text with this value in place of the number
-pub record IsValue (text input : List ℕ) (limit : ℕ) (number : Number) (n : ℕ) (v : told.Value) : Type 0 where
+pub record IsValue (text input : List ℕ) (limit : ℕ) (number : Number) (n : ℕ) (v : groups.Value) : Type 0 where
   pub value : v.value ≡ n
   pub job_outcome : IsJobOutcome (changed_text text (set_to number n ∷ [])) input limit None v.job_outcome
 

@@ -11,9 +11,9 @@ use race_text::{ComparedRun, Found, run_differences};
 use std::alloc::{AllocError, Global};
 use std::thread::Threads;
 
-// Returns what the job that a text spells shows by a limit that another run does not show, apart from the exits of scopes with the
-// name `scope`. If this text or the text of the
-// other run is refused, nothing is compared, and the result is that refusal. The job runs in the calling thread.
+// Returns what the job that a text spells shows by a limit that another run does not show, apart from the exits of scopes with
+// the name `scope`. If this text or the text of the other run is refused, nothing is compared, and the result is that refusal.
+// The job runs in the calling thread.
 pub(crate) fn found_in_text<R: Threads + Sync>(
     rt: &R,
     alloc: Global,

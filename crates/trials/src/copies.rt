@@ -19,15 +19,15 @@ pub(crate) fn push_copies(
     original: &Original<'_>,
     walked: &[&Event],
 ) -> Result<(), AllocError>
-    requires { 0 < original.now.finer.factor }
+    requires { 0 < original.now.finer_ticks.factor }
     ensures { OnOk result (map line_held lines.new.items ≡ map line_held lines.old.items
-        ++ copies_lines original.now.clock original.now.text.now original.now.limit original.now.finer (map event_in walked.now) original.now.starts.now) }
+        ++ copies_lines original.now.clock original.now.text.now original.now.limit original.now.finer_ticks (map event_in walked.now) original.now.starts.now) }
 {
     'starts: for start in original.starts {
         let met = meeting_of(
             alloc,
             original.clock,
-            original.finer.hair,
+            original.finer_ticks.hair,
             start.name,
             walked,
         )?;
@@ -43,9 +43,9 @@ fn push_met(
     start: &CopiedStart,
     met: Option<Meeting>,
 ) -> Result<(), AllocError>
-    requires { 0 < original.now.finer.factor }
+    requires { 0 < original.now.finer_ticks.factor }
     ensures { OnOk result (map line_held lines.new.items ≡ map line_held lines.old.items
-        ++ met_line original.now.text.now original.now.limit original.now.finer start.now (option_map meeting_held met)) }
+        ++ met_line original.now.text.now original.now.limit original.now.finer_ticks start.now (option_map meeting_held met)) }
 {
     let Some(Meeting { one, other, tick }) = met else {
         return Ok(());
@@ -61,7 +61,7 @@ fn push_met(
         count: start.count,
         one,
         other,
-        tick: tick / original.finer.factor,
+        tick: tick / original.finer_ticks.factor,
     })?;
     Ok(())
 }

@@ -36,10 +36,10 @@ pub struct FaultLines {
 
 /// Returns the outcome of the job that a text spells over an input: without a fault, and with each fault of each of its waiting
 /// steps, each kind once. A step fails once with each of the exceptions with these names. With `each` there is also a line for
-/// each of these faults in each copy of a `start .. over` and each pass of a `repeat` that the step is in, up to `MAX_EACH`; but not
-/// in copies that depend on their parts of the input (`RepeatedBlock::is_divided`), unless the input is empty. If the
-/// text is refused, the error is the refusal, as `read_job` returns it. If memory runs out, the error has the kind `NoMemory`. The
-/// caller must ensure that the input has at most 16,777,216 bytes.
+/// each of these faults in each copy of a `start .. over` and each pass of a `repeat` that the step is in, up to `MAX_EACH`; but
+/// not in copies that depend on their parts of the input (`RepeatedBlock::is_divided`), unless the input is empty. If the text is
+/// refused, the error is the refusal, as `read_job` returns it. If memory runs out, the error has the kind `NoMemory`. The caller
+/// must ensure that the input has at most 16,777,216 bytes.
 ///
 /// The number of workers in `settings` is the number of threads that run the faults. The gate is called before and after each
 /// fault, with the place of the fault among the lines, by the thread that runs it. Neither changes a line.
@@ -54,15 +54,15 @@ pub fn fault_lines<R: Threads + Sync, G: Gate + Sync>(
     gate: &G,
 ) -> Result<FaultLines, JobFault>
     requires { length input.now ≤ MAX_INPUT }
-    ensures lines { IfOk result (λ told. AreFaultLines job_text.now input.now settings.limit names.now each (job_outcome_held told.first)
-        (map line_held told.lines.items) told.untried) }
+    ensures lines { IfOk result (λ found. AreFaultLines job_text.now input.now settings.limit names.now each (job_outcome_held found.first)
+        (map line_held found.lines.items) found.untried) }
     ensures refused { IfErr result (IsFair job_text.now) }
 {
     let job = read_job(alloc, job_text)?;
-    let told = lines_of_job(
+    let found = lines_of_job(
         rt, alloc, job_text, &job, input, settings, names, each, gate,
     )?;
-    Ok(told)
+    Ok(found)
 }
 
 // Returns the same for a text that spells a job.
@@ -79,8 +79,8 @@ fn lines_of_job<R: Threads + Sync, G: Gate + Sync>(
 ) -> Result<FaultLines, AllocError>
     requires input { length input.now ≤ MAX_INPUT }
     requires spells { Spells job_text.now job.now }
-    ensures { IfOk result (λ told. AreFaultLines job_text.now input.now settings.limit names.now each (job_outcome_held told.first)
-        (map line_held told.lines.items) told.untried) }
+    ensures { IfOk result (λ found. AreFaultLines job_text.now input.now settings.limit names.now each (job_outcome_held found.first)
+        (map line_held found.lines.items) found.untried) }
 {
     let tokens = spelled_tokens(alloc, job_text, job)?;
     let read = tokens.as_slice();
@@ -121,8 +121,8 @@ fn has_items(input: &[u8]) -> bool
     !input.is_empty()
 }
 
-// Returns the faults that are tried, and which faults in single copies and passes are not. `has_input` says whether the input has any
-// byte.
+// Returns the faults that are tried, and which faults in single copies and passes are not. `has_input` says whether the input has
+// any byte.
 fn tried_variants(
     alloc: Global,
     each: bool,

@@ -1,7 +1,7 @@
 ghost use Rattle.std.specs.Prelude.{◌≡◌, ◌≤◌, length, IfOk};
 ghost use Rattle.job_meaning.specs.declared.limits.TheConstants.{MAX_INPUT};
 ghost use Rattle.job_edits.specs.Changes.{changed_text};
-ghost use Rattle.job_edits.specs.Finer.{shifted_changes};
+ghost use Rattle.job_edits.specs.FinerTicks.{shifted_changes};
 ghost use Rattle.race_text.specs.LineViews.{found_held};
 ghost use Rattle.trials.specs.TextRuns.{IsComparison};
 ghost use Rattle.trials.specs.Views.{IsMovedOf, text_run_held};
@@ -81,14 +81,14 @@ fn found_with<R: Threads + Sync>(
 ) -> Result<Found, AllocError>
     requires { length moves.now.input.now ≤ MAX_INPUT }
     ensures { IfOk result (λ found. IsComparison moves.now.original.scope.now (changed_text moves.now.original.text.now
-        (shifted_changes moves.now.original.clock moves.now.original.finer moves.now.original.scope.now shift.now moves.now.original.sites.now)) moves.now.input.now moves.now.original.limit (text_run_held moves.now.before) (found_held found)) }
+        (shifted_changes moves.now.original.clock moves.now.original.finer_ticks moves.now.original.scope.now shift.now moves.now.original.sites.now)) moves.now.input.now moves.now.original.limit (text_run_held moves.now.before) (found_held found)) }
 {
     let original = moves.original;
     let scope = *original.scope;
     let changes = shifted_changes(
         alloc,
         original.clock,
-        original.finer,
+        original.finer_ticks,
         scope,
         shift,
         original.sites,

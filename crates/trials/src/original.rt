@@ -1,4 +1,4 @@
-use job_edits::{CopiedStart, Finer, Site};
+use job_edits::{CopiedStart, FinerTicks, Site};
 use job_meaning::Clock;
 use job_tree::Name;
 
@@ -12,7 +12,7 @@ pub(crate) struct Original<'a> {
     /// The last tick at which a job may end, in finer ticks.
     pub limit: u64,
     /// How much finer the ticks of the changed texts are.
-    pub finer: Finer,
+    pub finer_ticks: FinerTicks,
     /// The name of the scope in which a hair before a `set` is.
     pub scope: &'a Name,
     /// The places of the text where time passes or may pass, or where an event is set.

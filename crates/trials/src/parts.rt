@@ -135,7 +135,8 @@ fn text_apart(
     }
 }
 
-// Returns the number, in the text in which a copy or pass is written out, of the step that begins at a place of the original text.
+// Returns the number, in the text in which a copy or pass is written out, of the step that begins at a place of the original
+// text.
 fn number_apart(original: &Original<'_>, part: &BlockPart, from: usize) -> usize
     ensures { result ≡ number_if (slice_get original.now.blocks.now part.now.block) part.now.index from original.now.steps.now }
 {

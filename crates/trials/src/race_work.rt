@@ -2,9 +2,9 @@ ghost use Rattle.std.specs.Prelude.{◌≡◌, ◌<◌, ◌≤◌, true, ◌∷�
 ghost use Rattle.job_meaning.specs.declared.limits.TheConstants.{MAX_INPUT};
 ghost use Rattle.job_runner.specs.Runs.{rows_of};
 ghost use Rattle.outcomes.specs.JobOutcomes.{walked_events};
-ghost use Rattle.job_edits.specs.Finer.{shifts_of};
+ghost use Rattle.job_edits.specs.FinerTicks.{shifts_of};
 ghost use Rattle.workers.specs.Answers.{AreAnswers};
-ghost use Rattle.race_text.specs.Lines as told;
+ghost use Rattle.race_text.specs.Lines as race_lines;
 ghost use Rattle.race_text.specs.LineViews.{found_held, line_held};
 ghost use Rattle.trials.specs.Lines.{copies_lines};
 ghost use Rattle.trials.specs.TextRuns.{ran};
@@ -36,11 +36,11 @@ pub(crate) fn lines_for<R: Threads + Sync, G: Gate + Sync>(
     gate: &G,
 ) -> Result<Vec<Line>, AllocError>
     requires input { length input.now ≤ MAX_INPUT }
-    requires ticks { 0 < original.now.finer.factor }
+    requires ticks { 0 < original.now.finer_ticks.factor }
     requires some_workers { 1 ≤ workers }
     ensures { IfOk result (λ lines. AreLinesOf original.now input.now (ran true (rows_of own.now)) (map line_held lines.items)) }
 {
-    let changes = finer_changes(alloc, original.clock, original.finer, original.sites)?;
+    let changes = finer_changes(alloc, original.clock, original.finer_ticks, original.sites)?;
     let text = changed_text(alloc, original.text, changes.as_slice())?;
     let first = ComparedRun {
         records: own.records(),
@@ -88,7 +88,7 @@ fn lines_of_job<R: Threads + Sync, G: Gate + Sync>(
     gate: &G,
 ) -> Result<Vec<Line>, AllocError>
     requires input { length input.now ≤ MAX_INPUT }
-    requires ticks { 0 < original.now.finer.factor }
+    requires ticks { 0 < original.now.finer_ticks.factor }
     requires some_workers { 1 ≤ workers }
     ensures { IfOk result (λ lines. AreLinesFor original.now input.now (text_run_seen first.now) job.now (map line_held lines.items)) }
 {
@@ -149,10 +149,10 @@ fn moves_for<R: Threads + Sync, G: Gate + Sync>(
 
 // Returns the line of the text in finer ticks, followed by these lines.
 fn after_first(alloc: Global, found: Found, moves: Vec<Line>) -> Result<Vec<Line>, AllocError>
-    ensures { IfOk result (λ lines. map line_held lines.items ≡ told.finer (found_held found) ∷ map line_held moves.items) }
+    ensures { IfOk result (λ lines. map line_held lines.items ≡ race_lines.in_finer_ticks (found_held found) ∷ map line_held moves.items) }
 {
     let mut lines = Vec::new(alloc);
-    lines.push(Line::Finer(found))?;
+    lines.push(Line::InFinerTicks(found))?;
     let mut moves = moves;
     lines.append(&mut moves)?;
     Ok(lines)
@@ -168,9 +168,9 @@ fn push_copies_of<R: Threads + Sync>(
     job: &Job,
 ) -> Result<(), AllocError>
     requires input { length input.now ≤ MAX_INPUT }
-    requires ticks { 0 < original.now.finer.factor }
+    requires ticks { 0 < original.now.finer_ticks.factor }
     ensures { OnOk result (map line_held lines.new.items ≡ map line_held lines.old.items ++ copies_lines original.now.clock
-        original.now.text.now original.now.limit original.now.finer (walked_events job.now input.now) original.now.starts.now) }
+        original.now.text.now original.now.limit original.now.finer_ticks (walked_events job.now input.now) original.now.starts.now) }
 {
     if original.starts.is_empty() {
         return Ok(());

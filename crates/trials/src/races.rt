@@ -1,12 +1,12 @@
 ghost use Rattle.std.specs.Prelude.{◌≡◌, ◌<◌, ◌≤◌, length, IfOk, IfErr};
 ghost use Rattle.job_meaning.specs.declared.limits.TheConstants.{MAX_INPUT};
 ghost use Rattle.job_reader.specs.Refusals.{Spells, IsFair};
-ghost use Rattle.job_edits.specs.Finer.{shifts_of};
+ghost use Rattle.job_edits.specs.FinerTicks.{shifts_of};
 ghost use Rattle.trials.specs.Races.{IsRaceAnswer};
 
 use crate::original::Original;
 use crate::race_work::lines_for;
-use job_edits::{Finer, Site, copied_starts, hair_scope, shifts, sites};
+use job_edits::{FinerTicks, Site, copied_starts, hair_scope, shifts, sites};
 use job_meaning::Clock;
 use job_reader::{Job, JobFault, read_job, spelled_tokens};
 use job_runner::{Forward, Gate, NoGate, Settings, run_to_end};
@@ -37,9 +37,9 @@ pub enum RaceAnswer {
 
 /// Returns how the outcome of the job that a text spells over an input changes if a single place of the text takes a hair more or
 /// less time: the text in finer ticks compared with the original text, then each hair of each place compared with the text in
-/// finer ticks, and the copies of one `start` with `over` or in a `repeat` that meet. If the text is refused, the error is the refusal, as `read_job`
-/// returns it. If memory runs out, the error has the kind `NoMemory`. The caller must ensure that the input has at most
-/// 16,777,216 bytes.
+/// finer ticks, and the copies of one `start` with `over` or in a `repeat` that meet. If the text is refused, the error is the
+/// refusal, as `read_job` returns it. If memory runs out, the error has the kind `NoMemory`. The caller must ensure that the
+/// input has at most 16,777,216 bytes.
 ///
 /// The number of workers in `settings` is the number of threads that run the hairs. The gate is called before and after each
 /// hair, with the place of the hair among them, by the thread that runs it. Neither changes a line.
@@ -61,7 +61,7 @@ pub fn race_lines<R: Threads + Sync, G: Gate + Sync>(
 }
 
 // Returns the same for a text that spells a job.
-#[tactic(auto, using(crate::proofs::RacesTabled::some_ticks, crate::proofs::RacesTabled::is_late, crate::proofs::RacesTabled::has_no_finer))]
+#[tactic(auto, using(crate::proofs::RacesTabled::some_ticks, crate::proofs::RacesTabled::is_late, crate::proofs::RacesTabled::has_no_finer_ticks))]
 fn answer_for_job<R: Threads + Sync, G: Gate + Sync>(
     rt: &R,
     alloc: Global,
@@ -83,7 +83,7 @@ fn answer_for_job<R: Threads + Sync, G: Gate + Sync>(
     let tokens = spelled_tokens(alloc, job_text, job)?;
     let sites = sites(alloc, tokens.as_slice())?;
     let clock = Clock::of(job.text_format());
-    let Some(finer) = Finer::of(clock, sites.as_slice(), limit) else {
+    let Some(finer_ticks) = FinerTicks::of(clock, sites.as_slice(), limit) else {
         return Ok(RaceAnswer::NoFinerTicks);
     };
     let scope = hair_scope(alloc, tokens.as_slice())?;
@@ -91,8 +91,8 @@ fn answer_for_job<R: Threads + Sync, G: Gate + Sync>(
     let original = Original {
         text: job_text,
         clock,
-        limit: limit.saturating_mul(finer.factor),
-        finer,
+        limit: limit.saturating_mul(finer_ticks.factor),
+        finer_ticks,
         scope: &scope,
         sites: sites.as_slice(),
         starts: starts.as_slice(),

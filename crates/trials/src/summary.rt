@@ -13,7 +13,7 @@ use job_answers::table_of;
 use job_meaning::Clock;
 use job_reader::Job;
 use job_runner::{Forward, NoGate, Run, run_to_end};
-use job_story::{Event, law_froms_of_meaning, tell};
+use job_story::{Event, law_cancelled_from_of_meaning, tell};
 use std::alloc::{AllocError, Global};
 use std::thread::Threads;
 
@@ -44,7 +44,7 @@ pub fn summary_of<R: Threads + Sync>(
     requires { length input.now ≤ MAX_INPUT }
     ensures { IfOk result (IsSummary job.now input.now) }
 {
-    law_froms_of_meaning();
+    law_cancelled_from_of_meaning();
     let run = run_to_end(rt, alloc, job, input, 1, &mut Forward, &NoGate)?;
     let clock = Clock::of(job.text_format());
     let end = run.end();

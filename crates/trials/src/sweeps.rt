@@ -33,10 +33,10 @@ pub enum SweepAnswer {
     NoTarget(Missing),
 }
 
-/// Returns the outcome of the job that a text spells over an input, with its own value and with each of these values of one of its
-/// numbers, in their order; or why the text does not have the number that is meant. A value that the text cannot have there counts
-/// as refused. If the text is refused, the error is the refusal, as `read_job` returns it. If memory runs out, the error has the
-/// kind `NoMemory`. The caller must ensure that the input has at most 16,777,216 bytes.
+/// Returns the outcome of the job that a text spells over an input, with its own value and with each of these values of one of
+/// its numbers, in their order; or why the text does not have the number that is meant. A value that the text cannot have there
+/// counts as refused. If the text is refused, the error is the refusal, as `read_job` returns it. If memory runs out, the error
+/// has the kind `NoMemory`. The caller must ensure that the input has at most 16,777,216 bytes.
 ///
 /// The number of workers in `settings` is the number of threads that run the values. The gate is called before and after each
 /// value, with the place of the value among them, by the thread that runs it. Neither changes a result.
@@ -87,8 +87,8 @@ fn answer_for_job<R: Threads + Sync, G: Gate + Sync>(
                 limit: settings.limit(),
                 number,
             };
-            let told = values_of(rt, alloc, job, &swept, values, settings.workers(), gate)?;
-            Ok(SweepAnswer::Values(told))
+            let found = values_of(rt, alloc, job, &swept, values, settings.workers(), gate)?;
+            Ok(SweepAnswer::Values(found))
         }
         Found::Missing(missing) => Ok(SweepAnswer::NoTarget(missing)),
     }
@@ -109,9 +109,9 @@ fn values_of<R: Threads + Sync, G: Gate + Sync>(
     ensures { IfOk result (AreValuesOf job.now swept.now values.now) }
 {
     let first = outcome_of_job(rt, alloc, job, swept.input, swept.limit, None)?;
-    let told = answers_for(rt, alloc, swept, values, workers, gate)?;
+    let of_values = answers_for(rt, alloc, swept, values, workers, gate)?;
     Ok(SweepValues {
         first,
-        values: told,
+        values: of_values,
     })
 }

@@ -9,8 +9,8 @@ ghost use Rattle.trio_text.specs.Statements.{class_of};
 ghost use Rattle.trio_text.specs.Tasks.{HasFunctions, tasks_of};
 ghost use Rattle.trio_text.specs.Uses.{Known};
 
-/// A law: tasks, scopes, nurseries and events with different names in the job have different names in its program. The function does
-/// nothing when it is called.
+/// A law: tasks, scopes, nurseries and events with different names in the job have different names in its program. The function
+/// does nothing when it is called.
 pub fn law_names_differ()
     ensures { (one other : List ℕ) → name_text one ≡ name_text other → one ≡ other }
 {}

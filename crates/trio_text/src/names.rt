@@ -33,7 +33,7 @@ pub(crate) fn push_class(out: &mut Vec<u8>, words: &Words, name: Name) -> Result
     push_class_text(out, words.gives(name), name)
 }
 
-// The same, with `is_given` saying whether a task, scope, nursery or event has this name.
+// Appends the class of an exception; `is_given` says whether a task, scope, nursery or event has its name.
 #[tactic(auto, unfolding(crate::specs::Names::class_text))]
 fn push_class_text(out: &mut Vec<u8>, is_given: bool, name: Name) -> Result<(), AllocError>
     ensures { OnOk result (out.new.items ≡ out.old.items ++ class_text is_given name) }

@@ -1,6 +1,6 @@
-// The words that the program uses for something else: words of Python, names that it uses from Python and Trio, and its
-// helpers. Keywords of the job language are not listed: no job can have them as names, except `event`, `set` and `wait`, which the
-// program uses for nothing else.
+// The words that the program uses for something else: words of Python, names that it uses from Python and Trio, and its helpers.
+// Keywords of the job language are not listed: no job can have them as names, except `event`, `set` and `wait`, which the program
+// uses for nothing else.
 pub(crate) const TAKEN: &[&'static [u8]] = &[
     b"False",
     b"None",

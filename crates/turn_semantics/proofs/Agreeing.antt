@@ -1,4 +1,4 @@
--- What a table and the froms of the world show alike, where they agree.
+-- What a table and the moments of cancellation of the world show alike, where they agree.
 use Rattle.std.proofs.Common.{◌≡◌, ℕ, suc, ◌+◌, Bool, true, false, ◌&&◌, not, Option, Some, None, List, [], ◌∷◌, refl, ap, sym, ◌∙◌, arith}
 use Rattle.std.specs.Str.{bytes_eq}
 use Rattle.exceptions.specs.Exceptions.{Label, cancelled}
@@ -13,7 +13,7 @@ use Rattle.job_meaning.proofs.Clips.{upto_most, upto_earlier, seen_near}
 use Rattle.job_meaning.proofs.Causality.{from_for_near, stack_for_near, catches_near}
 use Rattle.job_meaning.proofs.Distinct.{same_label_equal, same_label_itself}
 use Rattle.turn_semantics.specs.Midway.{Place, label_among, level_on, stack_at}
-use Rattle.turn_semantics.specs.Steps.{home_among, froms_after_sign, from_lowered_if, froms_after_entry, from_entered_if}
+use Rattle.turn_semantics.specs.Steps.{home_among, cancelled_from_after_sign, from_lowered_if, cancelled_from_after_entry, from_entered_if}
 use Rattle.turn_semantics.specs.Turned.{AgreesOn}
 
 -- a level more on near stacks
@@ -23,28 +23,28 @@ near_level true c label shield f g st su e n = (n.0, (refl, refl, e, n.1))
 near_level false c label shield f g st su e n = ((refl, refl, e, n.0), n.1)
 
 -- the stacks are near each other as far as the present moment
-pub near_stacks : (t : ℕ) (table froms : Table) (ps : List Place) → AgreesOn t table froms ps →
-    Near (suc t) (stack_at table ps) (stack_at froms ps)
-near_stacks t table froms [] a = (tt, tt)
-near_stacks t table froms (p ∷ ps) a =
-    near_level p.is_event (suc t) p.label p.shield (table p.label) (froms p.label) (stack_at table ps) (stack_at froms ps) a.0
-    (near_stacks t table froms ps a.1)
+pub near_stacks : (t : ℕ) (table cancelled_from : Table) (ps : List Place) → AgreesOn t table cancelled_from ps →
+    Near (suc t) (stack_at table ps) (stack_at cancelled_from ps)
+near_stacks t table cancelled_from [] a = (tt, tt)
+near_stacks t table cancelled_from (p ∷ ps) a =
+    near_level p.is_event (suc t) p.label p.shield (table p.label) (cancelled_from p.label) (stack_at table ps) (stack_at cancelled_from ps) a.0
+    (near_stacks t table cancelled_from ps a.1)
 
 -- so the same is seen now
-pub seen_alike : (t : ℕ) (table froms : Table) (ps : List Place) → AgreesOn t table froms ps →
-    seen (stack_at table ps).scopes t ≡ seen (stack_at froms ps).scopes t
-seen_alike t table froms ps a =
-    seen_near (suc t) (stack_at table ps).scopes (stack_at froms ps).scopes t (near_stacks t table froms ps a).0 (omega arith)
+pub seen_alike : (t : ℕ) (table cancelled_from : Table) (ps : List Place) → AgreesOn t table cancelled_from ps →
+    seen (stack_at table ps).scopes t ≡ seen (stack_at cancelled_from ps).scopes t
+seen_alike t table cancelled_from ps a =
+    seen_near (suc t) (stack_at table ps).scopes (stack_at cancelled_from ps).scopes t (near_stacks t table cancelled_from ps a).0 (omega arith)
 
 -- and the innermost enclosing scope or nursery catches in the same way, for a task that has cancelled some labels
-pub catches_alike : (own : List Label) (t : ℕ) (table froms : Table) (p : Place) (ps : List Place) → AgreesOn t table froms (p ∷ ps) →
+pub catches_alike : (own : List Label) (t : ℕ) (table cancelled_from : Table) (p : Place) (ps : List Place) → AgreesOn t table cancelled_from (p ∷ ps) →
     catches (from_for own t p.label (table p.label)) p.shield (stack_for own t (stack_at table ps).scopes) t
-    ≡ catches (from_for own t p.label (froms p.label)) p.shield (stack_for own t (stack_at froms ps).scopes) t
-catches_alike own t table froms p ps a =
-    catches_near (suc t) (from_for own t p.label (table p.label)) (from_for own t p.label (froms p.label)) p.shield
-    (stack_for own t (stack_at table ps).scopes) (stack_for own t (stack_at froms ps).scopes) t t
-    (from_for_near (suc t) own t p.label p.label (table p.label) (froms p.label) refl a.0)
-    (stack_for_near (suc t) own t (stack_at table ps).scopes (stack_at froms ps).scopes (near_stacks t table froms ps a.1).0) (omega arith) refl
+    ≡ catches (from_for own t p.label (cancelled_from p.label)) p.shield (stack_for own t (stack_at cancelled_from ps).scopes) t
+catches_alike own t table cancelled_from p ps a =
+    catches_near (suc t) (from_for own t p.label (table p.label)) (from_for own t p.label (cancelled_from p.label)) p.shield
+    (stack_for own t (stack_at table ps).scopes) (stack_for own t (stack_at cancelled_from ps).scopes) t t
+    (from_for_near (suc t) own t p.label p.label (table p.label) (cancelled_from p.label) refl a.0)
+    (stack_for_near (suc t) own t (stack_at table ps).scopes (stack_at cancelled_from ps).scopes (near_stacks t table cancelled_from ps a.1).0) (omega arith) refl
 
 -- ---- names on a stack
 
@@ -138,33 +138,33 @@ unfolding sleep_result pace_result
 sleep_none false st t e = waits_none (sight st.scopes) t e
 sleep_none true st t e = waits_none (sight st.scopes) t e
 
--- ---- how the froms change
+-- ---- how the moments of cancellation change
 
 module _ (t : ℕ) (table : Table) where
-  -- a table agrees with froms at a label
+  -- a table agrees with moments of cancellation at a label
   abbrev pub SameFrom : Table → Label → Type 0
-  SameFrom froms l = upto (suc t) (table l) ≡ upto (suc t) (froms l)
+  SameFrom cancelled_from l = upto (suc t) (table l) ≡ upto (suc t) (cancelled_from l)
 
   -- a sign made now acts later
-  pub agrees_lowered : (froms : Table) (m l : Label) → SameFrom froms l → SameFrom (froms_after_sign froms m t) l
-  agrees_lowered froms m l a = by_label (same_label l m)
+  pub agrees_lowered : (cancelled_from : Table) (m l : Label) → SameFrom cancelled_from l → SameFrom (cancelled_from_after_sign cancelled_from m t) l
+  agrees_lowered cancelled_from m l a = by_label (same_label l m)
     where
-      by_label : (b : Bool) → upto (suc t) (table l) ≡ upto (suc t) (from_lowered_if b t (froms l))
-      by_label true = let h = upto_most (suc t) (froms l) in omega (arith, upto_earlier (suc t) (froms l) (Some (t + 1)))
+      by_label : (b : Bool) → upto (suc t) (table l) ≡ upto (suc t) (from_lowered_if b t (cancelled_from l))
+      by_label true = let h = upto_most (suc t) (cancelled_from l) in omega (arith, upto_earlier (suc t) (cancelled_from l) (Some (t + 1)))
       by_label false = a
 
   -- a label that is entered has its deadline
-  pub agrees_opened : (froms : Table) (m : Label) (d : Tick) (l : Label) → upto (suc t) (table m) ≡ upto (suc t) d → SameFrom froms l →
-      SameFrom (froms_after_entry froms m d) l
-  agrees_opened froms m d l e a = by_label (same_label l m) refl
+  pub agrees_opened : (cancelled_from : Table) (m : Label) (d : Tick) (l : Label) → upto (suc t) (table m) ≡ upto (suc t) d → SameFrom cancelled_from l →
+      SameFrom (cancelled_from_after_entry cancelled_from m d) l
+  agrees_opened cancelled_from m d l e a = by_label (same_label l m) refl
     where
-      by_label : (b : Bool) → same_label l m ≡ b → upto (suc t) (table l) ≡ upto (suc t) (from_entered_if b d (froms l))
+      by_label : (b : Bool) → same_label l m ≡ b → upto (suc t) (table l) ≡ upto (suc t) (from_entered_if b d (cancelled_from l))
       by_label true h = ap (λ (x : Label). upto (suc t) (table x)) (same_label_equal l m h) ∙ e
       by_label false h = a
 
   -- the label itself has it
-  pub agrees_own : (froms : Table) (m : Label) (d : Tick) → upto (suc t) (table m) ≡ upto (suc t) d → SameFrom (froms_after_entry froms m d) m
-  agrees_own froms m d e = e ∙ ap (λ (b : Bool). upto (suc t) (from_entered_if b d (froms m))) (sym (same_label_itself m))
+  pub agrees_own : (cancelled_from : Table) (m : Label) (d : Tick) → upto (suc t) (table m) ≡ upto (suc t) d → SameFrom (cancelled_from_after_entry cancelled_from m d) m
+  agrees_own cancelled_from m d e = e ∙ ap (λ (b : Bool). upto (suc t) (from_entered_if b d (cancelled_from m))) (sym (same_label_itself m))
 
   -- what holds for each label holds for each enclosing scope or nursery
   pub each_place : (f g : Table) → ((l : Label) → SameFrom f l → SameFrom g l) → (ps : List Place) → AgreesOn t table f ps →

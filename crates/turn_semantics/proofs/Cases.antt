@@ -18,7 +18,7 @@ use Rattle.job_meaning.specs.Rest.{Event, starts, starts_over, sleep_weight, con
 use Rattle.job_meaning.specs.Asking.{Kernel, Purpose, Suits, shows, needs, paces}
 use Rattle.job_meaning.specs.Asking as ask
 use Rattle.turn_semantics.specs.Midway.{Place, is_of_kind, label_among, stack_at, Midway, Begun, Move}
-use Rattle.turn_semantics.specs.Steps.{froms_after, onward, blocks_on, makes, falls_asleep, sleeps, signs_to, waits_on, home_among, signs_home, with_started, begun_one, begun_over, enters_block, enters_event, step_on, step_steps, leaves, handler_if, step_try, step_frames, step_of, begins_passes, step_pass}
+use Rattle.turn_semantics.specs.Steps.{cancelled_from_after, onward, blocks_on, makes, falls_asleep, sleeps, signs_to, waits_on, home_among, signs_home, with_started, begun_one, begun_over, enters_block, enters_event, step_on, step_steps, leaves, handler_if, step_try, step_frames, step_of, begins_passes, step_pass}
 use Rattle.turn_semantics.specs.Placed.{in_body, Placed, IsSome, PlacedAfter, home_places, home_after}
 use Rattle.turn_semantics.specs.Turned.{labels_of, AllKnown, known_after, MadeAt, Starts, BegunIn, AllBy, FallsAsleep, StopsAt, weight_of_stop, weight_of_begun}
 use Rattle.turn_semantics.proofs.Events.{all_own, all_grow, known_stays, begun_append, clocks_append, made_append, starts_append, weight_append}
@@ -26,7 +26,7 @@ use Rattle.std.proofs.Math.Nat.{suc-mul}
 
 -- what a move from these enclosing scopes and nurseries with this weight promises, except for the
 -- result of the task
-pub record Case (clock : Clock) (t : ℕ) (froms : Table) (weight_before : ℕ) (home ps : List Place) (count : ℕ) (o : Move) : Type 0 where
+pub record Case (clock : Clock) (t : ℕ) (cancelled_from : Table) (weight_before : ℕ) (home ps : List Place) (count : ℕ) (o : Move) : Type 0 where
   pub placed : PlacedAfter o.stopped o.frames o.places
   pub at_home : home_after o.stopped o.frames o.places ≡ home
   pub made_now : MadeAt clock t (labels_of ps) o.made
@@ -34,7 +34,7 @@ pub record Case (clock : Clock) (t : ℕ) (froms : Table) (weight_before : ℕ) 
   pub starts_made : Starts count o.made o.begun
   pub begun_in : BegunIn (known_after (labels_of ps) o.made) o.begun
   pub clocks : AllBy clock o.begun
-  pub stops : StopsAt clock t (froms_after froms o.made) o.stopped o.places
+  pub stops : StopsAt clock t (cancelled_from_after cancelled_from o.made) o.stopped o.places
   pub weight : weight_of_stop o.stopped + frames_weight o.frames + weight_of_begun o.begun ≤ weight_before
 
 -- a label that is found, if one is, is known
@@ -86,9 +86,9 @@ still_known ps es = all_grow (labels_of ps) (known_after (labels_of ps) es) (λ 
 -- ---- shapes of moves
 
 -- a move that continues, and makes nothing
-pub onward_case : (clock : Clock) (t : ℕ) (froms : Table) (w : ℕ) (home : List Place) (fs : List Frame) (ps : List Place) (exc : Option Exc) (count : ℕ) →
-    Placed fs ps → home_places fs ps ≡ home → frames_weight fs ≤ w → Case clock t froms w home ps count (onward fs ps exc)
-onward_case clock t froms w home fs ps exc count p h le =
+pub onward_case : (clock : Clock) (t : ℕ) (cancelled_from : Table) (w : ℕ) (home : List Place) (fs : List Frame) (ps : List Place) (exc : Option Exc) (count : ℕ) →
+    Placed fs ps → home_places fs ps ≡ home → frames_weight fs ≤ w → Case clock t cancelled_from w home ps count (onward fs ps exc)
+onward_case clock t cancelled_from w home fs ps exc count p h le =
     record {
       placed = p;
       at_home = h;
@@ -110,13 +110,13 @@ sleep_weighs true zero = omega arith
 sleep_weighs true (suc n) = omega arith
 
 -- a sleep
-pub sleep_case : (clock : Clock) (t : ℕ) (froms : Table) (paced : Bool) (n w : ℕ) (home : List Place) (fs : List Frame) (ps : List Place)
+pub sleep_case : (clock : Clock) (t : ℕ) (cancelled_from : Table) (paced : Bool) (n w : ℕ) (home : List Place) (fs : List Frame) (ps : List Place)
     (count : ℕ) → Placed fs ps →
-    home_places fs ps ≡ home → sleep_weight paced 0 + frames_weight fs ≤ w → Case clock t froms w home ps count (sleeps clock froms paced n t fs ps)
-sleep_case clock t froms paced n w home fs ps count p h le = by_clock clock (seen (stack_at froms ps).scopes t) refl n
+    home_places fs ps ≡ home → sleep_weight paced 0 + frames_weight fs ≤ w → Case clock t cancelled_from w home ps count (sleeps clock cancelled_from paced n t fs ps)
+sleep_case clock t cancelled_from paced n w home fs ps count p h le = by_clock clock (seen (stack_at cancelled_from ps).scopes t) refl n
   where
-    falls : (clock : Clock) (n : ℕ) → FallsAsleep clock n (seen (stack_at froms ps).scopes t) →
-        Case clock t froms w home ps count (blocks_on (asleep paced n t) fs ps)
+    falls : (clock : Clock) (n : ℕ) → FallsAsleep clock n (seen (stack_at cancelled_from ps).scopes t) →
+        Case clock t cancelled_from w home ps count (blocks_on (asleep paced n t) fs ps)
     falls clock n f =
         record {
           placed = p;
@@ -130,19 +130,19 @@ sleep_case clock t froms paced n w home fs ps count p h le = by_clock clock (see
           weight = let i = sleep_weighs paced n in omega arith;
         }
 
-    by_clock : (clock : Clock) (b : Bool) → seen (stack_at froms ps).scopes t ≡ b → (n : ℕ) →
-        Case clock t froms w home ps count (falls_asleep clock b paced n t fs ps)
-    by_clock by_ticks true e n = onward_case by_ticks t froms w home fs ps (Some cancelled) count p h (omega arith)
-    by_clock by_ticks false e zero = onward_case by_ticks t froms w home fs ps None count p h (omega arith)
+    by_clock : (clock : Clock) (b : Bool) → seen (stack_at cancelled_from ps).scopes t ≡ b → (n : ℕ) →
+        Case clock t cancelled_from w home ps count (falls_asleep clock b paced n t fs ps)
+    by_clock by_ticks true e n = onward_case by_ticks t cancelled_from w home fs ps (Some cancelled) count p h (omega arith)
+    by_clock by_ticks false e zero = onward_case by_ticks t cancelled_from w home fs ps None count p h (omega arith)
     by_clock by_ticks false e (suc n) = falls by_ticks (suc n) (omega arith, e)
     by_clock by_rounds b e n = falls by_rounds n tt
 
 -- the case of a step that asks a kernel
-asks_case : (clock : Clock) (t : ℕ) (froms : Table) (kernel : Kernel) (purpose : Purpose) (w : ℕ) (home : List Place) (fs : List Frame) (ps : List Place)
+asks_case : (clock : Clock) (t : ℕ) (cancelled_from : Table) (kernel : Kernel) (purpose : Purpose) (w : ℕ) (home : List Place) (fs : List Frame) (ps : List Place)
     (count : ℕ) →
     Suits kernel purpose → Placed fs ps → home_places fs ps ≡ home → weight_of_stop (Some (asking kernel purpose)) + frames_weight fs ≤ w →
-    Case clock t froms w home ps count (blocks_on (asking kernel purpose) fs ps)
-asks_case clock t froms kernel purpose w home fs ps count suits p h le =
+    Case clock t cancelled_from w home ps count (blocks_on (asking kernel purpose) fs ps)
+asks_case clock t cancelled_from kernel purpose w home fs ps count suits p h le =
     record {
       placed = (suits, p);
       at_home = h;
@@ -157,13 +157,13 @@ asks_case clock t froms kernel purpose w home fs ps count suits p h le =
     }
 
 -- the case of a step that enters a scope or nursery
-enter_case : (clock : Clock) (t : ℕ) (froms : Table) (label : Label) (shield : Bool) (deadline : Tick) (body : Steps) (exit : Frame) (w : ℕ)
+enter_case : (clock : Clock) (t : ℕ) (cancelled_from : Table) (label : Label) (shield : Bool) (deadline : Tick) (body : Steps) (exit : Frame) (w : ℕ)
     (home : List Place) (fs : List Frame) (ps : List Place) (count : ℕ) →
     Placed (steps_left body ∷ exit ∷ fs) (record { label = label; shield = shield; is_event = false } ∷ ps) →
     home_places (steps_left body ∷ exit ∷ fs) (record { label = label; shield = shield; is_event = false } ∷ ps) ≡ home →
     frames_weight (steps_left body ∷ exit ∷ fs) ≤ w →
-    Case clock t froms w home ps count (enters_block label shield deadline t body exit fs ps)
-enter_case clock t froms label shield deadline body exit w home fs ps count p h le =
+    Case clock t cancelled_from w home ps count (enters_block label shield deadline t body exit fs ps)
+enter_case clock t cancelled_from label shield deadline body exit w home fs ps count p h le =
     record {
       placed = p;
       at_home = h;
@@ -177,10 +177,10 @@ enter_case clock t froms label shield deadline body exit w home fs ps count p h 
     }
 
 -- the case of a step that signs for what it found: a `cancel` or a `set`
-signs_case : (clock : Clock) (t : ℕ) (froms : Table) (o : Option Label) (w : ℕ) (home : List Place) (fs : List Frame) (ps : List Place) (count : ℕ) →
+signs_case : (clock : Clock) (t : ℕ) (cancelled_from : Table) (o : Option Label) (w : ℕ) (home : List Place) (fs : List Frame) (ps : List Place) (count : ℕ) →
     Found o (labels_of ps) → Placed fs ps → home_places fs ps ≡ home → frames_weight fs ≤ w →
-    Case clock t froms w home ps count (makes (signs_to o t) fs ps)
-signs_case clock t froms o w home fs ps count k p h le =
+    Case clock t cancelled_from w home ps count (makes (signs_to o t) fs ps)
+signs_case clock t cancelled_from o w home fs ps count k p h le =
     record {
       placed = p;
       at_home = h;
@@ -194,16 +194,16 @@ signs_case clock t froms o w home fs ps count k p h le =
     }
 
 -- the case of a step that waits for an event
-waits_case : (clock : Clock) (t : ℕ) (froms : Table) (name : List ℕ) (w : ℕ) (home : List Place) (fs : List Frame) (ps : List Place) (count : ℕ) →
+waits_case : (clock : Clock) (t : ℕ) (cancelled_from : Table) (name : List ℕ) (w : ℕ) (home : List Place) (fs : List Frame) (ps : List Place) (count : ℕ) →
     Placed fs ps → home_places fs ps ≡ home → 2 + frames_weight fs ≤ w →
-    Case clock t froms w home ps count (waits_on (label_among true name ps) name t fs ps)
-waits_case clock t froms name w home fs ps count p h le = by_label (label_among true name ps) refl
+    Case clock t cancelled_from w home ps count (waits_on (label_among true name ps) name t fs ps)
+waits_case clock t cancelled_from name w home fs ps count p h le = by_label (label_among true name ps) refl
   where
     found : (o : Option Label) → label_among true name ps ≡ o → IsSome o → IsSome (label_among true name ps)
     found o e s = subst (λ (x : Option Label). IsSome x) (sym e) s
 
-    by_label : (o : Option Label) → label_among true name ps ≡ o → Case clock t froms w home ps count (waits_on o name t fs ps)
-    by_label None e = onward_case clock t froms w home fs ps None count p h (omega arith)
+    by_label : (o : Option Label) → label_among true name ps ≡ o → Case clock t cancelled_from w home ps count (waits_on o name t fs ps)
+    by_label None e = onward_case clock t cancelled_from w home fs ps None count p h (omega arith)
     by_label (Some l) e =
         record {
           placed = (found (Some l) e tt, p);
@@ -218,10 +218,10 @@ waits_case clock t froms name w home fs ps count p h le = by_label (label_among 
         }
 
 -- the case of a step that enters an event
-event_case : (clock : Clock) (t : ℕ) (froms : Table) (label : Label) (body : Steps) (w : ℕ) (home : List Place) (fs : List Frame) (ps : List Place)
+event_case : (clock : Clock) (t : ℕ) (cancelled_from : Table) (label : Label) (body : Steps) (w : ℕ) (home : List Place) (fs : List Frame) (ps : List Place)
     (count : ℕ) → StartsIn false body → Placed fs ps → home_places fs ps ≡ home → frames_weight (steps_left body ∷ in_event ∷ fs) ≤ w →
-    Case clock t froms w home ps count (enters_event label t body fs ps)
-event_case clock t froms label body w home fs ps count b p h le =
+    Case clock t cancelled_from w home ps count (enters_event label t body fs ps)
+event_case clock t cancelled_from label body w home fs ps count b p h le =
     record {
       placed = (b, (refl, p));
       at_home = h;
@@ -235,10 +235,10 @@ event_case clock t froms label body w home fs ps count b p h le =
     }
 
 -- a scope or nursery that is left
-pub leaves_case : (clock : Clock) (now : Now) (froms : Table) (kind : Kind) (w : ℕ) (home : List Place) (fs : List Frame) (p : Place) (ps : List Place)
+pub leaves_case : (clock : Clock) (now : Now) (cancelled_from : Table) (kind : Kind) (w : ℕ) (home : List Place) (fs : List Frame) (p : Place) (ps : List Place)
     (exc : Option Exc) (count : ℕ) → Placed fs ps → home_places fs ps ≡ home → frames_weight fs ≤ w →
-    Case clock now.at froms w home (p ∷ ps) count (leaves clock froms now kind fs p ps exc)
-leaves_case clock now froms kind w home fs p ps exc count q h le =
+    Case clock now.at cancelled_from w home (p ∷ ps) count (leaves clock cancelled_from now kind fs p ps exc)
+leaves_case clock now cancelled_from kind w home fs p ps exc count q h le =
     record {
       placed = q;
       at_home = h;
@@ -252,9 +252,9 @@ leaves_case clock now froms kind w home fs p ps exc count q h le =
     }
 
 -- an event that is left
-event_left_case : (clock : Clock) (t : ℕ) (froms : Table) (fs : List Frame) (p : Place) (ps : List Place) (exc : Option Exc) (count : ℕ) → Placed fs ps →
-    Case clock t froms (frames_weight (in_event ∷ fs)) (home_places fs ps) (p ∷ ps) count (onward fs ps exc)
-event_left_case clock t froms fs p ps exc count q =
+event_left_case : (clock : Clock) (t : ℕ) (cancelled_from : Table) (fs : List Frame) (p : Place) (ps : List Place) (exc : Option Exc) (count : ℕ) → Placed fs ps →
+    Case clock t cancelled_from (frames_weight (in_event ∷ fs)) (home_places fs ps) (p ∷ ps) count (onward fs ps exc)
+event_left_case clock t cancelled_from fs p ps exc count q =
     record {
       placed = q;
       at_home = refl;
@@ -379,12 +379,12 @@ over_clocks name here of body ps first (suc k) =
     clocks_append here.clock (begun_over name here of body ps first k) _ (over_clocks name here of body ps first k) (refl, tt)
 
 -- the case of a step that starts one child or several
-start_case : (now : Now) (froms : Table) (here : Here) (name : List ℕ) (over : Option ℕ) (body ss : Steps) (fs : List Frame) (ps : List Place)
+start_case : (now : Now) (cancelled_from : Table) (here : Here) (name : List ℕ) (over : Option ℕ) (body ss : Steps) (fs : List Frame) (ps : List Place)
     (count : ℕ) →
     StartsIn false body → StartsIn (in_body fs) ss → Placed fs ps →
-    Case here.clock now.at froms (frames_weight (steps_left (step (start name over body) ss) ∷ fs)) (home_places fs ps) ps count
-    (step_on froms now here (start name over body) ss fs ps count)
-start_case now froms here name None body ss fs ps count i b p =
+    Case here.clock now.at cancelled_from (frames_weight (steps_left (step (start name over body) ss) ∷ fs)) (home_places fs ps) ps count
+    (step_on cancelled_from now here (start name over body) ss fs ps count)
+start_case now cancelled_from here name None body ss fs ps count i b p =
     record {
       placed = (subst (λ (x : Bool). StartsIn x ss) (sym (body_started (count ∷ []) fs)) b, placed_started (count ∷ []) fs ps p);
       at_home = home_started (count ∷ []) fs ps;
@@ -396,7 +396,7 @@ start_case now froms here name None body ss fs ps count i b p =
       stops = tt;
       weight = let e = weight_started (count ∷ []) fs in omega arith;
     }
-start_case now froms here name (Some k) body ss fs ps count i b p =
+start_case now cancelled_from here name (Some k) body ss fs ps count i b p =
     record {
       placed = (
         subst (λ (x : Bool). StartsIn x ss) (sym (body_started (consecutive count k) fs)) b,
@@ -416,92 +416,92 @@ start_case now froms here name (Some k) body ss fs ps count i b p =
 -- ---- passes
 
 -- the first pass of a `repeat`
-passes_case : (clock : Clock) (t : ℕ) (froms : Table) (n : ℕ) (body : Steps) (w : ℕ) (home : List Place) (fs : List Frame) (ps : List Place) (count : ℕ) →
+passes_case : (clock : Clock) (t : ℕ) (cancelled_from : Table) (n : ℕ) (body : Steps) (w : ℕ) (home : List Place) (fs : List Frame) (ps : List Place) (count : ℕ) →
     StartsIn (in_body fs) body → Placed fs ps → home_places fs ps ≡ home → 2 * (n * (1 + size_of body)) + frames_weight fs ≤ w →
-    Case clock t froms w home ps count (begins_passes n body fs ps)
-passes_case clock t froms zero body w home fs ps count b p h le = onward_case clock t froms _ _ fs ps None count p h (omega arith)
-passes_case clock t froms (suc k) body w home fs ps count b p h le =
+    Case clock t cancelled_from w home ps count (begins_passes n body fs ps)
+passes_case clock t cancelled_from zero body w home fs ps count b p h le = onward_case clock t cancelled_from _ _ fs ps None count p h (omega arith)
+passes_case clock t cancelled_from (suc k) body w home fs ps count b p h le =
     let e = suc-mul k (1 + size_of body) in
-    onward_case clock t froms _ _ (steps_left body ∷ in_repeat 0 k body ∷ fs) ps None count (b, (b, p)) h (omega arith)
+    onward_case clock t cancelled_from _ _ (steps_left body ∷ in_repeat 0 k body ∷ fs) ps None count (b, (b, p)) h (omega arith)
 
 -- a pass has ended
-pass_case : (clock : Clock) (t : ℕ) (froms : Table) (pass left : ℕ) (body : Steps) (fs : List Frame) (ps : List Place) (exc : Option Exc) (count : ℕ) →
+pass_case : (clock : Clock) (t : ℕ) (cancelled_from : Table) (pass left : ℕ) (body : Steps) (fs : List Frame) (ps : List Place) (exc : Option Exc) (count : ℕ) →
     StartsIn (in_body fs) body → Placed fs ps →
-    Case clock t froms (frames_weight (in_repeat pass left body ∷ fs)) (home_places fs ps) ps count (step_pass pass left body fs ps exc)
-pass_case clock t froms pass left body fs ps (Some e) count b p = onward_case clock t froms _ _ fs ps (Some e) count p refl (omega arith)
-pass_case clock t froms pass zero body fs ps None count b p = onward_case clock t froms _ _ fs ps None count p refl (omega arith)
-pass_case clock t froms pass (suc k) body fs ps None count b p =
+    Case clock t cancelled_from (frames_weight (in_repeat pass left body ∷ fs)) (home_places fs ps) ps count (step_pass pass left body fs ps exc)
+pass_case clock t cancelled_from pass left body fs ps (Some e) count b p = onward_case clock t cancelled_from _ _ fs ps (Some e) count p refl (omega arith)
+pass_case clock t cancelled_from pass zero body fs ps None count b p = onward_case clock t cancelled_from _ _ fs ps None count p refl (omega arith)
+pass_case clock t cancelled_from pass (suc k) body fs ps None count b p =
     let e = suc-mul k (1 + size_of body) in
-    onward_case clock t froms _ _ (steps_left body ∷ in_repeat (suc pass) k body ∷ fs) ps None count (b, (b, p)) refl (omega arith)
+    onward_case clock t cancelled_from _ _ (steps_left body ∷ in_repeat (suc pass) k body ∷ fs) ps None count (b, (b, p)) refl (omega arith)
 
 -- ---- each kind of step, and of frame
 
-step_case : (now : Now) (froms : Table) (here : Here) (s : Step) (ss : Steps) (fs : List Frame) (ps : List Place) (count : ℕ) →
+step_case : (now : Now) (cancelled_from : Table) (here : Here) (s : Step) (ss : Steps) (fs : List Frame) (ps : List Place) (count : ℕ) →
     StartsAt (in_body fs) s → StartsIn (in_body fs) ss → Placed fs ps →
-    Case here.clock now.at froms (frames_weight (steps_left (step s ss) ∷ fs)) (home_places fs ps) ps count (step_on froms now here s ss fs ps count)
-step_case now froms here (sleep n) ss fs ps count a b p = sleep_case here.clock now.at froms false n _ _ (steps_left ss ∷ fs) ps count (b, p) refl (omega arith)
-step_case now froms here checkpoint ss fs ps count a b p = sleep_case here.clock now.at froms false 0 _ _ (steps_left ss ∷ fs) ps count (b, p) refl (omega arith)
-step_case now froms here forever ss fs ps count a b p =
-    sleep_case here.clock now.at froms false (far - tick_of here.clock now.at) _ _ (steps_left ss ∷ fs) ps count (b, p) refl (omega arith)
-step_case now froms here (pace k) ss fs ps count a b p =
-    asks_case here.clock now.at froms ask.count (paces k) _ _ (steps_left ss ∷ fs) ps count tt (b, p) refl (omega arith)
-step_case now froms here (find text) ss fs ps count a b p =
-    asks_case here.clock now.at froms (ask.find text) shows _ _ (steps_left ss ∷ fs) ps count tt (b, p) refl (omega arith)
-step_case now froms here (head n) ss fs ps count a b p =
-    asks_case here.clock now.at froms (ask.head n) shows _ _ (steps_left ss ∷ fs) ps count tt (b, p) refl (omega arith)
-step_case now froms here longest ss fs ps count a b p =
-    asks_case here.clock now.at froms ask.longest shows _ _ (steps_left ss ∷ fs) ps count tt (b, p) refl (omega arith)
-step_case now froms here (need text name) ss fs ps count a b p =
-    asks_case here.clock now.at froms (ask.need text) (needs name) _ _ (steps_left ss ∷ fs) ps count tt (b, p) refl (omega arith)
-step_case now froms here (raise name) ss fs ps count a b p = onward_case here.clock now.at froms _ _ (steps_left ss ∷ fs) ps _ count (b, p) refl (omega arith)
-step_case now froms here (cancel name) ss fs ps count a b p =
-    signs_case here.clock now.at froms (label_among false name ps) _ _ (steps_left ss ∷ fs) ps count (found_among false name ps) (b, p) refl (omega arith)
-step_case now froms here (set_event name) ss fs ps count a b p =
-    signs_case here.clock now.at froms (label_among true name ps) _ _ (steps_left ss ∷ fs) ps count (found_among true name ps) (b, p) refl (omega arith)
-step_case now froms here (wait_for name) ss fs ps count a b p =
-    waits_case here.clock now.at froms name _ _ (steps_left ss ∷ fs) ps count (b, p) refl (omega arith)
-step_case now froms here (scope name d shield fail body) ss fs ps count a b p =
-    enter_case here.clock now.at froms (label_here name here) shield (due here.clock d now.at) body (in_scope fail) _ _ (steps_left ss ∷ fs) ps count (a, (refl, (b, p))) refl
+    Case here.clock now.at cancelled_from (frames_weight (steps_left (step s ss) ∷ fs)) (home_places fs ps) ps count (step_on cancelled_from now here s ss fs ps count)
+step_case now cancelled_from here (sleep n) ss fs ps count a b p = sleep_case here.clock now.at cancelled_from false n _ _ (steps_left ss ∷ fs) ps count (b, p) refl (omega arith)
+step_case now cancelled_from here checkpoint ss fs ps count a b p = sleep_case here.clock now.at cancelled_from false 0 _ _ (steps_left ss ∷ fs) ps count (b, p) refl (omega arith)
+step_case now cancelled_from here forever ss fs ps count a b p =
+    sleep_case here.clock now.at cancelled_from false (far - tick_of here.clock now.at) _ _ (steps_left ss ∷ fs) ps count (b, p) refl (omega arith)
+step_case now cancelled_from here (pace k) ss fs ps count a b p =
+    asks_case here.clock now.at cancelled_from ask.count (paces k) _ _ (steps_left ss ∷ fs) ps count tt (b, p) refl (omega arith)
+step_case now cancelled_from here (find text) ss fs ps count a b p =
+    asks_case here.clock now.at cancelled_from (ask.find text) shows _ _ (steps_left ss ∷ fs) ps count tt (b, p) refl (omega arith)
+step_case now cancelled_from here (head n) ss fs ps count a b p =
+    asks_case here.clock now.at cancelled_from (ask.head n) shows _ _ (steps_left ss ∷ fs) ps count tt (b, p) refl (omega arith)
+step_case now cancelled_from here longest ss fs ps count a b p =
+    asks_case here.clock now.at cancelled_from ask.longest shows _ _ (steps_left ss ∷ fs) ps count tt (b, p) refl (omega arith)
+step_case now cancelled_from here (need text name) ss fs ps count a b p =
+    asks_case here.clock now.at cancelled_from (ask.need text) (needs name) _ _ (steps_left ss ∷ fs) ps count tt (b, p) refl (omega arith)
+step_case now cancelled_from here (raise name) ss fs ps count a b p = onward_case here.clock now.at cancelled_from _ _ (steps_left ss ∷ fs) ps _ count (b, p) refl (omega arith)
+step_case now cancelled_from here (cancel name) ss fs ps count a b p =
+    signs_case here.clock now.at cancelled_from (label_among false name ps) _ _ (steps_left ss ∷ fs) ps count (found_among false name ps) (b, p) refl (omega arith)
+step_case now cancelled_from here (set_event name) ss fs ps count a b p =
+    signs_case here.clock now.at cancelled_from (label_among true name ps) _ _ (steps_left ss ∷ fs) ps count (found_among true name ps) (b, p) refl (omega arith)
+step_case now cancelled_from here (wait_for name) ss fs ps count a b p =
+    waits_case here.clock now.at cancelled_from name _ _ (steps_left ss ∷ fs) ps count (b, p) refl (omega arith)
+step_case now cancelled_from here (scope name d shield fail body) ss fs ps count a b p =
+    enter_case here.clock now.at cancelled_from (label_here name here) shield (due here.clock d now.at) body (in_scope fail) _ _ (steps_left ss ∷ fs) ps count (a, (refl, (b, p))) refl
     (omega arith)
-step_case now froms here (nursery name d shield body) ss fs ps count a b p =
-    enter_case here.clock now.at froms (label_here name here) shield (due here.clock d now.at) body (in_nursery []) _ _ (steps_left ss ∷ fs) ps count (a, (refl, (b, p))) refl
+step_case now cancelled_from here (nursery name d shield body) ss fs ps count a b p =
+    enter_case here.clock now.at cancelled_from (label_here name here) shield (due here.clock d now.at) body (in_nursery []) _ _ (steps_left ss ∷ fs) ps count (a, (refl, (b, p))) refl
     (omega arith)
-step_case now froms here (event name body) ss fs ps count a b p =
-    event_case here.clock now.at froms (label_here name here) body _ _ (steps_left ss ∷ fs) ps count a (b, p) refl (omega arith)
-step_case now froms here (start name over body) ss fs ps count a b p = start_case now froms here name over body ss fs ps count a.1 b p
-step_case now froms here (repeat n body) ss fs ps count a b p =
-    passes_case here.clock now.at froms n body _ _ (steps_left ss ∷ fs) ps count a (b, p) refl (omega arith)
-step_case now froms here (attempt body handler cleanup) ss fs ps count a b p =
-    onward_case here.clock now.at froms _ _ (steps_left body ∷ in_try handler cleanup ∷ steps_left ss ∷ fs) ps None count (a.0, (a.1, a.2, (b, p))) refl
+step_case now cancelled_from here (event name body) ss fs ps count a b p =
+    event_case here.clock now.at cancelled_from (label_here name here) body _ _ (steps_left ss ∷ fs) ps count a (b, p) refl (omega arith)
+step_case now cancelled_from here (start name over body) ss fs ps count a b p = start_case now cancelled_from here name over body ss fs ps count a.1 b p
+step_case now cancelled_from here (repeat n body) ss fs ps count a b p =
+    passes_case here.clock now.at cancelled_from n body _ _ (steps_left ss ∷ fs) ps count a (b, p) refl (omega arith)
+step_case now cancelled_from here (attempt body handler cleanup) ss fs ps count a b p =
+    onward_case here.clock now.at cancelled_from _ _ (steps_left body ∷ in_try handler cleanup ∷ steps_left ss ∷ fs) ps None count (a.0, (a.1, a.2, (b, p))) refl
     (omega arith)
 
-steps_case : (now : Now) (froms : Table) (here : Here) (ss : Steps) (fs : List Frame) (ps : List Place) (exc : Option Exc) (count : ℕ) →
-    StartsIn (in_body fs) ss → Placed fs ps → Case here.clock now.at froms (frames_weight (steps_left ss ∷ fs)) (home_places fs ps) ps count
-    (step_steps froms now here ss fs ps exc count)
-steps_case now froms here ss fs ps (Some e) count b p = onward_case here.clock now.at froms _ _ fs ps (Some e) count p refl (omega arith)
-steps_case now froms here stop fs ps None count b p = onward_case here.clock now.at froms _ _ fs ps None count p refl (omega arith)
-steps_case now froms here (step s ss) fs ps None count b p = step_case now froms (inside fs here) s ss fs ps count b.0 b.1 p
+steps_case : (now : Now) (cancelled_from : Table) (here : Here) (ss : Steps) (fs : List Frame) (ps : List Place) (exc : Option Exc) (count : ℕ) →
+    StartsIn (in_body fs) ss → Placed fs ps → Case here.clock now.at cancelled_from (frames_weight (steps_left ss ∷ fs)) (home_places fs ps) ps count
+    (step_steps cancelled_from now here ss fs ps exc count)
+steps_case now cancelled_from here ss fs ps (Some e) count b p = onward_case here.clock now.at cancelled_from _ _ fs ps (Some e) count p refl (omega arith)
+steps_case now cancelled_from here stop fs ps None count b p = onward_case here.clock now.at cancelled_from _ _ fs ps None count p refl (omega arith)
+steps_case now cancelled_from here (step s ss) fs ps None count b p = step_case now cancelled_from (inside fs here) s ss fs ps count b.0 b.1 p
 
-try_case : (clock : Clock) (t : ℕ) (froms : Table) (handler : Handled) (cleanup : Cleaned) (fs : List Frame) (ps : List Place) (exc : Option Exc)
+try_case : (clock : Clock) (t : ℕ) (cancelled_from : Table) (handler : Handled) (cleanup : Cleaned) (fs : List Frame) (ps : List Place) (exc : Option Exc)
     (count : ℕ) →
     HandlerStarts handler → CleanupStarts cleanup → Placed fs ps →
-    Case clock t froms (frames_weight (in_try handler cleanup ∷ fs)) (home_places fs ps) ps count (step_try handler cleanup fs ps exc)
-try_case clock t froms unhandled uncleaned fs ps exc count a b p = onward_case clock t froms _ _ fs ps exc count p refl (omega arith)
-try_case clock t froms unhandled (finally body) fs ps exc count a b p =
-    onward_case clock t froms _ _ (steps_left body ∷ in_cleanup exc ∷ fs) ps None count (b, p) refl (omega arith)
-try_case clock t froms (except name body) cleanup fs ps None count a b p =
-    onward_case clock t froms _ _ (in_try unhandled cleanup ∷ fs) ps None count (tt, b, p) refl (omega arith)
-try_case clock t froms (except name body) cleanup fs ps (Some e) count a b p = by_match (keep (named name) e)
+    Case clock t cancelled_from (frames_weight (in_try handler cleanup ∷ fs)) (home_places fs ps) ps count (step_try handler cleanup fs ps exc)
+try_case clock t cancelled_from unhandled uncleaned fs ps exc count a b p = onward_case clock t cancelled_from _ _ fs ps exc count p refl (omega arith)
+try_case clock t cancelled_from unhandled (finally body) fs ps exc count a b p =
+    onward_case clock t cancelled_from _ _ (steps_left body ∷ in_cleanup exc ∷ fs) ps None count (b, p) refl (omega arith)
+try_case clock t cancelled_from (except name body) cleanup fs ps None count a b p =
+    onward_case clock t cancelled_from _ _ (in_try unhandled cleanup ∷ fs) ps None count (tt, b, p) refl (omega arith)
+try_case clock t cancelled_from (except name body) cleanup fs ps (Some e) count a b p = by_match (keep (named name) e)
   where
-    by_match : (o : Option Exc) → Case clock t froms (frames_weight (in_try (except name body) cleanup ∷ fs)) (home_places fs ps) ps count
+    by_match : (o : Option Exc) → Case clock t cancelled_from (frames_weight (in_try (except name body) cleanup ∷ fs)) (home_places fs ps) ps count
         (handler_if o (drop (named name) e) e body cleanup fs ps)
-    by_match None = onward_case clock t froms _ _ (in_try unhandled cleanup ∷ fs) ps (Some e) count (tt, b, p) refl (omega arith)
-    by_match (Some x) = onward_case clock t froms _ _ (steps_left body ∷ in_handler (drop (named name) e) cleanup ∷ fs) ps None count (a, (b, p))
+    by_match None = onward_case clock t cancelled_from _ _ (in_try unhandled cleanup ∷ fs) ps (Some e) count (tt, b, p) refl (omega arith)
+    by_match (Some x) = onward_case clock t cancelled_from _ _ (steps_left body ∷ in_handler (drop (named name) e) cleanup ∷ fs) ps None count (a, (b, p))
         refl (omega arith)
 
-frames_case : (now : Now) (froms : Table) (here : Here) (fs : List Frame) (ps : List Place) (exc : Option Exc) (count : ℕ) → Placed fs ps →
-    Case here.clock now.at froms (frames_weight fs) (home_places fs ps) ps count (step_frames froms now here fs ps exc count)
-frames_case now froms here [] ps exc count p =
+frames_case : (now : Now) (cancelled_from : Table) (here : Here) (fs : List Frame) (ps : List Place) (exc : Option Exc) (count : ℕ) → Placed fs ps →
+    Case here.clock now.at cancelled_from (frames_weight fs) (home_places fs ps) ps count (step_frames cancelled_from now here fs ps exc count)
+frames_case now cancelled_from here [] ps exc count p =
     record {
       placed = refl;
       at_home = refl;
@@ -513,14 +513,14 @@ frames_case now froms here [] ps exc count p =
       stops = refl;
       weight = omega arith;
     }
-frames_case now froms here (steps_left ss ∷ fs) ps exc count p = steps_case now froms here ss fs ps exc count p.0 p.1
-frames_case now froms here (in_scope fail ∷ fs) [] exc count p = absurd p
-frames_case now froms here (in_scope fail ∷ fs) (q ∷ ps) exc count p =
-    leaves_case here.clock now froms (a_scope fail) _ _ fs q ps exc count p.1 refl (omega arith)
-frames_case now froms here (in_event ∷ fs) [] exc count p = absurd p
-frames_case now froms here (in_event ∷ fs) (q ∷ ps) exc count p = event_left_case here.clock now.at froms fs q ps exc count p.1
-frames_case now froms here (in_nursery children ∷ fs) [] exc count p = absurd p
-frames_case now froms here (in_nursery children ∷ fs) (q ∷ ps) exc count p =
+frames_case now cancelled_from here (steps_left ss ∷ fs) ps exc count p = steps_case now cancelled_from here ss fs ps exc count p.0 p.1
+frames_case now cancelled_from here (in_scope fail ∷ fs) [] exc count p = absurd p
+frames_case now cancelled_from here (in_scope fail ∷ fs) (q ∷ ps) exc count p =
+    leaves_case here.clock now cancelled_from (a_scope fail) _ _ fs q ps exc count p.1 refl (omega arith)
+frames_case now cancelled_from here (in_event ∷ fs) [] exc count p = absurd p
+frames_case now cancelled_from here (in_event ∷ fs) (q ∷ ps) exc count p = event_left_case here.clock now.at cancelled_from fs q ps exc count p.1
+frames_case now cancelled_from here (in_nursery children ∷ fs) [] exc count p = absurd p
+frames_case now cancelled_from here (in_nursery children ∷ fs) (q ∷ ps) exc count p =
     record {
       placed = p;
       at_home = refl;
@@ -532,14 +532,14 @@ frames_case now froms here (in_nursery children ∷ fs) (q ∷ ps) exc count p =
       stops = refl;
       weight = omega arith;
     }
-frames_case now froms here (in_repeat pass left body ∷ fs) ps exc count p = pass_case here.clock now.at froms pass left body fs ps exc count p.0 p.1
-frames_case now froms here (in_try handler cleanup ∷ fs) ps exc count p = try_case here.clock now.at froms handler cleanup fs ps exc count p.0 p.1 p.2
-frames_case now froms here (in_handler rest cleanup ∷ fs) ps exc count p =
-    onward_case here.clock now.at froms _ _ (in_try unhandled cleanup ∷ fs) ps _ count (tt, p.0, p.1) refl (omega arith)
-frames_case now froms here (in_cleanup outcome ∷ fs) ps exc count p = onward_case here.clock now.at froms _ _ fs ps _ count p refl (omega arith)
+frames_case now cancelled_from here (in_repeat pass left body ∷ fs) ps exc count p = pass_case here.clock now.at cancelled_from pass left body fs ps exc count p.0 p.1
+frames_case now cancelled_from here (in_try handler cleanup ∷ fs) ps exc count p = try_case here.clock now.at cancelled_from handler cleanup fs ps exc count p.0 p.1 p.2
+frames_case now cancelled_from here (in_handler rest cleanup ∷ fs) ps exc count p =
+    onward_case here.clock now.at cancelled_from _ _ (in_try unhandled cleanup ∷ fs) ps _ count (tt, p.0, p.1) refl (omega arith)
+frames_case now cancelled_from here (in_cleanup outcome ∷ fs) ps exc count p = onward_case here.clock now.at cancelled_from _ _ fs ps _ count p refl (omega arith)
 
 -- one step of a turn
-pub step_cases : (now : Now) (froms : Table) (here : Here) (m : Midway) → Placed m.frames m.places →
-    Case here.clock now.at froms (frames_weight m.frames) (home_places m.frames m.places) m.places m.count (step_of froms now here m)
+pub step_cases : (now : Now) (cancelled_from : Table) (here : Here) (m : Midway) → Placed m.frames m.places →
+    Case here.clock now.at cancelled_from (frames_weight m.frames) (home_places m.frames m.places) m.places m.count (step_of cancelled_from now here m)
 unfolding step_of
-step_cases now froms here m p = frames_case now froms here m.frames m.places m.exc m.count p
+step_cases now cancelled_from here m p = frames_case now cancelled_from here m.frames m.places m.exc m.count p

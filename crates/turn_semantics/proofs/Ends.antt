@@ -11,7 +11,7 @@ use Rattle.job_meaning.specs.declared.clock.Clock.TheVariants.{ByTicks as by_tic
 use Rattle.job_meaning.specs.Walk.{Here}
 use Rattle.job_meaning.specs.Rest.{Frame, steps_left, in_scope, in_event, in_nursery, in_repeat, in_try, in_handler, in_cleanup, inside, consecutive, Stopped}
 use Rattle.turn_semantics.specs.Midway.{Place, label_among, stack_at, Midway, Move, after_move, then_move, now_after}
-use Rattle.turn_semantics.specs.Steps.{sleeps, falls_asleep, waits_on, with_started, handler_if, step_try, step_on, step_steps, step_frames, step_of, froms_after, turn_of, begins_passes, step_pass}
+use Rattle.turn_semantics.specs.Steps.{sleeps, falls_asleep, waits_on, with_started, handler_if, step_try, step_on, step_steps, step_frames, step_of, cancelled_from_after, turn_of, begins_passes, step_pass}
 use Rattle.turn_semantics.specs.Wakes.{Wake, wake_of, turn_from}
 use Rattle.turn_semantics.specs.Placed.{IsSome}
 use Rattle.turn_semantics.specs.Bound.{turn_length, frames_length}
@@ -41,10 +41,10 @@ length_started more (in_try handler cleanup ∷ fs) = refl
 length_started more (in_handler rest cleanup ∷ fs) = refl
 length_started more (in_cleanup outcome ∷ fs) = refl
 
-module _ (now : Now) (froms : Table) (here : Here) where
+module _ (now : Now) (cancelled_from : Table) (here : Here) where
   shrinks_sleeps : (clock : Clock) (n t before : ℕ) (fs : List Frame) (ps : List Place) → frames_length fs < before →
-      MoveShrinks before (sleeps clock froms false n t fs ps)
-  shrinks_sleeps clock n t before fs ps lt = by_clock clock (seen (stack_at froms ps).scopes t) n
+      MoveShrinks before (sleeps clock cancelled_from false n t fs ps)
+  shrinks_sleeps clock n t before fs ps lt = by_clock clock (seen (stack_at cancelled_from ps).scopes t) n
     where
       by_clock : (clock : Clock) (b : Bool) (n : ℕ) → MoveShrinks before (falls_asleep clock b false n t fs ps)
       by_clock by_ticks true n = lt
@@ -69,7 +69,7 @@ module _ (now : Now) (froms : Table) (here : Here) where
   shrinks_pass pass (suc k) body fs ps None = let e = suc-mul k (1 + turn_length body) in omega arith
 
   shrinks_step : (at : Here) (s : Step) (ss : Steps) (fs : List Frame) (ps : List Place) (count : ℕ) →
-      MoveShrinks (frames_length (steps_left (step s ss) ∷ fs)) (step_on froms now at s ss fs ps count)
+      MoveShrinks (frames_length (steps_left (step s ss) ∷ fs)) (step_on cancelled_from now at s ss fs ps count)
   shrinks_step at (sleep n) ss fs ps count = shrinks_sleeps at.clock n now.at _ (steps_left ss ∷ fs) ps (omega arith)
   shrinks_step at checkpoint ss fs ps count = shrinks_sleeps at.clock 0 now.at _ (steps_left ss ∷ fs) ps (omega arith)
   shrinks_step at forever ss fs ps count = shrinks_sleeps at.clock (far - tick_of at.clock now.at) now.at _ (steps_left ss ∷ fs) ps (omega arith)
@@ -91,7 +91,7 @@ module _ (now : Now) (froms : Table) (here : Here) where
   shrinks_step at (attempt body handler cleanup) ss fs ps count = omega arith
 
   shrinks_steps : (ss : Steps) (fs : List Frame) (ps : List Place) (exc : Option Exc) (count : ℕ) →
-      MoveShrinks (frames_length (steps_left ss ∷ fs)) (step_steps froms now here ss fs ps exc count)
+      MoveShrinks (frames_length (steps_left ss ∷ fs)) (step_steps cancelled_from now here ss fs ps exc count)
   shrinks_steps ss fs ps (Some e) count = let h = steps_positive ss in omega arith
   shrinks_steps stop fs ps None count = omega arith
   shrinks_steps (step s ss) fs ps None count = shrinks_step (inside fs here) s ss fs ps count
@@ -109,7 +109,7 @@ module _ (now : Now) (froms : Table) (here : Here) where
       by_match (Some x) = omega arith
 
   shrinks_frames : (fs : List Frame) (ps : List Place) (exc : Option Exc) (count : ℕ) →
-      MoveShrinks (frames_length fs) (step_frames froms now here fs ps exc count)
+      MoveShrinks (frames_length fs) (step_frames cancelled_from now here fs ps exc count)
   shrinks_frames [] ps exc count = tt
   shrinks_frames (steps_left ss ∷ fs) ps exc count = shrinks_steps ss fs ps exc count
   shrinks_frames (in_scope fail ∷ fs) [] exc count = omega arith
@@ -124,40 +124,40 @@ module _ (now : Now) (froms : Table) (here : Here) where
   shrinks_frames (in_cleanup outcome ∷ fs) ps exc count = omega arith
 
 -- a step that does not stop leaves fewer
-pub step_shrinks : (now : Now) (froms : Table) (here : Here) (m : Midway) → MoveShrinks (frames_length m.frames) (step_of froms now here m)
+pub step_shrinks : (now : Now) (cancelled_from : Table) (here : Here) (m : Midway) → MoveShrinks (frames_length m.frames) (step_of cancelled_from now here m)
 unfolding step_of
-step_shrinks now froms here m = shrinks_frames now froms here m.frames m.places m.exc m.count
+step_shrinks now cancelled_from here m = shrinks_frames now cancelled_from here m.frames m.places m.exc m.count
 
 -- so a turn of more steps than are left has stopped
-pub turn_ends : (n : ℕ) (now : Now) (froms : Table) (here : Here) (m : Midway) → frames_length m.frames < n →
-    IsSome (turn_of n froms now here m).stopped
+pub turn_ends : (n : ℕ) (now : Now) (cancelled_from : Table) (here : Here) (m : Midway) → frames_length m.frames < n →
+    IsSome (turn_of n cancelled_from now here m).stopped
 unfolding turn_of
-turn_ends zero now froms here m lt = absurd (omega arith)
-turn_ends (suc n) now froms here m lt =
-    by_stop (step_of froms now here m).stopped refl (step_shrinks now froms here m)
-    (λ le. turn_ends n (now_after here.clock now (step_of froms now here m).made) (froms_after froms (step_of froms now here m).made) here (after_move m (step_of froms now here m)) le)
+turn_ends zero now cancelled_from here m lt = absurd (omega arith)
+turn_ends (suc n) now cancelled_from here m lt =
+    by_stop (step_of cancelled_from now here m).stopped refl (step_shrinks now cancelled_from here m)
+    (λ le. turn_ends n (now_after here.clock now (step_of cancelled_from now here m).made) (cancelled_from_after cancelled_from (step_of cancelled_from now here m).made) here (after_move m (step_of cancelled_from now here m)) le)
   where
     q : Move
-    q = turn_of n (froms_after froms (step_of froms now here m).made) (now_after here.clock now (step_of froms now here m).made) here (after_move m (step_of froms now here m))
+    q = turn_of n (cancelled_from_after cancelled_from (step_of cancelled_from now here m).made) (now_after here.clock now (step_of cancelled_from now here m).made) here (after_move m (step_of cancelled_from now here m))
 
-    by_stop : (s : Option Stopped) → (step_of froms now here m).stopped ≡ s →
-        Shrinks s (frames_length (step_of froms now here m).frames) (frames_length m.frames) →
-        (frames_length (step_of froms now here m).frames < n → IsSome q.stopped) → IsSome (then_move s (step_of froms now here m) q).stopped
+    by_stop : (s : Option Stopped) → (step_of cancelled_from now here m).stopped ≡ s →
+        Shrinks s (frames_length (step_of cancelled_from now here m).frames) (frames_length m.frames) →
+        (frames_length (step_of cancelled_from now here m).frames < n → IsSome q.stopped) → IsSome (then_move s (step_of cancelled_from now here m) q).stopped
     by_stop (Some s) e h go = subst (λ (z : Option Stopped). IsSome z) (sym e) tt
     by_stop None e h go = go (omega arith)
 
 -- and so has a whole turn, with its wake
-pub turn_from_ends : (n : ℕ) (now : Now) (froms : Table) (here : Here) (w : Wake) (s : Stopped) (fs : List Frame) (ps : List Place) (count : ℕ) →
-    frames_length (wake_of froms now here w s fs ps).frames < n → IsSome (turn_from n froms now here w s fs ps count).stopped
+pub turn_from_ends : (n : ℕ) (now : Now) (cancelled_from : Table) (here : Here) (w : Wake) (s : Stopped) (fs : List Frame) (ps : List Place) (count : ℕ) →
+    frames_length (wake_of cancelled_from now here w s fs ps).frames < n → IsSome (turn_from n cancelled_from now here w s fs ps count).stopped
 unfolding turn_from
-turn_from_ends n now froms here w s fs ps count lt = by_stop (wake_of froms now here w s fs ps).stopped refl
+turn_from_ends n now cancelled_from here w s fs ps count lt = by_stop (wake_of cancelled_from now here w s fs ps).stopped refl
   where
     o : Move
-    o = wake_of froms now here w s fs ps
+    o = wake_of cancelled_from now here w s fs ps
 
     m : Midway
     m = record { frames = o.frames; places = o.places; exc = o.exc; count = count + length o.begun }
 
-    by_stop : (z : Option Stopped) → o.stopped ≡ z → IsSome (then_move z o (turn_of n (froms_after froms o.made) (now_after here.clock now o.made) here m)).stopped
+    by_stop : (z : Option Stopped) → o.stopped ≡ z → IsSome (then_move z o (turn_of n (cancelled_from_after cancelled_from o.made) (now_after here.clock now o.made) here m)).stopped
     by_stop (Some x) e = subst (λ (z : Option Stopped). IsSome z) (sym e) tt
-    by_stop None e = turn_ends n (now_after here.clock now o.made) (froms_after froms o.made) here m lt
+    by_stop None e = turn_ends n (now_after here.clock now o.made) (cancelled_from_after cancelled_from o.made) here m lt

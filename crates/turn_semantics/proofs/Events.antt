@@ -1,4 +1,4 @@
--- What events that are made one after another mean, and how the froms change by them.
+-- What events that are made one after another mean, and how the moments of cancellation change by them.
 use Rattle.std.proofs.Common.{◌≡◌, inl, inr, ℕ, suc, ◌+◌, Some, List, [], ◌∷◌, ◌++◌, length, refl, sym, ◌∙◌, subst, arith}
 use Rattle.turn_semantics.specs.Lists.{IsAmong}
 use Rattle.exceptions.specs.Exceptions.{Label}
@@ -8,7 +8,7 @@ use Rattle.job_meaning.specs.declared.clock.Clock.TheVariants.{ByTicks as by_tic
 use Rattle.job_meaning.specs.Walk.{with_own}
 use Rattle.job_meaning.specs.Rest.{Event, noted, signs, enters, starts, ChildOutcomes, fill}
 use Rattle.turn_semantics.specs.Midway.{Place, Begun, own_after, OwnFits}
-use Rattle.turn_semantics.specs.Steps.{froms_after_sign, froms_after_entry, froms_after}
+use Rattle.turn_semantics.specs.Steps.{cancelled_from_after_sign, cancelled_from_after_entry, cancelled_from_after}
 use Rattle.turn_semantics.specs.Turned.{AgreesOn, AgreesIn, labels_of, AllKnown, known_after, MadeAt, Starts, BegunIn, AllBy, weight_of_begun}
 use Rattle.turn_semantics.proofs.Agreeing.{SameFrom, agrees_lowered, agrees_opened, agrees_own}
 
@@ -151,52 +151,52 @@ pub weight_append : (bs cs : List Begun) → weight_of_begun (bs ++ cs) ≡ weig
 weight_append [] cs = omega arith
 weight_append (b ∷ bs) cs = let e = weight_append bs cs in omega arith
 
--- ---- froms
+-- ---- moments of cancellation
 
--- the froms after events, and more of them
-pub froms_append : (es fs : List Event) (froms : Table) → froms_after froms (es ++ fs) ≡ froms_after (froms_after froms es) fs
-froms_append [] fs froms = refl
-froms_append (noted t e ∷ es) fs froms = froms_append es fs froms
-froms_append (signs l t ∷ es) fs froms = froms_append es fs (froms_after_sign froms l t)
-froms_append (enters l t d ∷ es) fs froms = froms_append es fs (froms_after_entry froms l d)
-froms_append (starts i l t ∷ es) fs froms = froms_append es fs froms
+-- the moments of cancellation after events, and more of them
+pub cancelled_from_append : (es fs : List Event) (cancelled_from : Table) → cancelled_from_after cancelled_from (es ++ fs) ≡ cancelled_from_after (cancelled_from_after cancelled_from es) fs
+cancelled_from_append [] fs cancelled_from = refl
+cancelled_from_append (noted t e ∷ es) fs cancelled_from = cancelled_from_append es fs cancelled_from
+cancelled_from_append (signs l t ∷ es) fs cancelled_from = cancelled_from_append es fs (cancelled_from_after_sign cancelled_from l t)
+cancelled_from_append (enters l t d ∷ es) fs cancelled_from = cancelled_from_append es fs (cancelled_from_after_entry cancelled_from l d)
+cancelled_from_append (starts i l t ∷ es) fs cancelled_from = cancelled_from_append es fs cancelled_from
 
--- A table that agrees at t with the froms of known labels, and with the deadlines of those entered, agrees after the
--- events too: a sign made at t acts from the next moment on.
-pub known_agree : (clock : Clock) (t : ℕ) (table : Table) (told : ChildOutcomes) (es : List Event) (ls : List Label) (froms : Table) → MadeAt clock t ls es →
-    AgreesIn t table (fill told es) →
-    ((l : Label) → IsAmong l ls → SameFrom t table froms l) → (l : Label) → IsAmong l (known_after ls es) →
-    SameFrom t table (froms_after froms es) l
-known_agree clock t table told [] ls froms a b h l k = h l k
-known_agree clock t table told (noted u e ∷ es) ls froms a b h l k = known_agree clock t table told es ls froms a.1 b h l k
-known_agree clock t table told (signs m u ∷ es) ls froms a b h l k =
-    known_agree clock t table told es ls (froms_after_sign froms m u) a.2 b
-    (λ x i. subst (λ (v : ℕ). SameFrom t table (froms_after_sign froms m v) x) (sym a.0) (agrees_lowered t table froms m x (h x i))) l k
-known_agree clock t table told (enters m u d ∷ es) ls froms a b h l k = known_agree clock t table told es (m ∷ ls) (froms_after_entry froms m d) a.1 b.1 grown l k
+-- A table that agrees at t with the moments of cancellation of known labels, and with the deadlines of those entered, agrees
+-- after the events too: a sign made at t acts from the next moment on.
+pub known_agree : (clock : Clock) (t : ℕ) (table : Table) (outcomes : ChildOutcomes) (es : List Event) (ls : List Label) (cancelled_from : Table) → MadeAt clock t ls es →
+    AgreesIn t table (fill outcomes es) →
+    ((l : Label) → IsAmong l ls → SameFrom t table cancelled_from l) → (l : Label) → IsAmong l (known_after ls es) →
+    SameFrom t table (cancelled_from_after cancelled_from es) l
+known_agree clock t table outcomes [] ls cancelled_from a b h l k = h l k
+known_agree clock t table outcomes (noted u e ∷ es) ls cancelled_from a b h l k = known_agree clock t table outcomes es ls cancelled_from a.1 b h l k
+known_agree clock t table outcomes (signs m u ∷ es) ls cancelled_from a b h l k =
+    known_agree clock t table outcomes es ls (cancelled_from_after_sign cancelled_from m u) a.2 b
+    (λ x i. subst (λ (v : ℕ). SameFrom t table (cancelled_from_after_sign cancelled_from m v) x) (sym a.0) (agrees_lowered t table cancelled_from m x (h x i))) l k
+known_agree clock t table outcomes (enters m u d ∷ es) ls cancelled_from a b h l k = known_agree clock t table outcomes es (m ∷ ls) (cancelled_from_after_entry cancelled_from m d) a.1 b.1 grown l k
   where
-    grown : (x : Label) → IsAmong x (m ∷ ls) → SameFrom t table (froms_after_entry froms m d) x
-    grown x (inl e) = subst (λ (y : Label). SameFrom t table (froms_after_entry froms m d) y) (sym e) (agrees_own t table froms m d b.0)
-    grown x (inr i) = agrees_opened t table froms m d x b.0 (h x i)
-known_agree clock t table told (starts i m u ∷ es) ls froms a b h l k = known_agree clock t table told es ls froms a.1 b h l k
+    grown : (x : Label) → IsAmong x (m ∷ ls) → SameFrom t table (cancelled_from_after_entry cancelled_from m d) x
+    grown x (inl e) = subst (λ (y : Label). SameFrom t table (cancelled_from_after_entry cancelled_from m d) y) (sym e) (agrees_own t table cancelled_from m d b.0)
+    grown x (inr i) = agrees_opened t table cancelled_from m d x b.0 (h x i)
+known_agree clock t table outcomes (starts i m u ∷ es) ls cancelled_from a b h l k = known_agree clock t table outcomes es ls cancelled_from a.1 b h l k
 
 -- if tables agree on enclosing scopes and nurseries, they agree on each of their labels
-pub on_places : (t : ℕ) (table froms : Table) (ps : List Place) → AgreesOn t table froms ps → (l : Label) → IsAmong l (labels_of ps) →
-    SameFrom t table froms l
-on_places t table froms [] a l k = absurd k
-on_places t table froms (p ∷ ps) a l (inl e) = subst (λ (x : Label). SameFrom t table froms x) (sym e) a.0
-on_places t table froms (p ∷ ps) a l (inr k) = on_places t table froms ps a.1 l k
+pub on_places : (t : ℕ) (table cancelled_from : Table) (ps : List Place) → AgreesOn t table cancelled_from ps → (l : Label) → IsAmong l (labels_of ps) →
+    SameFrom t table cancelled_from l
+on_places t table cancelled_from [] a l k = absurd k
+on_places t table cancelled_from (p ∷ ps) a l (inl e) = subst (λ (x : Label). SameFrom t table cancelled_from x) (sym e) a.0
+on_places t table cancelled_from (p ∷ ps) a l (inr k) = on_places t table cancelled_from ps a.1 l k
 
 -- and if they agree on known labels, they agree on enclosing scopes and nurseries that are known
-pub by_known : (t : ℕ) (table froms : Table) (ls : List Label) → ((l : Label) → IsAmong l ls → SameFrom t table froms l) → (ps : List Place) →
-    AllKnown ps ls → AgreesOn t table froms ps
-by_known t table froms ls h [] a = tt
-by_known t table froms ls h (p ∷ ps) a = (h p.label a.0, by_known t table froms ls h ps a.1)
+pub by_known : (t : ℕ) (table cancelled_from : Table) (ls : List Label) → ((l : Label) → IsAmong l ls → SameFrom t table cancelled_from l) → (ps : List Place) →
+    AllKnown ps ls → AgreesOn t table cancelled_from ps
+by_known t table cancelled_from ls h [] a = tt
+by_known t table cancelled_from ls h (p ∷ ps) a = (h p.label a.0, by_known t table cancelled_from ls h ps a.1)
 
--- so a table agrees with the froms after the events, on enclosing scopes and nurseries that were there before or
--- were entered
-pub agrees_after : (clock : Clock) (t : ℕ) (table : Table) (told : ChildOutcomes) (es : List Event) (ps qs : List Place) (froms : Table) →
+-- so a table agrees with the moments of cancellation after the events, on enclosing scopes and nurseries that were there before
+-- or were entered
+pub agrees_after : (clock : Clock) (t : ℕ) (table : Table) (outcomes : ChildOutcomes) (es : List Event) (ps qs : List Place) (cancelled_from : Table) →
     MadeAt clock t (labels_of ps) es → AllKnown qs (known_after (labels_of ps) es) →
-    AgreesOn t table froms ps → AgreesIn t table (fill told es) → AgreesOn t table (froms_after froms es) qs
-agrees_after clock t table told es ps qs froms a k h b =
-    by_known t table (froms_after froms es) (known_after (labels_of ps) es)
-    (known_agree clock t table told es (labels_of ps) froms a b (on_places t table froms ps h)) qs k
+    AgreesOn t table cancelled_from ps → AgreesIn t table (fill outcomes es) → AgreesOn t table (cancelled_from_after cancelled_from es) qs
+agrees_after clock t table outcomes es ps qs cancelled_from a k h b =
+    by_known t table (cancelled_from_after cancelled_from es) (known_after (labels_of ps) es)
+    (known_agree clock t table outcomes es (labels_of ps) cancelled_from a b (on_places t table cancelled_from ps h)) qs k

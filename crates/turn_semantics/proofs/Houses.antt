@@ -57,13 +57,13 @@ housed_on fs ps s gs qs h (b ∷ bs) a = (h b.number b.places (has_going b.numbe
 
 -- ---- each step
 
-module _ (now : Now) (froms : Table) (here : Here) (i : ℕ) (home : List Place) where
+module _ (now : Now) (cancelled_from : Table) (here : Here) (i : ℕ) (home : List Place) where
   -- the task has the child after a move
   abbrev pub Stays : Move → Type 0
   Stays o = HasChildAfter i home o.stopped o.frames o.places
 
-  stays_sleeps : (clock : Clock) (paced : Bool) (n t : ℕ) (fs : List Frame) (ps : List Place) → HasChild i home fs ps → Stays (sleeps clock froms paced n t fs ps)
-  stays_sleeps clock paced n t fs ps h = by_clock clock (seen (stack_at froms ps).scopes t) n
+  stays_sleeps : (clock : Clock) (paced : Bool) (n t : ℕ) (fs : List Frame) (ps : List Place) → HasChild i home fs ps → Stays (sleeps clock cancelled_from paced n t fs ps)
+  stays_sleeps clock paced n t fs ps h = by_clock clock (seen (stack_at cancelled_from ps).scopes t) n
     where
       by_clock : (clock : Clock) (b : Bool) (n : ℕ) → Stays (falls_asleep clock b paced n t fs ps)
       by_clock by_ticks true n = inr h
@@ -100,7 +100,7 @@ module _ (now : Now) (froms : Table) (here : Here) (i : ℕ) (home : List Place)
   stays_pass pass (suc m) body fs ps None h = inr h
 
   stays_step : (at : Here) (s : Step) (ss : Steps) (fs : List Frame) (ps : List Place) (n : ℕ) → HasChild i home fs ps →
-      Stays (step_on froms now at s ss fs ps n)
+      Stays (step_on cancelled_from now at s ss fs ps n)
   stays_step at (sleep m) ss fs ps n h = stays_sleeps at.clock false m now.at (steps_left ss ∷ fs) ps h
   stays_step at checkpoint ss fs ps n h = stays_sleeps at.clock false 0 now.at (steps_left ss ∷ fs) ps h
   stays_step at forever ss fs ps n h = stays_sleeps at.clock false (far - tick_of at.clock now.at) now.at (steps_left ss ∷ fs) ps h
@@ -122,7 +122,7 @@ module _ (now : Now) (froms : Table) (here : Here) (i : ℕ) (home : List Place)
   stays_step at (attempt body handler cleanup) ss fs ps n h = inr h
 
   stays_steps : (ss : Steps) (fs : List Frame) (ps : List Place) (exc : Option Exc) (n : ℕ) → HasChild i home fs ps →
-      Stays (step_steps froms now here ss fs ps exc n)
+      Stays (step_steps cancelled_from now here ss fs ps exc n)
   stays_steps ss fs ps (Some e) n h = inr h
   stays_steps stop fs ps None n h = inr h
   stays_steps (step s ss) fs ps None n h = stays_step (inside fs here) s ss fs ps n h
@@ -139,7 +139,7 @@ module _ (now : Now) (froms : Table) (here : Here) (i : ℕ) (home : List Place)
       by_match (Some x) = inr h
 
   stays_frames : (fs : List Frame) (ps : List Place) (exc : Option Exc) (n : ℕ) → Placed fs ps → HasChild i home fs ps →
-      Stays (step_frames froms now here fs ps exc n)
+      Stays (step_frames cancelled_from now here fs ps exc n)
   stays_frames [] ps exc n p h = inr h
   stays_frames (steps_left ss ∷ fs) ps exc n p h = stays_steps ss fs ps exc n h
   stays_frames (in_scope fail ∷ fs) [] exc n p h = absurd p
@@ -155,12 +155,12 @@ module _ (now : Now) (froms : Table) (here : Here) (i : ℕ) (home : List Place)
   stays_frames (in_cleanup outcome ∷ fs) ps exc n p h = inr h
 
   -- one step
-  pub step_stays : (m : Midway) → Placed m.frames m.places → HasChild i home m.frames m.places → Stays (step_of froms now here m)
+  pub step_stays : (m : Midway) → Placed m.frames m.places → HasChild i home m.frames m.places → Stays (step_of cancelled_from now here m)
   unfolding step_of
   step_stays m p h = stays_frames m.frames m.places m.exc m.count p h
 
   stays_answered : (a : Answer) (purpose : Purpose) (fs : List Frame) (ps : List Place) → HasChild i home fs ps →
-      Stays (goes_on_with froms now.at here a purpose fs ps)
+      Stays (goes_on_with cancelled_from now.at here a purpose fs ps)
   stays_answered (lines ls) purpose fs ps h = inr h
   stays_answered missing (needs name) fs ps h = inr h
   stays_answered missing shows fs ps h = inr h
@@ -180,15 +180,15 @@ module _ (now : Now) (froms : Table) (here : Here) (i : ℕ) (home : List Place)
   -- a wake
   pub wake_stays : {w : Wake} {s : Stopped} → CanWake w s → (fs : List Frame) (ps : List Place) →
       HasChild i home fs (outer_places (Some s) ps) →
-      Stays (wake_of froms now here w s fs ps)
+      Stays (wake_of cancelled_from now here w s fs ps)
   wake_stays from_start fs ps h = inr h
   wake_stays (from_asking {a} {kernel} {purpose}) fs ps h = stays_answered a purpose fs ps h
   wake_stays (from_sleep {paced = false} {n = zero} {since}) fs ps h = inr h
   wake_stays (from_sleep {paced = false} {n = suc n} {since}) fs ps h = inr h
   wake_stays (from_sleep {paced = true} {n} {since}) fs ps h = inr h
   wake_stays (from_seen_waiting {event = name} {since}) fs ps h =
-      stays_giving (is_checkpoint here.clock (ends_at here.clock froms name since ps) since) now.at fs ps h
-  wake_stays (from_set {event = name} {since}) fs ps h = stays_noted (event_on name (stack_at froms ps).events) now.at fs ps h
+      stays_giving (is_checkpoint here.clock (ends_at here.clock cancelled_from name since ps) since) now.at fs ps h
+  wake_stays (from_set {event = name} {since}) fs ps h = stays_noted (event_on name (stack_at cancelled_from ps).events) now.at fs ps h
   wake_stays from_giving_up fs ps h = inr h
   wake_stays from_due fs ps h = inr h
   wake_stays from_wait fs [] h = inr h
@@ -220,13 +220,13 @@ started_housed i more (in_try handler cleanup ∷ fs) ps b w a = absurd (cc)
 started_housed i more (in_handler rest cleanup ∷ fs) ps b w a = absurd (cc)
 started_housed i more (in_cleanup outcome ∷ fs) ps b w a = absurd (cc)
 
-module _ (now : Now) (froms : Table) (here : Here) where
+module _ (now : Now) (cancelled_from : Table) (here : Here) where
   -- each child that a move begins is housed after it
   abbrev pub Housed : Move → Type 0
   Housed o = AllHoused o.begun o.stopped o.frames o.places
 
-  housed_sleeps : (clock : Clock) (paced : Bool) (n t : ℕ) (fs : List Frame) (ps : List Place) → Housed (sleeps clock froms paced n t fs ps)
-  housed_sleeps clock paced n t fs ps = by_clock clock (seen (stack_at froms ps).scopes t) n
+  housed_sleeps : (clock : Clock) (paced : Bool) (n t : ℕ) (fs : List Frame) (ps : List Place) → Housed (sleeps clock cancelled_from paced n t fs ps)
+  housed_sleeps clock paced n t fs ps = by_clock clock (seen (stack_at cancelled_from ps).scopes t) n
     where
       by_clock : (clock : Clock) (b : Bool) (n : ℕ) → Housed (falls_asleep clock b paced n t fs ps)
       by_clock by_ticks true n = tt
@@ -236,7 +236,7 @@ module _ (now : Now) (froms : Table) (here : Here) where
 
   housed_start : (at : Here) (name : List ℕ) (over : Option ℕ) (body ss : Steps) (fs : List Frame) (ps : List Place) (n : ℕ) →
       IsTrue (in_body fs) → Placed fs ps →
-      Housed (step_on froms now at (start name over body) ss fs ps n)
+      Housed (step_on cancelled_from now at (start name over body) ss fs ps n)
   housed_start at name None body ss fs ps n b w = (inr (started_housed n (n ∷ []) fs ps b w (inl refl)), tt)
   housed_start at name (Some k) body ss fs ps n b w =
       over_housed name at k body ps n (steps_left ss ∷ with_started (consecutive n k) fs) k
@@ -257,7 +257,7 @@ module _ (now : Now) (froms : Table) (here : Here) where
   housed_pass pass (suc m) body fs ps None = tt
 
   housed_step : (at : Here) (s : Step) (ss : Steps) (fs : List Frame) (ps : List Place) (n : ℕ) → StartsAt (in_body fs) s → Placed fs ps →
-      Housed (step_on froms now at s ss fs ps n)
+      Housed (step_on cancelled_from now at s ss fs ps n)
   housed_step at (sleep m) ss fs ps n b p = housed_sleeps at.clock false m now.at (steps_left ss ∷ fs) ps
   housed_step at checkpoint ss fs ps n b p = housed_sleeps at.clock false 0 now.at (steps_left ss ∷ fs) ps
   housed_step at forever ss fs ps n b p = housed_sleeps at.clock false (far - tick_of at.clock now.at) now.at (steps_left ss ∷ fs) ps
@@ -278,7 +278,7 @@ module _ (now : Now) (froms : Table) (here : Here) where
   housed_step at (attempt body handler cleanup) ss fs ps n b p = tt
 
   housed_steps : (ss : Steps) (fs : List Frame) (ps : List Place) (exc : Option Exc) (n : ℕ) → StartsIn (in_body fs) ss → Placed fs ps →
-      Housed (step_steps froms now here ss fs ps exc n)
+      Housed (step_steps cancelled_from now here ss fs ps exc n)
   housed_steps ss fs ps (Some e) n b p = tt
   housed_steps stop fs ps None n b p = tt
   housed_steps (step s ss) fs ps None n b p = housed_step (inside fs here) s ss fs ps n b.0 p
@@ -295,7 +295,7 @@ module _ (now : Now) (froms : Table) (here : Here) where
       by_match (Some x) = tt
 
   housed_frames : (fs : List Frame) (ps : List Place) (exc : Option Exc) (n : ℕ) → Placed fs ps →
-      Housed (step_frames froms now here fs ps exc n)
+      Housed (step_frames cancelled_from now here fs ps exc n)
   housed_frames [] ps exc n p = tt
   housed_frames (steps_left ss ∷ fs) ps exc n p = housed_steps ss fs ps exc n p.0 p.1
   housed_frames (in_scope fail ∷ fs) [] exc n p = tt
@@ -310,12 +310,12 @@ module _ (now : Now) (froms : Table) (here : Here) where
   housed_frames (in_cleanup outcome ∷ fs) ps exc n p = tt
 
   -- one step
-  pub step_housed : (m : Midway) → Placed m.frames m.places → Housed (step_of froms now here m)
+  pub step_housed : (m : Midway) → Placed m.frames m.places → Housed (step_of cancelled_from now here m)
   unfolding step_of
   step_housed m p = housed_frames m.frames m.places m.exc m.count p
 
   housed_answered : (a : Answer) (purpose : Purpose) (fs : List Frame) (ps : List Place) →
-      Housed (goes_on_with froms now.at here a purpose fs ps)
+      Housed (goes_on_with cancelled_from now.at here a purpose fs ps)
   housed_answered (lines ls) purpose fs ps = tt
   housed_answered missing (needs name) fs ps = tt
   housed_answered missing shows fs ps = tt
@@ -324,7 +324,7 @@ module _ (now : Now) (froms : Table) (here : Here) where
   housed_answered (counted m) shows fs ps = tt
   housed_answered (counted m) (needs name) fs ps = tt
 
-  housed_with : (a : Answer) (s : Stopped) (fs : List Frame) (ps : List Place) → Housed (with_answer froms now.at here a s fs ps)
+  housed_with : (a : Answer) (s : Stopped) (fs : List Frame) (ps : List Place) → Housed (with_answer cancelled_from now.at here a s fs ps)
   housed_with a (asking kernel purpose) fs ps = housed_answered a purpose fs ps
   housed_with a to_begin fs ps = tt
   housed_with a (asleep paced m since) fs ps = tt
@@ -333,7 +333,7 @@ module _ (now : Now) (froms : Table) (here : Here) where
   housed_with a (awaiting children ended exc) fs ps = tt
   housed_with a (at_end u e) fs ps = tt
 
-  housed_settled : (exc : Option Exc) (fs : List Frame) (ps : List Place) → Housed (leaves_settled here.clock froms now exc fs ps)
+  housed_settled : (exc : Option Exc) (fs : List Frame) (ps : List Place) → Housed (leaves_settled here.clock cancelled_from now exc fs ps)
   housed_settled exc fs [] = tt
   housed_settled exc fs (p ∷ ps) = tt
 
@@ -345,20 +345,20 @@ module _ (now : Now) (froms : Table) (here : Here) where
   housed_noted None t fs ps = tt
   housed_noted (Some l) t fs ps = tt
 
-  housed_seen : (t : ℕ) (s : Stopped) (fs : List Frame) (ps : List Place) → Housed (sees_from here.clock froms t s fs ps)
+  housed_seen : (t : ℕ) (s : Stopped) (fs : List Frame) (ps : List Place) → Housed (sees_from here.clock cancelled_from t s fs ps)
   housed_seen t (asleep false zero since) fs ps = tt
   housed_seen t (asleep false (suc n) since) fs ps = tt
   housed_seen t (asleep true n since) fs ps = tt
   housed_seen t to_begin fs ps = tt
   housed_seen t (asking kernel purpose) fs ps = tt
   housed_seen t (waiting_for name since) fs ps =
-      housed_giving (is_checkpoint here.clock (ends_at here.clock froms name since ps) since) t fs ps
+      housed_giving (is_checkpoint here.clock (ends_at here.clock cancelled_from name since ps) since) t fs ps
   housed_seen t (giving_up since) fs ps = tt
   housed_seen t (awaiting children ended exc) fs ps = tt
   housed_seen t (at_end u e) fs ps = tt
 
-  housed_due : (t : ℕ) (s : Stopped) (fs : List Frame) (ps : List Place) → Housed (is_due_from froms t s fs ps)
-  housed_due t (waiting_for name since) fs ps = housed_noted (event_on name (stack_at froms ps).events) t fs ps
+  housed_due : (t : ℕ) (s : Stopped) (fs : List Frame) (ps : List Place) → Housed (is_due_from cancelled_from t s fs ps)
+  housed_due t (waiting_for name since) fs ps = housed_noted (event_on name (stack_at cancelled_from ps).events) t fs ps
   housed_due t to_begin fs ps = tt
   housed_due t (asking kernel purpose) fs ps = tt
   housed_due t (asleep paced n since) fs ps = tt
@@ -367,7 +367,7 @@ module _ (now : Now) (froms : Table) (here : Here) where
   housed_due t (at_end u e) fs ps = tt
 
   -- a wake begins none
-  pub wake_housed : (w : Wake) (s : Stopped) (fs : List Frame) (ps : List Place) → Housed (wake_of froms now here w s fs ps)
+  pub wake_housed : (w : Wake) (s : Stopped) (fs : List Frame) (ps : List Place) → Housed (wake_of cancelled_from now here w s fs ps)
   wake_housed begins s fs ps = tt
   wake_housed sees s fs ps = housed_seen now.at s fs ps
   wake_housed gives_up s fs ps = tt

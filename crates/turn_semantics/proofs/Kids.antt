@@ -72,14 +72,14 @@ kids_left n (Some (giving_up since)) fs k = k
 kids_left n (Some (awaiting children ended exc)) fs k = k.1
 kids_left n (Some (at_end u e)) fs k = k
 
-module _ (now : Now) (froms : Table) (here : Here) (n : ℕ) where
+module _ (now : Now) (cancelled_from : Table) (here : Here) (n : ℕ) where
   -- the children of the task after a move are below the count then
   abbrev pub Kept : Move → Type 0
   Kept o = KidsAfter (n + length o.begun) o.stopped o.frames
 
   kids_sleeps : (clock : Clock) (paced : Bool) (ticks t : ℕ) (fs : List Frame) (ps : List Place) → KidsBelow n fs →
-      Kept (sleeps clock froms paced ticks t fs ps)
-  kids_sleeps clock paced ticks t fs ps k = by_clock clock (seen (stack_at froms ps).scopes t) ticks
+      Kept (sleeps clock cancelled_from paced ticks t fs ps)
+  kids_sleeps clock paced ticks t fs ps k = by_clock clock (seen (stack_at cancelled_from ps).scopes t) ticks
     where
       by_clock : (clock : Clock) (b : Bool) (ticks : ℕ) → Kept (falls_asleep clock b paced ticks t fs ps)
       by_clock by_ticks true ticks = same_kids n fs k
@@ -102,7 +102,7 @@ module _ (now : Now) (froms : Table) (here : Here) (n : ℕ) where
   kids_pass pass (suc m) body fs ps None k = same_kids n fs k
 
   kids_step : (at : Here) (s : Step) (ss : Steps) (fs : List Frame) (ps : List Place) → KidsBelow n fs →
-      Kept (step_on froms now at s ss fs ps n)
+      Kept (step_on cancelled_from now at s ss fs ps n)
   kids_step at (sleep m) ss fs ps k = kids_sleeps at.clock false m now.at (steps_left ss ∷ fs) ps k
   kids_step at checkpoint ss fs ps k = kids_sleeps at.clock false 0 now.at (steps_left ss ∷ fs) ps k
   kids_step at forever ss fs ps k = kids_sleeps at.clock false (far - tick_of at.clock now.at) now.at (steps_left ss ∷ fs) ps k
@@ -121,13 +121,13 @@ module _ (now : Now) (froms : Table) (here : Here) (n : ℕ) where
   kids_step at (start name None body) ss fs ps k = kids_started n (n + 1) (omega arith) (n ∷ []) (omega arith, tt) fs k
   kids_step at (start name (Some c) body) ss fs ps k =
       let e = over_length name at c body ps n c in
-      kids_started n (n + length (step_on froms now at (start name (Some c) body) ss fs ps n).begun) (omega arith) (consecutive n c)
+      kids_started n (n + length (step_on cancelled_from now at (start name (Some c) body) ss fs ps n).begun) (omega arith) (consecutive n c)
       (subst (λ (z : ℕ). AllBelow (n + z) (consecutive n c)) (sym e) (numbered_below n c)) fs k
   kids_step at (repeat m body) ss fs ps k = kids_passes m body (steps_left ss ∷ fs) ps k
   kids_step at (attempt body handler cleanup) ss fs ps k = same_kids n fs k
 
   kids_steps : (ss : Steps) (fs : List Frame) (ps : List Place) (exc : Option Exc) → KidsBelow n fs →
-      Kept (step_steps froms now here ss fs ps exc n)
+      Kept (step_steps cancelled_from now here ss fs ps exc n)
   kids_steps ss fs ps (Some e) k = same_kids n fs k
   kids_steps stop fs ps None k = same_kids n fs k
   kids_steps (step s ss) fs ps None k = kids_step (inside fs here) s ss fs ps k
@@ -143,7 +143,7 @@ module _ (now : Now) (froms : Table) (here : Here) (n : ℕ) where
       by_match None = same_kids n fs k
       by_match (Some x) = same_kids n fs k
 
-  kids_frames : (fs : List Frame) (ps : List Place) (exc : Option Exc) → KidsBelow n fs → Kept (step_frames froms now here fs ps exc n)
+  kids_frames : (fs : List Frame) (ps : List Place) (exc : Option Exc) → KidsBelow n fs → Kept (step_frames cancelled_from now here fs ps exc n)
   kids_frames [] ps exc k = tt
   kids_frames (steps_left ss ∷ fs) ps exc k = kids_steps ss fs ps exc k
   kids_frames (in_scope fail ∷ fs) [] exc k = same_kids n fs k
@@ -158,7 +158,7 @@ module _ (now : Now) (froms : Table) (here : Here) (n : ℕ) where
   kids_frames (in_cleanup outcome ∷ fs) ps exc k = same_kids n fs k
 
   kids_answered : (a : Answer) (purpose : Purpose) (fs : List Frame) (ps : List Place) → KidsBelow n fs →
-      Kept (goes_on_with froms now.at here a purpose fs ps)
+      Kept (goes_on_with cancelled_from now.at here a purpose fs ps)
   kids_answered (lines ls) purpose fs ps k = same_kids n fs k
   kids_answered missing (needs name) fs ps k = same_kids n fs k
   kids_answered missing shows fs ps k = same_kids n fs k
@@ -167,7 +167,7 @@ module _ (now : Now) (froms : Table) (here : Here) (n : ℕ) where
   kids_answered (counted m) shows fs ps k = same_kids n fs k
   kids_answered (counted m) (needs name) fs ps k = same_kids n fs k
 
-  kids_with : (a : Answer) (s : Stopped) (fs : List Frame) (ps : List Place) → KidsBelow n fs → Kept (with_answer froms now.at here a s fs ps)
+  kids_with : (a : Answer) (s : Stopped) (fs : List Frame) (ps : List Place) → KidsBelow n fs → Kept (with_answer cancelled_from now.at here a s fs ps)
   kids_with a (asking kernel purpose) fs ps k = kids_answered a purpose fs ps k
   kids_with a to_begin fs ps k = same_kids n fs k
   kids_with a (asleep paced m since) fs ps k = same_kids n fs k
@@ -176,7 +176,7 @@ module _ (now : Now) (froms : Table) (here : Here) (n : ℕ) where
   kids_with a (awaiting children ended exc) fs ps k = same_kids n fs k
   kids_with a (at_end u e) fs ps k = same_kids n fs k
 
-  kids_settled : (exc : Option Exc) (fs : List Frame) (ps : List Place) → KidsBelow n fs → Kept (leaves_settled here.clock froms now exc fs ps)
+  kids_settled : (exc : Option Exc) (fs : List Frame) (ps : List Place) → KidsBelow n fs → Kept (leaves_settled here.clock cancelled_from now exc fs ps)
   kids_settled exc fs [] k = same_kids n fs k
   kids_settled exc fs (p ∷ ps) k = same_kids n fs k
 
@@ -188,20 +188,20 @@ module _ (now : Now) (froms : Table) (here : Here) (n : ℕ) where
   kids_noted None t fs ps k = same_kids n fs k
   kids_noted (Some l) t fs ps k = same_kids n fs k
 
-  kids_seen : (t : ℕ) (s : Stopped) (fs : List Frame) (ps : List Place) → KidsBelow n fs → Kept (sees_from here.clock froms t s fs ps)
+  kids_seen : (t : ℕ) (s : Stopped) (fs : List Frame) (ps : List Place) → KidsBelow n fs → Kept (sees_from here.clock cancelled_from t s fs ps)
   kids_seen t (asleep false zero since) fs ps k = same_kids n fs k
   kids_seen t (asleep false (suc m) since) fs ps k = same_kids n fs k
   kids_seen t (asleep true m since) fs ps k = same_kids n fs k
   kids_seen t to_begin fs ps k = same_kids n fs k
   kids_seen t (asking kernel purpose) fs ps k = same_kids n fs k
   kids_seen t (waiting_for name since) fs ps k =
-      kids_giving (is_checkpoint here.clock (ends_at here.clock froms name since ps) since) t fs ps k
+      kids_giving (is_checkpoint here.clock (ends_at here.clock cancelled_from name since ps) since) t fs ps k
   kids_seen t (giving_up since) fs ps k = same_kids n fs k
   kids_seen t (awaiting children ended exc) fs ps k = same_kids n fs k
   kids_seen t (at_end u e) fs ps k = same_kids n fs k
 
-  kids_due : (t : ℕ) (s : Stopped) (fs : List Frame) (ps : List Place) → KidsBelow n fs → Kept (is_due_from froms t s fs ps)
-  kids_due t (waiting_for name since) fs ps k = kids_noted (event_on name (stack_at froms ps).events) t fs ps k
+  kids_due : (t : ℕ) (s : Stopped) (fs : List Frame) (ps : List Place) → KidsBelow n fs → Kept (is_due_from cancelled_from t s fs ps)
+  kids_due t (waiting_for name since) fs ps k = kids_noted (event_on name (stack_at cancelled_from ps).events) t fs ps k
   kids_due t to_begin fs ps k = same_kids n fs k
   kids_due t (asking kernel purpose) fs ps k = same_kids n fs k
   kids_due t (asleep paced m since) fs ps k = same_kids n fs k
@@ -209,7 +209,7 @@ module _ (now : Now) (froms : Table) (here : Here) (n : ℕ) where
   kids_due t (awaiting children ended exc) fs ps k = same_kids n fs k
   kids_due t (at_end u e) fs ps k = same_kids n fs k
 
-  kids_woken : (w : Wake) (s : Stopped) (fs : List Frame) (ps : List Place) → KidsBelow n fs → Kept (wake_of froms now here w s fs ps)
+  kids_woken : (w : Wake) (s : Stopped) (fs : List Frame) (ps : List Place) → KidsBelow n fs → Kept (wake_of cancelled_from now here w s fs ps)
   kids_woken begins s fs ps k = same_kids n fs k
   kids_woken sees s fs ps k = kids_seen now.at s fs ps k
   kids_woken gives_up s fs ps k = same_kids n fs k
@@ -218,14 +218,14 @@ module _ (now : Now) (froms : Table) (here : Here) (n : ℕ) where
   kids_woken (settles exc) s fs ps k = kids_settled exc fs ps k
 
 -- one step
-pub step_kids : (now : Now) (froms : Table) (here : Here) (m : Midway) → KidsBelow m.count m.frames →
-    KidsAfter (m.count + length (step_of froms now here m).begun) (step_of froms now here m).stopped (step_of froms now here m).frames
+pub step_kids : (now : Now) (cancelled_from : Table) (here : Here) (m : Midway) → KidsBelow m.count m.frames →
+    KidsAfter (m.count + length (step_of cancelled_from now here m).begun) (step_of cancelled_from now here m).stopped (step_of cancelled_from now here m).frames
 unfolding step_of
-step_kids now froms here m k = kids_frames now froms here m.count m.frames m.places m.exc k
+step_kids now cancelled_from here m k = kids_frames now cancelled_from here m.count m.frames m.places m.exc k
 
 -- a wake
-pub wake_kids : (now : Now) (froms : Table) (here : Here) (w : Wake) (s : Stopped) (fs : List Frame) (ps : List Place) (n : ℕ) →
+pub wake_kids : (now : Now) (cancelled_from : Table) (here : Here) (w : Wake) (s : Stopped) (fs : List Frame) (ps : List Place) (n : ℕ) →
     KidsAfter n (Some s) fs →
-    KidsAfter (n + length (wake_of froms now here w s fs ps).begun) (wake_of froms now here w s fs ps).stopped
-    (wake_of froms now here w s fs ps).frames
-wake_kids now froms here w s fs ps n k = kids_woken now froms here n w s fs ps (kids_left n (Some s) fs k)
+    KidsAfter (n + length (wake_of cancelled_from now here w s fs ps).begun) (wake_of cancelled_from now here w s fs ps).stopped
+    (wake_of cancelled_from now here w s fs ps).frames
+wake_kids now cancelled_from here w s fs ps n k = kids_woken now cancelled_from here n w s fs ps (kids_left n (Some s) fs k)

@@ -3,7 +3,7 @@ pub mod Waits
 pub mod Keeps
 pub mod Events
 pub mod Cases
-pub mod Froms
+pub mod CancelledFrom
 pub mod Kids
 pub mod Houses
 pub mod Turns

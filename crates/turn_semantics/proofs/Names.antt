@@ -17,7 +17,7 @@ use Rattle.job_meaning.proofs.Distinct.{Among, among_left, among_right, Distinct
 use Rattle.turn_semantics.specs.Midway.{Place, label_among, stack_at, Midway, Begun, Move, after_move, then_move, now_after}
 use Rattle.turn_semantics.specs.Wakes.{Wake, goes_on_with, leaves_settled, ends_at, is_checkpoint, gives_up_if, notes_wait, wake_of, turn_from, CanWake, from_start, from_sleep, from_due, from_seen_waiting, from_set, from_asking, from_giving_up, from_wait}
 use Rattle.turn_semantics.specs.Placed.{outer_places}
-use Rattle.turn_semantics.specs.Steps.{falls_asleep, sleeps, waits_on, with_started, begun_over, step_on, step_steps, handler_if, step_try, step_frames, step_of, froms_after, turn_of, begins_passes, step_pass}
+use Rattle.turn_semantics.specs.Steps.{falls_asleep, sleeps, waits_on, with_started, begun_over, step_on, step_steps, handler_if, step_try, step_frames, step_of, cancelled_from_after, turn_of, begins_passes, step_pass}
 use Rattle.turn_semantics.specs.Names.{names_at, OwnNames, AreNew, IsNew, IsNewHandler, IsNewCleanup, NewIn, AllNew, StaysNew}
 
 -- ---- steps whose names are given once
@@ -95,10 +95,10 @@ asleep_new by_ticks false paced zero t fs ps h own = record { frames = h; own = 
 asleep_new by_ticks false paced (suc n) t fs ps h own = record { frames = h; own = own; begun = tt }
 asleep_new by_rounds b paced n t fs ps h own = record { frames = h; own = own; begun = tt }
 
-sleeps_new : (clock : Clock) (froms : Table) (paced : Bool) (n t : ℕ) (fs : List Frame) (ps : List Place) → NewIn fs ps →
+sleeps_new : (clock : Clock) (cancelled_from : Table) (paced : Bool) (n t : ℕ) (fs : List Frame) (ps : List Place) → NewIn fs ps →
     OwnNames (names_at ps) →
-    StaysNew (sleeps clock froms paced n t fs ps)
-sleeps_new clock froms paced n t fs ps h own = asleep_new clock (seen (stack_at froms ps).scopes t) paced n t fs ps h own
+    StaysNew (sleeps clock cancelled_from paced n t fs ps)
+sleeps_new clock cancelled_from paced n t fs ps h own = asleep_new clock (seen (stack_at cancelled_from ps).scopes t) paced n t fs ps h own
 
 started_new : (more : List ℕ) (fs : List Frame) (ps : List Place) → NewIn fs ps → NewIn (with_started more fs) ps
 started_new more [] ps h = h
@@ -139,42 +139,42 @@ pass_new pass left body fs ps (Some e) a h own = record { frames = h; own = own;
 pass_new pass zero body fs ps None a h own = record { frames = h; own = own; begun = tt }
 pass_new pass (suc n) body fs ps None a h own = record { frames = (a, (a, h)); own = own; begun = tt }
 
-step_new : (froms : Table) (now : Now) (here : Here) (s : Step) (ss : Steps) (fs : List Frame) (ps : List Place) (count : ℕ) →
+step_new : (cancelled_from : Table) (now : Now) (here : Here) (s : Step) (ss : Steps) (fs : List Frame) (ps : List Place) (count : ℕ) →
     IsNew (names_at ps) s → AreNew (names_at ps) ss →
-    NewIn fs ps → OwnNames (names_at ps) → StaysNew (step_on froms now here s ss fs ps count)
-step_new froms now here (sleep n) ss fs ps count i a h own = sleeps_new here.clock froms false n now.at (steps_left ss ∷ fs) ps (a, h) own
-step_new froms now here checkpoint ss fs ps count i a h own = sleeps_new here.clock froms false 0 now.at (steps_left ss ∷ fs) ps (a, h) own
-step_new froms now here forever ss fs ps count i a h own = sleeps_new here.clock froms false _ now.at (steps_left ss ∷ fs) ps (a, h) own
-step_new froms now here (pace k) ss fs ps count i a h own = record { frames = (a, h); own = own; begun = tt }
-step_new froms now here (find text) ss fs ps count i a h own = record { frames = (a, h); own = own; begun = tt }
-step_new froms now here (head n) ss fs ps count i a h own = record { frames = (a, h); own = own; begun = tt }
-step_new froms now here longest ss fs ps count i a h own = record { frames = (a, h); own = own; begun = tt }
-step_new froms now here (need text name) ss fs ps count i a h own = record { frames = (a, h); own = own; begun = tt }
-step_new froms now here (raise name) ss fs ps count i a h own = record { frames = (a, h); own = own; begun = tt }
-step_new froms now here (cancel name) ss fs ps count i a h own = record { frames = (a, h); own = own; begun = tt }
-step_new froms now here (set_event name) ss fs ps count i a h own = record { frames = (a, h); own = own; begun = tt }
-step_new froms now here (wait_for name) ss fs ps count i a h own =
+    NewIn fs ps → OwnNames (names_at ps) → StaysNew (step_on cancelled_from now here s ss fs ps count)
+step_new cancelled_from now here (sleep n) ss fs ps count i a h own = sleeps_new here.clock cancelled_from false n now.at (steps_left ss ∷ fs) ps (a, h) own
+step_new cancelled_from now here checkpoint ss fs ps count i a h own = sleeps_new here.clock cancelled_from false 0 now.at (steps_left ss ∷ fs) ps (a, h) own
+step_new cancelled_from now here forever ss fs ps count i a h own = sleeps_new here.clock cancelled_from false _ now.at (steps_left ss ∷ fs) ps (a, h) own
+step_new cancelled_from now here (pace k) ss fs ps count i a h own = record { frames = (a, h); own = own; begun = tt }
+step_new cancelled_from now here (find text) ss fs ps count i a h own = record { frames = (a, h); own = own; begun = tt }
+step_new cancelled_from now here (head n) ss fs ps count i a h own = record { frames = (a, h); own = own; begun = tt }
+step_new cancelled_from now here longest ss fs ps count i a h own = record { frames = (a, h); own = own; begun = tt }
+step_new cancelled_from now here (need text name) ss fs ps count i a h own = record { frames = (a, h); own = own; begun = tt }
+step_new cancelled_from now here (raise name) ss fs ps count i a h own = record { frames = (a, h); own = own; begun = tt }
+step_new cancelled_from now here (cancel name) ss fs ps count i a h own = record { frames = (a, h); own = own; begun = tt }
+step_new cancelled_from now here (set_event name) ss fs ps count i a h own = record { frames = (a, h); own = own; begun = tt }
+step_new cancelled_from now here (wait_for name) ss fs ps count i a h own =
     waits_new (label_among true name ps) name now.at (steps_left ss ∷ fs) ps (a, h) own
-step_new froms now here (scope name deadline shield fail body) ss fs ps count i a h own =
+step_new cancelled_from now here (scope name deadline shield fail body) ss fs ps count i a h own =
     record { frames = (i.1, (a, h)); own = (i.0, own); begun = tt }
-step_new froms now here (nursery name deadline shield body) ss fs ps count i a h own =
+step_new cancelled_from now here (nursery name deadline shield body) ss fs ps count i a h own =
     record { frames = (i.1, (a, h)); own = (i.0, own); begun = tt }
-step_new froms now here (event name body) ss fs ps count i a h own =
+step_new cancelled_from now here (event name body) ss fs ps count i a h own =
     record { frames = (i.1, (a, h)); own = (i.0, own); begun = tt }
-step_new froms now here (start name None body) ss fs ps count i a h own =
+step_new cancelled_from now here (start name None body) ss fs ps count i a h own =
     record { frames = (a, started_new (count ∷ []) fs ps h); own = own; begun = (i, own, tt) }
-step_new froms now here (start name (Some k) body) ss fs ps count i a h own =
+step_new cancelled_from now here (start name (Some k) body) ss fs ps count i a h own =
     record { frames = (a, started_new _ fs ps h); own = own; begun = over_new name here k body ps count k i own }
-step_new froms now here (repeat n body) ss fs ps count i a h own = passes_new n body (steps_left ss ∷ fs) ps i (a, h) own
-step_new froms now here (attempt body handler cleanup) ss fs ps count i a h own =
+step_new cancelled_from now here (repeat n body) ss fs ps count i a h own = passes_new n body (steps_left ss ∷ fs) ps i (a, h) own
+step_new cancelled_from now here (attempt body handler cleanup) ss fs ps count i a h own =
     record { frames = (i.0, (i.1, i.2, (a, h))); own = own; begun = tt }
 
-steps_new : (froms : Table) (now : Now) (here : Here) (ss : Steps) (fs : List Frame) (ps : List Place) (exc : Option Exc) (count : ℕ) →
+steps_new : (cancelled_from : Table) (now : Now) (here : Here) (ss : Steps) (fs : List Frame) (ps : List Place) (exc : Option Exc) (count : ℕ) →
     AreNew (names_at ps) ss →
-    NewIn fs ps → OwnNames (names_at ps) → StaysNew (step_steps froms now here ss fs ps exc count)
-steps_new froms now here ss fs ps (Some e) count a h own = record { frames = h; own = own; begun = tt }
-steps_new froms now here stop fs ps None count a h own = record { frames = h; own = own; begun = tt }
-steps_new froms now here (step s ss) fs ps None count a h own = step_new froms now (inside fs here) s ss fs ps count a.0 a.1 h own
+    NewIn fs ps → OwnNames (names_at ps) → StaysNew (step_steps cancelled_from now here ss fs ps exc count)
+steps_new cancelled_from now here ss fs ps (Some e) count a h own = record { frames = h; own = own; begun = tt }
+steps_new cancelled_from now here stop fs ps None count a h own = record { frames = h; own = own; begun = tt }
+steps_new cancelled_from now here (step s ss) fs ps None count a h own = step_new cancelled_from now (inside fs here) s ss fs ps count a.0 a.1 h own
 
 handler_new : (matched rest : Option Exc) (e : Exc) (body : Steps) (cleanup : Cleaned) (fs : List Frame) (ps : List Place) →
     AreNew (names_at ps) body →
@@ -191,47 +191,47 @@ try_new (except name body) cleanup fs ps None a c h own = record { frames = (tt,
 try_new (except name body) cleanup fs ps (Some e) a c h own =
     handler_new (keep (named name) e) (drop (named name) e) e body cleanup fs ps a c h own
 
-frames_new : (froms : Table) (now : Now) (here : Here) (fs : List Frame) (ps : List Place) (exc : Option Exc) (count : ℕ) → NewIn fs ps →
+frames_new : (cancelled_from : Table) (now : Now) (here : Here) (fs : List Frame) (ps : List Place) (exc : Option Exc) (count : ℕ) → NewIn fs ps →
     OwnNames (names_at ps) →
-    StaysNew (step_frames froms now here fs ps exc count)
-frames_new froms now here [] ps exc count h own = record { frames = tt; own = own; begun = tt }
-frames_new froms now here (steps_left ss ∷ fs) ps exc count h own = steps_new froms now here ss fs ps exc count h.0 h.1 own
-frames_new froms now here (in_scope fail ∷ fs) [] exc count h own = record { frames = h; own = own; begun = tt }
-frames_new froms now here (in_scope fail ∷ fs) (p ∷ ps) exc count h own = record { frames = h; own = own.1; begun = tt }
-frames_new froms now here (in_event ∷ fs) [] exc count h own = record { frames = h; own = own; begun = tt }
-frames_new froms now here (in_event ∷ fs) (p ∷ ps) exc count h own = record { frames = h; own = own.1; begun = tt }
-frames_new froms now here (in_nursery children ∷ fs) [] exc count h own = record { frames = h; own = own; begun = tt }
-frames_new froms now here (in_nursery children ∷ fs) (p ∷ ps) exc count h own = record { frames = h; own = own; begun = tt }
-frames_new froms now here (in_repeat pass left body ∷ fs) ps exc count h own = pass_new pass left body fs ps exc h.0 h.1 own
-frames_new froms now here (in_try handler cleanup ∷ fs) ps exc count h own = try_new handler cleanup fs ps exc h.0 h.1 h.2 own
-frames_new froms now here (in_handler rest cleanup ∷ fs) ps exc count h own = record { frames = (tt, h.0, h.1); own = own; begun = tt }
-frames_new froms now here (in_cleanup outcome ∷ fs) ps exc count h own = record { frames = h; own = own; begun = tt }
+    StaysNew (step_frames cancelled_from now here fs ps exc count)
+frames_new cancelled_from now here [] ps exc count h own = record { frames = tt; own = own; begun = tt }
+frames_new cancelled_from now here (steps_left ss ∷ fs) ps exc count h own = steps_new cancelled_from now here ss fs ps exc count h.0 h.1 own
+frames_new cancelled_from now here (in_scope fail ∷ fs) [] exc count h own = record { frames = h; own = own; begun = tt }
+frames_new cancelled_from now here (in_scope fail ∷ fs) (p ∷ ps) exc count h own = record { frames = h; own = own.1; begun = tt }
+frames_new cancelled_from now here (in_event ∷ fs) [] exc count h own = record { frames = h; own = own; begun = tt }
+frames_new cancelled_from now here (in_event ∷ fs) (p ∷ ps) exc count h own = record { frames = h; own = own.1; begun = tt }
+frames_new cancelled_from now here (in_nursery children ∷ fs) [] exc count h own = record { frames = h; own = own; begun = tt }
+frames_new cancelled_from now here (in_nursery children ∷ fs) (p ∷ ps) exc count h own = record { frames = h; own = own; begun = tt }
+frames_new cancelled_from now here (in_repeat pass left body ∷ fs) ps exc count h own = pass_new pass left body fs ps exc h.0 h.1 own
+frames_new cancelled_from now here (in_try handler cleanup ∷ fs) ps exc count h own = try_new handler cleanup fs ps exc h.0 h.1 h.2 own
+frames_new cancelled_from now here (in_handler rest cleanup ∷ fs) ps exc count h own = record { frames = (tt, h.0, h.1); own = own; begun = tt }
+frames_new cancelled_from now here (in_cleanup outcome ∷ fs) ps exc count h own = record { frames = h; own = own; begun = tt }
 
 -- a step of a task keeps it
-pub step_stays_new : (froms : Table) (now : Now) (here : Here) (m : Midway) → NewIn m.frames m.places → OwnNames (names_at m.places) →
-    StaysNew (step_of froms now here m)
+pub step_stays_new : (cancelled_from : Table) (now : Now) (here : Here) (m : Midway) → NewIn m.frames m.places → OwnNames (names_at m.places) →
+    StaysNew (step_of cancelled_from now here m)
 unfolding step_of
-step_stays_new froms now here m h own = frames_new froms now here m.frames m.places m.exc m.count h own
+step_stays_new cancelled_from now here m h own = frames_new cancelled_from now here m.frames m.places m.exc m.count h own
 
 -- ---- a turn
 
-answer_new : (froms : Table) (now : Now) (here : Here) (a : Answer) (purpose : Purpose) (fs : List Frame) (ps : List Place) → NewIn fs ps →
+answer_new : (cancelled_from : Table) (now : Now) (here : Here) (a : Answer) (purpose : Purpose) (fs : List Frame) (ps : List Place) → NewIn fs ps →
     OwnNames (names_at ps) →
-    StaysNew (goes_on_with froms now.at here a purpose fs ps)
-answer_new froms now here (lines ls) purpose fs ps h own = record { frames = h; own = own; begun = tt }
-answer_new froms now here missing shows fs ps h own = record { frames = h; own = own; begun = tt }
-answer_new froms now here missing (needs name) fs ps h own = record { frames = h; own = own; begun = tt }
-answer_new froms now here missing (paces k) fs ps h own = record { frames = h; own = own; begun = tt }
-answer_new froms now here (counted n) shows fs ps h own = record { frames = h; own = own; begun = tt }
-answer_new froms now here (counted n) (needs name) fs ps h own = record { frames = h; own = own; begun = tt }
-answer_new froms now here (counted n) (paces k) fs ps h own = sleeps_new here.clock froms true _ now.at fs ps h own
+    StaysNew (goes_on_with cancelled_from now.at here a purpose fs ps)
+answer_new cancelled_from now here (lines ls) purpose fs ps h own = record { frames = h; own = own; begun = tt }
+answer_new cancelled_from now here missing shows fs ps h own = record { frames = h; own = own; begun = tt }
+answer_new cancelled_from now here missing (needs name) fs ps h own = record { frames = h; own = own; begun = tt }
+answer_new cancelled_from now here missing (paces k) fs ps h own = record { frames = h; own = own; begun = tt }
+answer_new cancelled_from now here (counted n) shows fs ps h own = record { frames = h; own = own; begun = tt }
+answer_new cancelled_from now here (counted n) (needs name) fs ps h own = record { frames = h; own = own; begun = tt }
+answer_new cancelled_from now here (counted n) (paces k) fs ps h own = sleeps_new here.clock cancelled_from true _ now.at fs ps h own
 
 -- a nursery whose last member ended is left
-settled_new : (clock : Clock) (froms : Table) (now : Now) (exc : Option Exc) (children : List ℕ) (ended : ℕ) (e : Option Exc) (fs : List Frame)
+settled_new : (clock : Clock) (cancelled_from : Table) (now : Now) (exc : Option Exc) (children : List ℕ) (ended : ℕ) (e : Option Exc) (fs : List Frame)
     (ps : List Place) →
-    NewIn fs (outer_places (Some (awaiting children ended e)) ps) → OwnNames (names_at ps) → StaysNew (leaves_settled clock froms now exc fs ps)
-settled_new clock froms now exc children ended e fs [] h own = record { frames = h; own = own; begun = tt }
-settled_new clock froms now exc children ended e fs (p ∷ ps) h own = record { frames = h; own = own.1; begun = tt }
+    NewIn fs (outer_places (Some (awaiting children ended e)) ps) → OwnNames (names_at ps) → StaysNew (leaves_settled clock cancelled_from now exc fs ps)
+settled_new clock cancelled_from now exc children ended e fs [] h own = record { frames = h; own = own; begun = tt }
+settled_new clock cancelled_from now exc children ended e fs (p ∷ ps) h own = record { frames = h; own = own.1; begun = tt }
 
 gives_new : (b : Bool) (t : ℕ) (fs : List Frame) (ps : List Place) → NewIn fs ps → OwnNames (names_at ps) → StaysNew (gives_up_if b t fs ps)
 gives_new true t fs ps h own = record { frames = h; own = own; begun = tt }
@@ -242,20 +242,20 @@ notes_new : (o : Option (Level Label)) (t : ℕ) (fs : List Frame) (ps : List Pl
 notes_new None t fs ps h own = record { frames = h; own = own; begun = tt }
 notes_new (Some l) t fs ps h own = record { frames = h; own = own; begun = tt }
 
-wake_new : (froms : Table) (now : Now) (here : Here) {w : Wake} {s : Stopped} → CanWake w s → (fs : List Frame) (ps : List Place) →
+wake_new : (cancelled_from : Table) (now : Now) (here : Here) {w : Wake} {s : Stopped} → CanWake w s → (fs : List Frame) (ps : List Place) →
     NewIn fs (outer_places (Some s) ps) →
-    OwnNames (names_at ps) → StaysNew (wake_of froms now here w s fs ps)
-wake_new froms now here from_start fs ps h own = record { frames = h; own = own; begun = tt }
-wake_new froms now here (from_asking {a} {kernel} {purpose}) fs ps h own = answer_new froms now here a purpose fs ps h own
-wake_new froms now here (from_sleep {paced = false} {n = zero} {since}) fs ps h own = record { frames = h; own = own; begun = tt }
-wake_new froms now here (from_sleep {paced = false} {n = suc n} {since}) fs ps h own = record { frames = h; own = own; begun = tt }
-wake_new froms now here (from_sleep {paced = true} {n} {since}) fs ps h own = record { frames = h; own = own; begun = tt }
-wake_new froms now here (from_seen_waiting {event = name} {since}) fs ps h own =
-    gives_new (is_checkpoint here.clock (ends_at here.clock froms name since ps) since) now.at fs ps h own
-wake_new froms now here (from_set {event = name} {since}) fs ps h own = notes_new (event_on name (stack_at froms ps).events) now.at fs ps h own
-wake_new froms now here (from_giving_up {since}) fs ps h own = record { frames = h; own = own; begun = tt }
-wake_new froms now here (from_due {paced} {n} {since}) fs ps h own = record { frames = h; own = own; begun = tt }
-wake_new froms now here (from_wait {exc} {children} {ended} {e}) fs ps h own = settled_new here.clock froms now exc children ended e fs ps h own
+    OwnNames (names_at ps) → StaysNew (wake_of cancelled_from now here w s fs ps)
+wake_new cancelled_from now here from_start fs ps h own = record { frames = h; own = own; begun = tt }
+wake_new cancelled_from now here (from_asking {a} {kernel} {purpose}) fs ps h own = answer_new cancelled_from now here a purpose fs ps h own
+wake_new cancelled_from now here (from_sleep {paced = false} {n = zero} {since}) fs ps h own = record { frames = h; own = own; begun = tt }
+wake_new cancelled_from now here (from_sleep {paced = false} {n = suc n} {since}) fs ps h own = record { frames = h; own = own; begun = tt }
+wake_new cancelled_from now here (from_sleep {paced = true} {n} {since}) fs ps h own = record { frames = h; own = own; begun = tt }
+wake_new cancelled_from now here (from_seen_waiting {event = name} {since}) fs ps h own =
+    gives_new (is_checkpoint here.clock (ends_at here.clock cancelled_from name since ps) since) now.at fs ps h own
+wake_new cancelled_from now here (from_set {event = name} {since}) fs ps h own = notes_new (event_on name (stack_at cancelled_from ps).events) now.at fs ps h own
+wake_new cancelled_from now here (from_giving_up {since}) fs ps h own = record { frames = h; own = own; begun = tt }
+wake_new cancelled_from now here (from_due {paced} {n} {since}) fs ps h own = record { frames = h; own = own; begun = tt }
+wake_new cancelled_from now here (from_wait {exc} {children} {ended} {e}) fs ps h own = settled_new here.clock cancelled_from now exc children ended e fs ps h own
 
 then_new : (s : Option Stopped) (o q : Move) → o.stopped ≡ s → StaysNew o → (s ≡ None → StaysNew q) → StaysNew (then_move s o q)
 then_new (Some s) o q e h k = h
@@ -266,27 +266,27 @@ then_new None o q e h k = let g =
 not_stopped : (o : Move) → o.stopped ≡ None → NewIn o.frames (outer_places o.stopped o.places) → NewIn o.frames o.places
 not_stopped o e h = subst (λ (s : Option Stopped). NewIn o.frames (outer_places s o.places)) e h
 
-turn_new : (n : ℕ) (froms : Table) (now : Now) (here : Here) (m : Midway) → NewIn m.frames m.places → OwnNames (names_at m.places) →
-    StaysNew (turn_of n froms now here m)
+turn_new : (n : ℕ) (cancelled_from : Table) (now : Now) (here : Here) (m : Midway) → NewIn m.frames m.places → OwnNames (names_at m.places) →
+    StaysNew (turn_of n cancelled_from now here m)
 unfolding turn_of
-turn_new zero froms now here m h own = record { frames = h; own = own; begun = tt }
-turn_new (suc n) froms now here m h own =
-    let o = step_of froms now here m in
-    let one : StaysNew o = step_stays_new froms now here m h own in
-    then_new o.stopped o (turn_of n (froms_after froms o.made) (now_after here.clock now o.made) here (after_move m o)) refl one
-    (λ e. turn_new n (froms_after froms o.made) (now_after here.clock now o.made) here (after_move m o) (not_stopped o e one.frames) one.own)
+turn_new zero cancelled_from now here m h own = record { frames = h; own = own; begun = tt }
+turn_new (suc n) cancelled_from now here m h own =
+    let o = step_of cancelled_from now here m in
+    let one : StaysNew o = step_stays_new cancelled_from now here m h own in
+    then_new o.stopped o (turn_of n (cancelled_from_after cancelled_from o.made) (now_after here.clock now o.made) here (after_move m o)) refl one
+    (λ e. turn_new n (cancelled_from_after cancelled_from o.made) (now_after here.clock now o.made) here (after_move m o) (not_stopped o e one.frames) one.own)
 
 -- a whole turn keeps it
-pub turn_stays_new : (n : ℕ) (now : Now) (here : Here) (froms : Table) (w : Wake) (rest : Rest) (ps : List Place) (count : ℕ) →
+pub turn_stays_new : (n : ℕ) (now : Now) (here : Here) (cancelled_from : Table) (w : Wake) (rest : Rest) (ps : List Place) (count : ℕ) →
     CanWake w rest.stopped →
     NewIn rest.frames (outer_places (Some rest.stopped) ps) → OwnNames (names_at ps) →
-    StaysNew (turn_from n froms now here w rest.stopped rest.frames ps count)
+    StaysNew (turn_from n cancelled_from now here w rest.stopped rest.frames ps count)
 unfolding turn_from
-turn_stays_new n now here froms w rest ps count c h own =
-    let o = wake_of froms now here w rest.stopped rest.frames ps in
-    let one : StaysNew o = wake_new froms now here c rest.frames ps h own in
+turn_stays_new n now here cancelled_from w rest ps count c h own =
+    let o = wake_of cancelled_from now here w rest.stopped rest.frames ps in
+    let one : StaysNew o = wake_new cancelled_from now here c rest.frames ps h own in
     then_new o.stopped o _ refl one
-    (λ e. turn_new n (froms_after froms o.made) (now_after here.clock now o.made) here (record {
+    (λ e. turn_new n (cancelled_from_after cancelled_from o.made) (now_after here.clock now o.made) here (record {
       frames = o.frames;
       places = o.places;
       exc = o.exc;

@@ -248,14 +248,14 @@ unfolding event_wait
 event_goes_on clock st None since t found s = absurd found
 event_goes_on clock st (Some l) since t found s = ap (λ (r : Result). with_line l.label r) (waited_on clock st (set_moment clock l.from since) since t s)
 
--- ---- the moment in which a wait ends, by a table and by the froms of the world
+-- ---- the moment in which a wait ends, by a table and by the moments of cancellation of the world
 
 -- if they agree up to the present moment, it is the same for both, or later for both
-pub ends_near : (clock : Clock) (t since : ℕ) (table froms : Table) (name : List ℕ) (ps : List Place) → AgreesOn t table froms ps →
-    min (suc t) (ends_at clock table name since ps) ≡ min (suc t) (ends_at clock froms name since ps)
-ends_near clock t since table froms name ps a =
-    by_event (event_on name (stack_at table ps).events) (event_on name (stack_at froms ps).events)
-    (event_near (suc t) name (stack_at table ps).events (stack_at froms ps).events (near_stacks t table froms ps a).1)
+pub ends_near : (clock : Clock) (t since : ℕ) (table cancelled_from : Table) (name : List ℕ) (ps : List Place) → AgreesOn t table cancelled_from ps →
+    min (suc t) (ends_at clock table name since ps) ≡ min (suc t) (ends_at clock cancelled_from name since ps)
+ends_near clock t since table cancelled_from name ps a =
+    by_event (event_on name (stack_at table ps).events) (event_on name (stack_at cancelled_from ps).events)
+    (event_near (suc t) name (stack_at table ps).events (stack_at cancelled_from ps).events (near_stacks t table cancelled_from ps a).1)
   where
     by_event : (l k : Option (Level Label)) → NearEvents (suc t) l k → min (suc t) (set_at clock l since) ≡ min (suc t) (set_at clock k since)
     by_event None None n = refl
@@ -264,13 +264,13 @@ ends_near clock t since table froms name ps a =
     by_event (Some l) None n = absurd n
 
 -- so a wait is a checkpoint for both, or for none, once it has taken a round
-pub checkpoint_alike : (clock : Clock) (t since : ℕ) (table froms : Table) (name : List ℕ) (ps : List Place) → a_round_after clock since ≤ t →
-    AgreesOn t table froms ps →
-    is_checkpoint clock (ends_at clock table name since ps) since ≡ is_checkpoint clock (ends_at clock froms name since ps) since
-checkpoint_alike by_ticks t since table froms name ps le a = refl
-checkpoint_alike by_rounds t since table froms name ps le a =
-    same_side (suc t) (suc since) (ends_at by_rounds table name since ps) (ends_at by_rounds froms name since ps) (omega arith)
-    (ends_near by_rounds t since table froms name ps a)
+pub checkpoint_alike : (clock : Clock) (t since : ℕ) (table cancelled_from : Table) (name : List ℕ) (ps : List Place) → a_round_after clock since ≤ t →
+    AgreesOn t table cancelled_from ps →
+    is_checkpoint clock (ends_at clock table name since ps) since ≡ is_checkpoint clock (ends_at clock cancelled_from name since ps) since
+checkpoint_alike by_ticks t since table cancelled_from name ps le a = refl
+checkpoint_alike by_rounds t since table cancelled_from name ps le a =
+    same_side (suc t) (suc since) (ends_at by_rounds table name since ps) (ends_at by_rounds cancelled_from name since ps) (omega arith)
+    (ends_near by_rounds t since table cancelled_from name ps a)
   where
     same_side : (c k x y : ℕ) → k < c → min c x ≡ min c y → nat_le x k ≡ nat_le y k
     same_side c k x y lt e = grind (arith, nat_tests)

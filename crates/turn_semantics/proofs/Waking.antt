@@ -7,12 +7,12 @@ use Rattle.job_meaning.specs.Log.{Log, nil, entry, followed_by, line, waited, Re
 use Rattle.job_meaning.specs.Moments.{a_round_after, wakes_at, Now, only_at}
 use Rattle.job_meaning.specs.declared.clock.Clock.{Clock}
 use Rattle.job_meaning.specs.Walk.{by_table, Here, event_on, raise_result, raised_at, done_at, pace_ticks, log_of_lines, lines_result, a_nursery, nursery_result, with_exc, excs_of, latest}
-use Rattle.job_meaning.specs.Rest.{fill, ChildOutcomes, told_members, Frame, Stopped, asleep, waiting_for, awaiting, Rest, block_left, finish, finished_from, rest_comes_to, rest_weight, frames_weight, asking_weight, sleep_weight, stop_weight}
+use Rattle.job_meaning.specs.Rest.{fill, ChildOutcomes, outcome_members, Frame, Stopped, asleep, waiting_for, awaiting, Rest, block_left, finish, finished_from, rest_comes_to, rest_weight, frames_weight, asking_weight, sleep_weight, stop_weight}
 use Rattle.job_meaning.specs.Asking.{Answer, lines, missing, counted, answer_of, Purpose, shows, needs, paces, answer_result}
 use Rattle.job_meaning.proofs.Clips.{followed_nil}
 use Rattle.job_meaning.proofs.Finish.{finish_after}
 use Rattle.turn_semantics.specs.Midway.{Place, label_among, stack_at, Midway, own_after, OwnFits, now_after, so_far, after_events, left_after}
-use Rattle.turn_semantics.specs.Steps.{makes, froms_after, turn_of}
+use Rattle.turn_semantics.specs.Steps.{makes, cancelled_from_after, turn_of}
 use Rattle.turn_semantics.specs.Placed.{Placed, IsSome, PlacedStop, home_places, home_after}
 use Rattle.turn_semantics.specs.Wakes.{Wake, lines_made, goes_on_with, leaves_settled, ends_at, is_checkpoint, gives_up_if, notes_wait, sees_from, is_due_from, wake_of, turn_from, SettlesAt, SeesAt, SeesWaiting, GoesOnWaiting, WakesBy, CanWake, from_start, from_asking, from_sleep, from_due, from_seen_waiting, from_set, from_giving_up, from_wait}
 use Rattle.turn_semantics.specs.Turned.{AgreesOn, labels_of, MadeAt, Starts, known_after, TurnsOver}
@@ -27,9 +27,9 @@ use Rattle.turn_semantics.proofs.Turns.{turned_on, turned_turn}
 
 -- ---- lines
 
-fill_lines : (told : ChildOutcomes) (t : ℕ) (ls : List Span) → fill told (lines_made t ls) ≡ log_of_lines t ls
-fill_lines told t [] = refl
-fill_lines told t (l ∷ ls) = ap (λ (x : Log). entry t (line l) x) (fill_lines told t ls)
+fill_lines : (outcomes : ChildOutcomes) (t : ℕ) (ls : List Span) → fill outcomes (lines_made t ls) ≡ log_of_lines t ls
+fill_lines outcomes t [] = refl
+fill_lines outcomes t (l ∷ ls) = ap (λ (x : Log). entry t (line l) x) (fill_lines outcomes t ls)
 
 own_lines : (clock : Clock) (own : List Label) (t : ℕ) (ls : List Span) → own ≡ own_after clock own (lines_made t ls)
 own_lines clock own t [] = refl
@@ -45,50 +45,50 @@ lines_start t n (l ∷ ls) = lines_start t n ls
 
 -- ---- the result of a task that wakes
 
-module _ (table froms : Table) (told : ChildOutcomes) (now : Now) (here : Here) where
+module _ (table cancelled_from : Table) (outcomes : ChildOutcomes) (now : Now) (here : Here) where
   -- lines are noted, and the task continues in the same moment
   wakes_lines : (ls : List Span) (fs : List Frame) (ps : List Place) →
-      finish (by_table table) told fs here (stack_at table ps) (lines_result ls now)
-      ≡ after_events told (lines_made now.at ls) (left_after table told here now (makes (lines_made now.at ls) fs ps))
+      finish (by_table table) outcomes fs here (stack_at table ps) (lines_result ls now)
+      ≡ after_events outcomes (lines_made now.at ls) (left_after table outcomes here now (makes (lines_made now.at ls) fs ps))
   unfolding lines_result
   wakes_lines ls fs ps =
-      ap (λ (x : Log). finish (by_table table) told fs here (stack_at table ps) (record (done_at now) { log = x }))
-      (sym (fill_lines told now.at ls) ∙ sym (followed_nil (fill told (lines_made now.at ls))))
-      ∙ (ap (λ (own : List Label). finish (by_table table) told fs here (stack_at table ps)
-      (record { end = now.at; own = own; exc = None; members = []; log = followed_by (fill told (lines_made now.at ls)) nil }))
+      ap (λ (x : Log). finish (by_table table) outcomes fs here (stack_at table ps) (record (done_at now) { log = x }))
+      (sym (fill_lines outcomes now.at ls) ∙ sym (followed_nil (fill outcomes (lines_made now.at ls))))
+      ∙ (ap (λ (own : List Label). finish (by_table table) outcomes fs here (stack_at table ps)
+      (record { end = now.at; own = own; exc = None; members = []; log = followed_by (fill outcomes (lines_made now.at ls)) nil }))
       (own_lines here.clock now.own now.at ls)
-      ∙ finish_after fs (fill told (lines_made now.at ls)) (by_table table) told here (stack_at table ps)
+      ∙ finish_after fs (fill outcomes (lines_made now.at ls)) (by_table table) outcomes here (stack_at table ps)
       (done_at (now_after here.clock now (lines_made now.at ls))))
 
   -- an answer, by what it is for
-  wakes_answer : (a : Answer) (purpose : Purpose) (fs : List Frame) (ps : List Place) → OwnFits here.clock now.own → AgreesOn now.at table froms ps →
-      finish (by_table table) told fs here (stack_at table ps) (answer_result a purpose here (stack_at table ps) now)
-      ≡ after_events told (goes_on_with froms now.at here a purpose fs ps).made
-      (left_after table told here now (goes_on_with froms now.at here a purpose fs ps))
+  wakes_answer : (a : Answer) (purpose : Purpose) (fs : List Frame) (ps : List Place) → OwnFits here.clock now.own → AgreesOn now.at table cancelled_from ps →
+      finish (by_table table) outcomes fs here (stack_at table ps) (answer_result a purpose here (stack_at table ps) now)
+      ≡ after_events outcomes (goes_on_with cancelled_from now.at here a purpose fs ps).made
+      (left_after table outcomes here now (goes_on_with cancelled_from now.at here a purpose fs ps))
   unfolding raise_result
   wakes_answer (lines ls) purpose fs ps own g = wakes_lines ls fs ps
   wakes_answer missing (needs name) fs ps own g = refl
   wakes_answer missing shows fs ps own g = refl
   wakes_answer missing (paces k) fs ps own g = refl
-  wakes_answer (counted n) (paces k) fs ps own g = keeps_sleeps table froms told now here true (pace_ticks n k) fs ps own g
+  wakes_answer (counted n) (paces k) fs ps own g = keeps_sleeps table cancelled_from outcomes now here true (pace_ticks n k) fs ps own g
   wakes_answer (counted n) shows fs ps own g = refl
   wakes_answer (counted n) (needs name) fs ps own g = refl
 
   -- a nursery has settled
   wakes_settled : (exc : Option Exc) (children : List ℕ) (ended : ℕ) (e : Option Exc) (u : Now) (fs : List Frame) (ps : List Place) →
-      PlacedStop (awaiting children ended e) fs ps → AgreesOn now.at table froms ps → SettlesAt here.clock now.at exc (told_members told children) ended e ps → now.own ≡ [] →
-      finished_from (by_table table) told (awaiting children ended e) fs here (stack_at table ps) u
-      ≡ after_events told (leaves_settled here.clock froms now exc fs ps).made (left_after table told here now (leaves_settled here.clock froms now exc fs ps))
+      PlacedStop (awaiting children ended e) fs ps → AgreesOn now.at table cancelled_from ps → SettlesAt here.clock now.at exc (outcome_members outcomes children) ended e ps → now.own ≡ [] →
+      finished_from (by_table table) outcomes (awaiting children ended e) fs here (stack_at table ps) u
+      ≡ after_events outcomes (leaves_settled here.clock cancelled_from now exc fs ps).made (left_after table outcomes here now (leaves_settled here.clock cancelled_from now exc fs ps))
   unfolding nursery_result
   wakes_settled exc children ended e u fs (p ∷ ps) w g s own =
-      ap (λ (q : Place). finished_from (by_table table) told (awaiting children ended e) fs here (stack_at table (q ∷ ps)) u) (of_kind p false w.0)
-      ∙ at_last (a_round_after here.clock (latest ended (told_members told children))) (group_of (by_nursery p.label)
-      (parts_of (with_exc e (excs_of (told_members told children))))) s.0 s.1 (sym own)
-      ∙ block_leaves table froms told now here a_nursery fs p ps exc g
+      ap (λ (q : Place). finished_from (by_table table) outcomes (awaiting children ended e) fs here (stack_at table (q ∷ ps)) u) (of_kind p false w.0)
+      ∙ at_last (a_round_after here.clock (latest ended (outcome_members outcomes children))) (group_of (by_nursery p.label)
+      (parts_of (with_exc e (excs_of (outcome_members outcomes children))))) s.0 s.1 (sym own)
+      ∙ block_leaves table cancelled_from outcomes now here a_nursery fs p ps exc g
     where
       left : Result → Result
       left r =
-          finish (by_table table) told fs here (stack_at table ps)
+          finish (by_table table) outcomes fs here (stack_at table ps)
           (block_left here.clock a_nursery (record { label = p.label; shield = p.shield; from = table p.label }) (stack_at table ps).scopes r)
 
       ended_with : Option Exc → ℕ → List Label → Result
@@ -109,90 +109,90 @@ module _ (table froms : Table) (told : ChildOutcomes) (now : Now) (here : Here) 
   wakes_seen : (u : Now) (paced : Bool) (n since : ℕ) (fs : List Frame) (ps : List Place) → since < now.at →
       now.at ≤ wakes_at here.clock n since →
       SeesAt here.clock since now.at (stack_at table ps) → now.own ≡ [] →
-      finished_from (by_table table) told (asleep paced n since) fs here (stack_at table ps) u
-      ≡ after_events told (sees_from here.clock froms now.at (asleep paced n since) fs ps).made
-      (left_after table told here now (sees_from here.clock froms now.at (asleep paced n since) fs ps))
+      finished_from (by_table table) outcomes (asleep paced n since) fs here (stack_at table ps) u
+      ≡ after_events outcomes (sees_from here.clock cancelled_from now.at (asleep paced n since) fs ps).made
+      (left_after table outcomes here now (sees_from here.clock cancelled_from now.at (asleep paced n since) fs ps))
   wakes_seen u false zero since fs ps lt le s own =
-      ap (λ (r : Result). finish (by_table table) told fs here (stack_at table ps) r)
+      ap (λ (r : Result). finish (by_table table) outcomes fs here (stack_at table ps) r)
       (checkpoint_seen here.clock (stack_at table ps) since now.at lt le s)
   wakes_seen u false (suc n) since fs ps lt le s own =
-      ap (λ (r : Result). finish (by_table table) told fs here (stack_at table ps) r)
+      ap (λ (r : Result). finish (by_table table) outcomes fs here (stack_at table ps) r)
       (slept_seen here.clock (stack_at table ps) n since now.at lt le s ∙ ap (λ (v : Now). raised_at cancelled v) (nothing_own now.at refl own))
   wakes_seen u true n since fs ps lt le s own =
-      ap (λ (r : Result). finish (by_table table) told fs here (stack_at table ps) r)
+      ap (λ (r : Result). finish (by_table table) outcomes fs here (stack_at table ps) r)
       (paced_seen here.clock (stack_at table ps) n since now.at lt le s ∙ ap (λ (v : Now). raised_at cancelled v) (nothing_own now.at refl own))
 
   -- a task whose sleep ends
   wakes_due : (u : Now) (paced : Bool) (n since : ℕ) (fs : List Frame) (ps : List Place) → wakes_at here.clock n since ≡ now.at →
       seen (stack_at table ps).scopes now.at ≡ false → now.own ≡ [] →
-      finished_from (by_table table) told (asleep paced n since) fs here (stack_at table ps) u
-      ≡ finish (by_table table) told fs here (stack_at table ps) (done_at now)
+      finished_from (by_table table) outcomes (asleep paced n since) fs here (stack_at table ps) u
+      ≡ finish (by_table table) outcomes fs here (stack_at table ps) (done_at now)
   wakes_due u paced n since fs ps e s own = by_pace paced
-      (ap (λ (r : Result). finish (by_table table) told fs here (stack_at table ps) r)
+      (ap (λ (r : Result). finish (by_table table) outcomes fs here (stack_at table ps) r)
       (slept_due paced here.clock (stack_at table ps) n since (subst (λ (v : ℕ). seen (stack_at table ps).scopes v ≡ false) (sym e) s)
       ∙ ap (λ (v : Now). done_at v) (nothing_own (wakes_at here.clock n since) e own)))
     where
       by_pace : (paced : Bool) →
-          finish (by_table table) told fs here (stack_at table ps) (slept paced here.clock (stack_at table ps) n since)
-          ≡ finish (by_table table) told fs here (stack_at table ps) (done_at now) →
-          finished_from (by_table table) told (asleep paced n since) fs here (stack_at table ps) u
-          ≡ finish (by_table table) told fs here (stack_at table ps) (done_at now)
+          finish (by_table table) outcomes fs here (stack_at table ps) (slept paced here.clock (stack_at table ps) n since)
+          ≡ finish (by_table table) outcomes fs here (stack_at table ps) (done_at now) →
+          finished_from (by_table table) outcomes (asleep paced n since) fs here (stack_at table ps) u
+          ≡ finish (by_table table) outcomes fs here (stack_at table ps) (done_at now)
       by_pace false h = h
       by_pace true h = h
 
   -- a task that waits for an event and sees a cancellation
   wakes_seen_waiting : (u : Now) (name : List ℕ) (since : ℕ) (fs : List Frame) (ps : List Place) → IsSome (label_among true name ps) →
-      AgreesOn now.at table froms ps →
+      AgreesOn now.at table cancelled_from ps →
       SeesWaiting here.clock (ends_at here.clock table name since ps) since now.at (stack_at table ps) → now.own ≡ [] →
-      finished_from (by_table table) told (waiting_for name since) fs here (stack_at table ps) u
-      ≡ after_events told (sees_from here.clock froms now.at (waiting_for name since) fs ps).made
-      (left_after table told here now (sees_from here.clock froms now.at (waiting_for name since) fs ps))
+      finished_from (by_table table) outcomes (waiting_for name since) fs here (stack_at table ps) u
+      ≡ after_events outcomes (sees_from here.clock cancelled_from now.at (waiting_for name since) fs ps).made
+      (left_after table outcomes here now (sees_from here.clock cancelled_from now.at (waiting_for name since) fs ps))
   wakes_seen_waiting u name since fs ps p g s own =
-      ap (λ (r : Result). finish (by_table table) told fs here (stack_at table ps) r)
+      ap (λ (r : Result). finish (by_table table) outcomes fs here (stack_at table ps) r)
       (event_seen here.clock (stack_at table ps) (event_on name (stack_at table ps).events) since now.at
       (subst (λ (o : Option Label). IsSome o) (sym (event_found table name ps)) p) s
-      ∙ ap (λ (b : Bool). raised_at cancelled (only_at (raises_in b now.at))) (checkpoint_alike here.clock now.at since table froms name ps s.0 g))
-      ∙ by_checkpoint (is_checkpoint here.clock (ends_at here.clock froms name since ps) since)
+      ∙ ap (λ (b : Bool). raised_at cancelled (only_at (raises_in b now.at))) (checkpoint_alike here.clock now.at since table cancelled_from name ps s.0 g))
+      ∙ by_checkpoint (is_checkpoint here.clock (ends_at here.clock cancelled_from name since ps) since)
     where
       by_checkpoint : (b : Bool) →
-          finish (by_table table) told fs here (stack_at table ps) (raised_at cancelled (only_at (raises_in b now.at)))
-          ≡ after_events told (gives_up_if b now.at fs ps).made (left_after table told here now (gives_up_if b now.at fs ps))
+          finish (by_table table) outcomes fs here (stack_at table ps) (raised_at cancelled (only_at (raises_in b now.at)))
+          ≡ after_events outcomes (gives_up_if b now.at fs ps).made (left_after table outcomes here now (gives_up_if b now.at fs ps))
       by_checkpoint true = refl
       by_checkpoint false =
-          ap (λ (v : Now). finish (by_table table) told fs here (stack_at table ps) (raised_at cancelled v)) (nothing_own now.at refl own)
+          ap (λ (v : Now). finish (by_table table) outcomes fs here (stack_at table ps) (raised_at cancelled v)) (nothing_own now.at refl own)
 
   -- a task whose wait for an event ends
   wakes_set : (u : Now) (name : List ℕ) (since : ℕ) (fs : List Frame) (ps : List Place) → IsSome (label_among true name ps) →
       GoesOnWaiting here.clock (ends_at here.clock table name since ps) since now.at (stack_at table ps) → now.own ≡ [] →
-      finished_from (by_table table) told (waiting_for name since) fs here (stack_at table ps) u
-      ≡ after_events told (is_due_from froms now.at (waiting_for name since) fs ps).made
-      (left_after table told here now (is_due_from froms now.at (waiting_for name since) fs ps))
+      finished_from (by_table table) outcomes (waiting_for name since) fs here (stack_at table ps) u
+      ≡ after_events outcomes (is_due_from cancelled_from now.at (waiting_for name since) fs ps).made
+      (left_after table outcomes here now (is_due_from cancelled_from now.at (waiting_for name since) fs ps))
   wakes_set u name since fs ps p s own =
-      ap (λ (r : Result). finish (by_table table) told fs here (stack_at table ps) r)
+      ap (λ (r : Result). finish (by_table table) outcomes fs here (stack_at table ps) r)
       (event_goes_on here.clock (stack_at table ps) (event_on name (stack_at table ps).events) since now.at
       (subst (λ (o : Option Label). IsSome o) (sym (event_found table name ps)) p) s
-      ∙ ap (λ (o : Option Label). noted_wait o now.at) (event_found table name ps ∙ sym (event_found froms name ps)))
-      ∙ by_event (event_on name (stack_at froms ps).events)
+      ∙ ap (λ (o : Option Label). noted_wait o now.at) (event_found table name ps ∙ sym (event_found cancelled_from name ps)))
+      ∙ by_event (event_on name (stack_at cancelled_from ps).events)
     where
       by_event : (o : Option (Level Label)) →
-          finish (by_table table) told fs here (stack_at table ps) (noted_wait (label_of o) now.at)
-          ≡ after_events told (notes_wait o now.at fs ps).made (left_after table told here now (notes_wait o now.at fs ps))
-      by_event None = ap (λ (v : Now). finish (by_table table) told fs here (stack_at table ps) (done_at v)) (nothing_own now.at refl own)
+          finish (by_table table) outcomes fs here (stack_at table ps) (noted_wait (label_of o) now.at)
+          ≡ after_events outcomes (notes_wait o now.at fs ps).made (left_after table outcomes here now (notes_wait o now.at fs ps))
+      by_event None = ap (λ (v : Now). finish (by_table table) outcomes fs here (stack_at table ps) (done_at v)) (nothing_own now.at refl own)
       by_event (Some l) =
-          finish_after fs (entry now.at (waited l.label) nil) (by_table table) told here (stack_at table ps) (done_at (only_at now.at))
-          ∙ ap (λ (v : Now). after_events told (notes_wait (Some l) now.at fs ps).made
-          (finish (by_table table) told fs here (stack_at table ps) (done_at v))) (nothing_own now.at refl own)
+          finish_after fs (entry now.at (waited l.label) nil) (by_table table) outcomes here (stack_at table ps) (done_at (only_at now.at))
+          ∙ ap (λ (v : Now). after_events outcomes (notes_wait (Some l) now.at fs ps).made
+          (finish (by_table table) outcomes fs here (stack_at table ps) (done_at v))) (nothing_own now.at refl own)
 
   -- each wake
   pub wake_keeps : (u : Now) {w : Wake} {s : Stopped} → CanWake w s → (fs : List Frame) (ps : List Place) → PlacedStop s fs ps →
-      AgreesOn now.at table froms ps → WakesBy table told here u now w s ps →
-      finished_from (by_table table) told s fs here (stack_at table ps) u
-      ≡ after_events told (wake_of froms now here w s fs ps).made (left_after table told here now (wake_of froms now here w s fs ps))
-  wake_keeps u from_start fs ps p g e = ap (λ (v : Now). finish (by_table table) told fs here (stack_at table ps) (done_at v)) e.0
+      AgreesOn now.at table cancelled_from ps → WakesBy table outcomes here u now w s ps →
+      finished_from (by_table table) outcomes s fs here (stack_at table ps) u
+      ≡ after_events outcomes (wake_of cancelled_from now here w s fs ps).made (left_after table outcomes here now (wake_of cancelled_from now here w s fs ps))
+  wake_keeps u from_start fs ps p g e = ap (λ (v : Now). finish (by_table table) outcomes fs here (stack_at table ps) (done_at v)) e.0
   wake_keeps u (from_asking {a} {kernel} {purpose}) fs ps p g e =
-      ap (λ (v : Now). finish (by_table table) told fs here (stack_at table ps)
+      ap (λ (v : Now). finish (by_table table) outcomes fs here (stack_at table ps)
       (answer_result (answer_of kernel here) purpose here (stack_at table ps) v)) e.0
-      ∙ (ap (λ (b : Answer). finish (by_table table) told fs here (stack_at table ps) (answer_result b purpose here (stack_at table ps) now))
+      ∙ (ap (λ (b : Answer). finish (by_table table) outcomes fs here (stack_at table ps) (answer_result b purpose here (stack_at table ps) now))
       (sym e.1)
       ∙ wakes_answer a purpose fs ps e.2 g)
   wake_keeps u (from_sleep {paced} {n} {since}) fs ps p g e = wakes_seen u paced n since fs ps e.0 e.1 e.2 e.3
@@ -200,7 +200,7 @@ module _ (table froms : Table) (told : ChildOutcomes) (now : Now) (here : Here) 
   wake_keeps u (from_seen_waiting {event = name} {since}) fs ps p g e = wakes_seen_waiting u name since fs ps p.0 g e.0 e.1
   wake_keeps u (from_set {event = name} {since}) fs ps p g e = wakes_set u name since fs ps p.0 e.0 e.1
   wake_keeps u (from_giving_up {since}) fs ps p g e =
-      ap (λ (v : Now). finish (by_table table) told fs here (stack_at table ps) (raised_at cancelled v)) (nothing_own (suc since) e.0 e.1)
+      ap (λ (v : Now). finish (by_table table) outcomes fs here (stack_at table ps) (raised_at cancelled v)) (nothing_own (suc since) e.0 e.1)
   wake_keeps u (from_wait {exc} {children} {ended} {e}) fs ps p g h = wakes_settled exc children ended e u fs ps p g h.0 h.1
 
 -- ---- what a wake makes and leaves
@@ -218,10 +218,10 @@ sleep_some false (suc n) = omega arith
 sleep_some true zero = omega arith
 sleep_some true (suc n) = omega arith
 
-lines_case : (clock : Clock) (t : ℕ) (froms : Table) (w : ℕ) (ls : List Span) (fs : List Frame) (ps : List Place) (count : ℕ) → Placed fs ps →
+lines_case : (clock : Clock) (t : ℕ) (cancelled_from : Table) (w : ℕ) (ls : List Span) (fs : List Frame) (ps : List Place) (count : ℕ) → Placed fs ps →
     frames_weight fs ≤ w →
-    Case clock t froms w (home_places fs ps) ps count (makes (lines_made t ls) fs ps)
-lines_case clock t froms w ls fs ps count p le =
+    Case clock t cancelled_from w (home_places fs ps) ps count (makes (lines_made t ls) fs ps)
+lines_case clock t cancelled_from w ls fs ps count p le =
     record {
       placed = p;
       at_home = refl;
@@ -236,29 +236,29 @@ lines_case clock t froms w ls fs ps count p le =
     }
 
 -- the wake's part of the promise: it takes at least 1 of the weight
-answered_case : (t : ℕ) (froms : Table) (here : Here) (a : Answer) (purpose : Purpose) (fs : List Frame) (ps : List Place) (count w : ℕ) →
+answered_case : (t : ℕ) (cancelled_from : Table) (here : Here) (a : Answer) (purpose : Purpose) (fs : List Frame) (ps : List Place) (count w : ℕ) →
     Placed fs ps → 1 + w ≡ asking_weight purpose + frames_weight fs →
-    Case here.clock t froms w (home_places fs ps) ps count (goes_on_with froms t here a purpose fs ps)
-answered_case t froms here (lines ls) purpose fs ps count w p e =
-    lines_case here.clock t froms w ls fs ps count p (let h = asking_weighs purpose in omega arith)
-answered_case t froms here missing (needs name) fs ps count w p e = onward_case here.clock t froms w _ fs ps _ count p refl (omega arith)
-answered_case t froms here missing shows fs ps count w p e = onward_case here.clock t froms w _ fs ps _ count p refl (omega arith)
-answered_case t froms here missing (paces k) fs ps count w p e = onward_case here.clock t froms w _ fs ps _ count p refl (omega arith)
-answered_case t froms here (counted n) (paces k) fs ps count w p e = sleep_case here.clock t froms true (pace_ticks n k) w _ fs ps count p refl (omega arith)
-answered_case t froms here (counted n) shows fs ps count w p e = onward_case here.clock t froms w _ fs ps _ count p refl (omega arith)
-answered_case t froms here (counted n) (needs name) fs ps count w p e = onward_case here.clock t froms w _ fs ps _ count p refl (omega arith)
+    Case here.clock t cancelled_from w (home_places fs ps) ps count (goes_on_with cancelled_from t here a purpose fs ps)
+answered_case t cancelled_from here (lines ls) purpose fs ps count w p e =
+    lines_case here.clock t cancelled_from w ls fs ps count p (let h = asking_weighs purpose in omega arith)
+answered_case t cancelled_from here missing (needs name) fs ps count w p e = onward_case here.clock t cancelled_from w _ fs ps _ count p refl (omega arith)
+answered_case t cancelled_from here missing shows fs ps count w p e = onward_case here.clock t cancelled_from w _ fs ps _ count p refl (omega arith)
+answered_case t cancelled_from here missing (paces k) fs ps count w p e = onward_case here.clock t cancelled_from w _ fs ps _ count p refl (omega arith)
+answered_case t cancelled_from here (counted n) (paces k) fs ps count w p e = sleep_case here.clock t cancelled_from true (pace_ticks n k) w _ fs ps count p refl (omega arith)
+answered_case t cancelled_from here (counted n) shows fs ps count w p e = onward_case here.clock t cancelled_from w _ fs ps _ count p refl (omega arith)
+answered_case t cancelled_from here (counted n) (needs name) fs ps count w p e = onward_case here.clock t cancelled_from w _ fs ps _ count p refl (omega arith)
 
-settled_case : (clock : Clock) (now : Now) (froms : Table) (exc : Option Exc) (children : List ℕ) (ended : ℕ) (x : Option Exc) (fs : List Frame)
+settled_case : (clock : Clock) (now : Now) (cancelled_from : Table) (exc : Option Exc) (children : List ℕ) (ended : ℕ) (x : Option Exc) (fs : List Frame)
     (ps : List Place) (count w : ℕ) →
     PlacedStop (awaiting children ended x) fs ps → 1 + w ≡ 1 + frames_weight fs →
-    Case clock now.at froms w (home_after (Some (awaiting children ended x)) fs ps) ps count (leaves_settled clock froms now exc fs ps)
-settled_case clock now froms exc children ended x fs (p ∷ ps) count w q e = leaves_case clock now froms a_nursery w _ fs p ps exc count q.1 refl (omega arith)
-settled_case clock now froms exc children ended x fs [] count w q e = absurd q
+    Case clock now.at cancelled_from w (home_after (Some (awaiting children ended x)) fs ps) ps count (leaves_settled clock cancelled_from now exc fs ps)
+settled_case clock now cancelled_from exc children ended x fs (p ∷ ps) count w q e = leaves_case clock now cancelled_from a_nursery w _ fs p ps exc count q.1 refl (omega arith)
+settled_case clock now cancelled_from exc children ended x fs [] count w q e = absurd q
 
 -- a task that gives up, or raises
-giving_case : (clock : Clock) (t : ℕ) (froms : Table) (b : Bool) (w : ℕ) (fs : List Frame) (ps : List Place) (count : ℕ) → Placed fs ps →
-    1 + frames_weight fs ≤ w → Case clock t froms w (home_places fs ps) ps count (gives_up_if b t fs ps)
-giving_case clock t froms true w fs ps count p le =
+giving_case : (clock : Clock) (t : ℕ) (cancelled_from : Table) (b : Bool) (w : ℕ) (fs : List Frame) (ps : List Place) (count : ℕ) → Placed fs ps →
+    1 + frames_weight fs ≤ w → Case clock t cancelled_from w (home_places fs ps) ps count (gives_up_if b t fs ps)
+giving_case clock t cancelled_from true w fs ps count p le =
     record {
       placed = p;
       at_home = refl;
@@ -270,13 +270,13 @@ giving_case clock t froms true w fs ps count p le =
       stops = refl;
       weight = omega arith;
     }
-giving_case clock t froms false w fs ps count p le = onward_case clock t froms w _ fs ps _ count p refl (omega arith)
+giving_case clock t cancelled_from false w fs ps count p le = onward_case clock t cancelled_from w _ fs ps _ count p refl (omega arith)
 
 -- a wait that ended well
-noted_case : (clock : Clock) (t : ℕ) (froms : Table) (o : Option (Level Label)) (w : ℕ) (fs : List Frame) (ps : List Place) (count : ℕ) → Placed fs ps →
-    frames_weight fs ≤ w → Case clock t froms w (home_places fs ps) ps count (notes_wait o t fs ps)
-noted_case clock t froms None w fs ps count p le = onward_case clock t froms w _ fs ps _ count p refl le
-noted_case clock t froms (Some l) w fs ps count p le =
+noted_case : (clock : Clock) (t : ℕ) (cancelled_from : Table) (o : Option (Level Label)) (w : ℕ) (fs : List Frame) (ps : List Place) (count : ℕ) → Placed fs ps →
+    frames_weight fs ≤ w → Case clock t cancelled_from w (home_places fs ps) ps count (notes_wait o t fs ps)
+noted_case clock t cancelled_from None w fs ps count p le = onward_case clock t cancelled_from w _ fs ps _ count p refl le
+noted_case clock t cancelled_from (Some l) w fs ps count p le =
     record {
       placed = p;
       at_home = refl;
@@ -289,27 +289,27 @@ noted_case clock t froms (Some l) w fs ps count p le =
       weight = omega arith;
     }
 
-wake_case : (now : Now) (froms : Table) (here : Here) {w : Wake} {s : Stopped} → CanWake w s →
+wake_case : (now : Now) (cancelled_from : Table) (here : Here) {w : Wake} {s : Stopped} → CanWake w s →
     (fs : List Frame) (ps : List Place) (count b : ℕ) →
     PlacedStop s fs ps → 1 + b ≡ stop_weight s + frames_weight fs →
-    Case here.clock now.at froms b (home_after (Some s) fs ps) ps count (wake_of froms now here w s fs ps)
-wake_case now froms here from_start fs ps count b p e = onward_case here.clock now.at froms b _ fs ps _ count p refl (omega arith)
-wake_case now froms here (from_asking {a} {kernel} {purpose}) fs ps count b p e = answered_case now.at froms here a purpose fs ps count b p.1 e
-wake_case now froms here (from_sleep {paced = false} {n = zero} {since}) fs ps count b p e =
-    giving_case here.clock now.at froms true b fs ps count p (omega arith)
-wake_case now froms here (from_sleep {paced = false} {n = suc n} {since}) fs ps count b p e =
-    onward_case here.clock now.at froms b _ fs ps _ count p refl (omega arith)
-wake_case now froms here (from_sleep {paced = true} {n} {since}) fs ps count b p e =
-    onward_case here.clock now.at froms b _ fs ps _ count p refl (let h = sleep_some true n in omega arith)
-wake_case now froms here (from_seen_waiting {event = name} {since}) fs ps count b p e =
-    giving_case here.clock now.at froms (is_checkpoint here.clock (ends_at here.clock froms name since ps) since) b fs ps count p.1 (omega arith)
-wake_case now froms here (from_set {event = name} {since}) fs ps count b p e =
-    noted_case here.clock now.at froms (event_on name (stack_at froms ps).events) b fs ps count p.1 (omega arith)
-wake_case now froms here (from_giving_up {since}) fs ps count b p e = onward_case here.clock now.at froms b _ fs ps _ count p refl (omega arith)
-wake_case now froms here (from_due {paced} {n} {since}) fs ps count b p e =
-    onward_case here.clock now.at froms b _ fs ps _ count p refl (let h = sleep_some paced n in omega arith)
-wake_case now froms here (from_wait {exc} {children} {ended} {e}) fs ps count b p h =
-    settled_case here.clock now froms exc children ended e fs ps count b p h
+    Case here.clock now.at cancelled_from b (home_after (Some s) fs ps) ps count (wake_of cancelled_from now here w s fs ps)
+wake_case now cancelled_from here from_start fs ps count b p e = onward_case here.clock now.at cancelled_from b _ fs ps _ count p refl (omega arith)
+wake_case now cancelled_from here (from_asking {a} {kernel} {purpose}) fs ps count b p e = answered_case now.at cancelled_from here a purpose fs ps count b p.1 e
+wake_case now cancelled_from here (from_sleep {paced = false} {n = zero} {since}) fs ps count b p e =
+    giving_case here.clock now.at cancelled_from true b fs ps count p (omega arith)
+wake_case now cancelled_from here (from_sleep {paced = false} {n = suc n} {since}) fs ps count b p e =
+    onward_case here.clock now.at cancelled_from b _ fs ps _ count p refl (omega arith)
+wake_case now cancelled_from here (from_sleep {paced = true} {n} {since}) fs ps count b p e =
+    onward_case here.clock now.at cancelled_from b _ fs ps _ count p refl (let h = sleep_some true n in omega arith)
+wake_case now cancelled_from here (from_seen_waiting {event = name} {since}) fs ps count b p e =
+    giving_case here.clock now.at cancelled_from (is_checkpoint here.clock (ends_at here.clock cancelled_from name since ps) since) b fs ps count p.1 (omega arith)
+wake_case now cancelled_from here (from_set {event = name} {since}) fs ps count b p e =
+    noted_case here.clock now.at cancelled_from (event_on name (stack_at cancelled_from ps).events) b fs ps count p.1 (omega arith)
+wake_case now cancelled_from here (from_giving_up {since}) fs ps count b p e = onward_case here.clock now.at cancelled_from b _ fs ps _ count p refl (omega arith)
+wake_case now cancelled_from here (from_due {paced} {n} {since}) fs ps count b p e =
+    onward_case here.clock now.at cancelled_from b _ fs ps _ count p refl (let h = sleep_some paced n in omega arith)
+wake_case now cancelled_from here (from_wait {exc} {children} {ended} {e}) fs ps count b p h =
+    settled_case here.clock now cancelled_from exc children ended e fs ps count b p h
 
 -- a stop that can be woken from has a weight
 wakes_weigh : {w : Wake} {s : Stopped} → CanWake w s → (fs : List Frame) → 1 ≤ stop_weight s + frames_weight fs
@@ -323,29 +323,29 @@ wakes_weigh (from_giving_up {since}) fs = omega arith
 wakes_weigh (from_wait {exc} {children} {ended} {e}) fs = omega arith
 
 -- what a task has cancelled when it wakes is as it has to be
-pub wakes_fit : (table : Table) (told : ChildOutcomes) (here : Here) (u now : Now) {w : Wake} {s : Stopped} → CanWake w s → (ps : List Place) →
-    WakesBy table told here u now w s ps → OwnFits here.clock now.own
-wakes_fit table told here u now from_start ps e = e.1
-wakes_fit table told here u now from_asking ps e = e.2
-wakes_fit table told here u now from_sleep ps e = none_fits here.clock now.own e.3
-wakes_fit table told here u now from_due ps e = none_fits here.clock now.own e.2
-wakes_fit table told here u now from_seen_waiting ps e = none_fits here.clock now.own e.1
-wakes_fit table told here u now from_set ps e = none_fits here.clock now.own e.1
-wakes_fit table told here u now from_giving_up ps e = none_fits here.clock now.own e.1
-wakes_fit table told here u now from_wait ps e = none_fits here.clock now.own e.1
+pub wakes_fit : (table : Table) (outcomes : ChildOutcomes) (here : Here) (u now : Now) {w : Wake} {s : Stopped} → CanWake w s → (ps : List Place) →
+    WakesBy table outcomes here u now w s ps → OwnFits here.clock now.own
+wakes_fit table outcomes here u now from_start ps e = e.1
+wakes_fit table outcomes here u now from_asking ps e = e.2
+wakes_fit table outcomes here u now from_sleep ps e = none_fits here.clock now.own e.3
+wakes_fit table outcomes here u now from_due ps e = none_fits here.clock now.own e.2
+wakes_fit table outcomes here u now from_seen_waiting ps e = none_fits here.clock now.own e.1
+wakes_fit table outcomes here u now from_set ps e = none_fits here.clock now.own e.1
+wakes_fit table outcomes here u now from_giving_up ps e = none_fits here.clock now.own e.1
+wakes_fit table outcomes here u now from_wait ps e = none_fits here.clock now.own e.1
 
 -- the wake keeps the whole promise
-pub turned_wake : (u now : Now) (here : Here) (froms : Table) (w : Wake) (rest : Rest) (ps : List Place) (count : ℕ) → CanWake w rest.stopped →
+pub turned_wake : (u now : Now) (here : Here) (cancelled_from : Table) (w : Wake) (rest : Rest) (ps : List Place) (count : ℕ) → CanWake w rest.stopped →
     PlacedStop rest.stopped rest.frames ps →
-    TurnsOver u now here froms w rest ps count (wake_of froms now here w rest.stopped rest.frames ps)
-turned_wake u now here froms w rest ps count c p =
+    TurnsOver u now here cancelled_from w rest ps count (wake_of cancelled_from now here w rest.stopped rest.frames ps)
+turned_wake u now here cancelled_from w rest ps count c p =
     record {
-      keeps = λ table told g a b h. wake_keeps table froms told now here u c rest.frames ps p a g;
+      keeps = λ table outcomes g a b h. wake_keeps table cancelled_from outcomes now here u c rest.frames ps p a g;
       placed = all.placed;
       at_home = all.at_home;
-      kids = wake_kids now froms here w rest.stopped rest.frames ps count;
-      housed = wake_housed now froms here w rest.stopped rest.frames ps;
-      stays = λ i home h. wake_stays now froms here i home c rest.frames ps h;
+      kids = wake_kids now cancelled_from here w rest.stopped rest.frames ps count;
+      housed = wake_housed now cancelled_from here w rest.stopped rest.frames ps;
+      stays = λ i home h. wake_stays now cancelled_from here i home c rest.frames ps h;
       made_now = all.made_now;
       places = all.places;
       starts = all.starts_made;
@@ -358,20 +358,20 @@ turned_wake u now here froms w rest ps count c p =
     one_less : (n : ℕ) → 1 ≤ n → 1 + (n - 1) ≡ n
     one_less n le = omega arith
 
-    all : Case here.clock now.at froms (rest_weight rest - 1) (home_after (Some rest.stopped) rest.frames ps) ps count
-        (wake_of froms now here w rest.stopped rest.frames ps)
-    all = wake_case now froms here c rest.frames ps count (rest_weight rest - 1) p (one_less (rest_weight rest) (wakes_weigh c rest.frames))
+    all : Case here.clock now.at cancelled_from (rest_weight rest - 1) (home_after (Some rest.stopped) rest.frames ps) ps count
+        (wake_of cancelled_from now here w rest.stopped rest.frames ps)
+    all = wake_case now cancelled_from here c rest.frames ps count (rest_weight rest - 1) p (one_less (rest_weight rest) (wakes_weigh c rest.frames))
 
 -- A whole turn: the wake, and then as many steps as it takes to the next stop.
-pub turned_from : (n : ℕ) (u now : Now) (here : Here) (froms : Table) (w : Wake) (rest : Rest) (ps : List Place) (count : ℕ) →
+pub turned_from : (n : ℕ) (u now : Now) (here : Here) (cancelled_from : Table) (w : Wake) (rest : Rest) (ps : List Place) (count : ℕ) →
     CanWake w rest.stopped → PlacedStop rest.stopped rest.frames ps →
-    TurnsOver u now here froms w rest ps count (turn_from n froms now here w rest.stopped rest.frames ps count)
+    TurnsOver u now here cancelled_from w rest ps count (turn_from n cancelled_from now here w rest.stopped rest.frames ps count)
 unfolding turn_from
-turned_from n u now here froms w rest ps count c p =
-    let o = wake_of froms now here w rest.stopped rest.frames ps in
+turned_from n u now here cancelled_from w rest ps count c p =
+    let o = wake_of cancelled_from now here w rest.stopped rest.frames ps in
     let m : Midway = record { frames = o.frames; places = o.places; exc = o.exc; count = count + length o.begun } in
-    turned_on now here froms (λ table told. WakesBy table told here u now w rest.stopped ps) (λ table told e. wakes_fit table told here u now c ps e)
-    (λ table told. rest_comes_to (by_table table) told rest here (stack_at table ps) u)
+    turned_on now here cancelled_from (λ table outcomes. WakesBy table outcomes here u now w rest.stopped ps) (λ table outcomes e. wakes_fit table outcomes here u now c ps e)
+    (λ table outcomes. rest_comes_to (by_table table) outcomes rest here (stack_at table ps) u)
     (rest_weight rest) (Some rest.stopped) rest.frames ps count
-    o.stopped o (turn_of n (froms_after froms o.made) (now_after here.clock now o.made) here m) refl (turned_wake u now here froms w rest ps count c p)
-    (λ q. turned_turn n (now_after here.clock now o.made) here (froms_after froms o.made) m q)
+    o.stopped o (turn_of n (cancelled_from_after cancelled_from o.made) (now_after here.clock now o.made) here m) refl (turned_wake u now here cancelled_from w rest ps count c p)
+    (λ q. turned_turn n (now_after here.clock now o.made) here (cancelled_from_after cancelled_from o.made) m q)

@@ -8,27 +8,27 @@ use Rattle.job_meaning.specs.Moments.{a_round_after, Now, only_at}
 use Rattle.job_meaning.specs.Walk.{by_table, Here}
 use Rattle.job_meaning.specs.Rest.{Event, ChildOutcomes, fill, steps_left, Stopped, to_begin, Rest, rest_comes_to, task_comes_to, rest_at_start}
 use Rattle.job_meaning.proofs.Finish.{finish_begin}
-use Rattle.turn_semantics.specs.Midway.{Place, stack_at, Begun, Move, after_events, left_after, stop_comes_to, begun_comes_to, none_told, now_after}
+use Rattle.turn_semantics.specs.Midway.{Place, stack_at, Begun, Move, after_events, left_after, stop_comes_to, begun_comes_to, no_outcomes, now_after}
 use Rattle.turn_semantics.specs.Placed.{PlacedStop}
 use Rattle.turn_semantics.specs.Wakes.{Wake, WakesBy}
-use Rattle.turn_semantics.specs.Turned.{AgreesOn, AgreesAhead, AllTold, BegunIn, TurnsOver}
+use Rattle.turn_semantics.specs.Turned.{AgreesOn, AgreesAhead, AreOutcomes, BegunIn, TurnsOver}
 use Rattle.turn_semantics.proofs.Turns.{after_append}
 
 -- A whole turn leaves the result of the task unchanged: what it did before, its stop and its frames before the turn
 -- have the same result as what it has done, its stop and its frames after it.
-pub turn_comes_to : (u now : Now) (here : Here) (froms : Table) (w : Wake) (rest : Rest) (ps : List Place) (count : ℕ) (o : Move)
+pub turn_comes_to : (u now : Now) (here : Here) (cancelled_from : Table) (w : Wake) (rest : Rest) (ps : List Place) (count : ℕ) (o : Move)
     (made : List Event) (s : Stopped) →
-    TurnsOver u now here froms w rest ps count o → o.stopped ≡ Some s → (table : Table) (told : ChildOutcomes) →
-    WakesBy table told here u now w rest.stopped ps →
-    AgreesOn now.at table froms ps →
-    AgreesAhead now.at table (fill told o.made) (rest_comes_to (by_table table) told rest here (stack_at table ps) u).log →
-    AllTold (a_round_after here.clock now.at) table told o.begun →
-    task_comes_to (by_table table) told made rest here (stack_at table ps) u
-    ≡ task_comes_to (by_table table) told (made ++ o.made) (record { stopped = s; frames = o.frames }) here (stack_at table o.places) (now_after here.clock now o.made)
-turn_comes_to u now here froms w rest ps count o made s x e table told g a b h =
-    ap (λ (r : Result). after_events told made r) (x.keeps table told g a b h)
-    ∙ (sym (after_append told made o.made (left_after table told here now o))
-    ∙ ap (λ (z : Option Stopped). after_events told (made ++ o.made) (stop_comes_to z table told here (now_after here.clock now o.made) o.frames o.places o.exc)) e)
+    TurnsOver u now here cancelled_from w rest ps count o → o.stopped ≡ Some s → (table : Table) (outcomes : ChildOutcomes) →
+    WakesBy table outcomes here u now w rest.stopped ps →
+    AgreesOn now.at table cancelled_from ps →
+    AgreesAhead now.at table (fill outcomes o.made) (rest_comes_to (by_table table) outcomes rest here (stack_at table ps) u).log →
+    AreOutcomes (a_round_after here.clock now.at) table outcomes o.begun →
+    task_comes_to (by_table table) outcomes made rest here (stack_at table ps) u
+    ≡ task_comes_to (by_table table) outcomes (made ++ o.made) (record { stopped = s; frames = o.frames }) here (stack_at table o.places) (now_after here.clock now o.made)
+turn_comes_to u now here cancelled_from w rest ps count o made s x e table outcomes g a b h =
+    ap (λ (r : Result). after_events outcomes made r) (x.keeps table outcomes g a b h)
+    ∙ (sym (after_append outcomes made o.made (left_after table outcomes here now o))
+    ∙ ap (λ (z : Option Stopped). after_events outcomes (made ++ o.made) (stop_comes_to z table outcomes here (now_after here.clock now o.made) o.frames o.places o.exc)) e)
 
 -- a task that was started, and whose block is no nursery's body, may begin inside any scopes and nurseries
 pub start_placed : (body : Steps) (ps : List Place) → StartsIn false body →
@@ -47,8 +47,8 @@ begun_placed ls (b ∷ bs) a = ((a.1, tt), begun_placed ls bs a.2)
 
 -- the result of a child, before it began: the same whatever is recorded of the children, and the result of its
 -- block's walk
-pub begun_final_result : (table : Table) (told : ChildOutcomes) (t : ℕ) (b : Begun) →
-    task_comes_to (by_table table) told [] (rest_at_start b.body) b.here (stack_at table b.places) (only_at t) ≡ begun_comes_to table t b
-begun_final_result table told t b =
-    finish_begin (by_table table) told b.body b.here (stack_at table b.places) (only_at t)
-    ∙ sym (finish_begin (by_table table) none_told b.body b.here (stack_at table b.places) (only_at t))
+pub begun_final_result : (table : Table) (outcomes : ChildOutcomes) (t : ℕ) (b : Begun) →
+    task_comes_to (by_table table) outcomes [] (rest_at_start b.body) b.here (stack_at table b.places) (only_at t) ≡ begun_comes_to table t b
+begun_final_result table outcomes t b =
+    finish_begin (by_table table) outcomes b.body b.here (stack_at table b.places) (only_at t)
+    ∙ sym (finish_begin (by_table table) no_outcomes b.body b.here (stack_at table b.places) (only_at t))

@@ -11,55 +11,55 @@ use Rattle.job_meaning.specs.declared.clock.Clock.{Clock}
 use Rattle.job_meaning.specs.Walk.{by_table, Here}
 use Rattle.job_meaning.specs.Rest.{steps_left, Event, ChildOutcomes, fill, Stopped, Rest, rest_comes_to, task_comes_to}
 use Rattle.turn_semantics.specs.Midway.{Place, stack_at, Midway, Move, now_after}
-use Rattle.turn_semantics.specs.Steps.{froms_after, step_of}
+use Rattle.turn_semantics.specs.Steps.{cancelled_from_after, step_of}
 use Rattle.turn_semantics.specs.Placed.{Placed, IsSome, PlacedStop, outer_places}
 use Rattle.turn_semantics.specs.Wakes.{Wake, wake_of, turn_from, WakesBy, CanWake}
-use Rattle.turn_semantics.specs.Turned.{AgreesOn, AgreesAhead, AllTold, MadeAt, made_sign, EntersIn, EntersOnceWith, Goes, TurnsOver}
+use Rattle.turn_semantics.specs.Turned.{AgreesOn, AgreesAhead, AreOutcomes, MadeAt, made_sign, EntersIn, EntersOnceWith, Goes, TurnsOver}
 use Rattle.turn_semantics.specs.Bound.{frames_length}
 use Rattle.turn_semantics.specs.Names.{names_at, OwnNames, NewIn, StaysNew}
 
 -- each step keeps the promise
 abbrev pub EachStepGoes : Type 0
-EachStepGoes = (now : Now) (here : Here) (froms : Table) (m : Midway) → Placed m.frames m.places → Goes now here froms m (step_of froms now here m)
+EachStepGoes = (now : Now) (here : Here) (cancelled_from : Table) (m : Midway) → Placed m.frames m.places → Goes now here cancelled_from m (step_of cancelled_from now here m)
 
 -- each turn keeps it, from the wake to the next stop, and comes to a stop
 abbrev pub EachTurnKeeps : Type 0
 EachTurnKeeps =
-    (n : ℕ) (u now : Now) (here : Here) (froms : Table) (w : Wake) (rest : Rest) (ps : List Place) (count : ℕ) → CanWake w rest.stopped →
+    (n : ℕ) (u now : Now) (here : Here) (cancelled_from : Table) (w : Wake) (rest : Rest) (ps : List Place) (count : ℕ) → CanWake w rest.stopped →
     PlacedStop rest.stopped rest.frames ps →
-    TurnsOver u now here froms w rest ps count (turn_from n froms now here w rest.stopped rest.frames ps count)
+    TurnsOver u now here cancelled_from w rest ps count (turn_from n cancelled_from now here w rest.stopped rest.frames ps count)
 
 abbrev pub EachTurnStops : Type 0
 EachTurnStops =
-    (n : ℕ) (now : Now) (here : Here) (froms : Table) (w : Wake) (rest : Rest) (ps : List Place) (count : ℕ) →
-    frames_length (wake_of froms now here w rest.stopped rest.frames ps).frames < n →
-    IsSome (turn_from n froms now here w rest.stopped rest.frames ps count).stopped
+    (n : ℕ) (now : Now) (here : Here) (cancelled_from : Table) (w : Wake) (rest : Rest) (ps : List Place) (count : ℕ) →
+    frames_length (wake_of cancelled_from now here w rest.stopped rest.frames ps).frames < n →
+    IsSome (turn_from n cancelled_from now here w rest.stopped rest.frames ps count).stopped
 
 -- A turn that keeps the promise leaves the result of the task unchanged: what it did before, its stop and its frames
 -- before the turn have the same result as what it has done, its stop and its frames after it.
 abbrev pub TaskComesToTheSame : Type 0
 TaskComesToTheSame =
-    (u now : Now) (here : Here) (froms : Table) (w : Wake) (rest : Rest) (ps : List Place) (count : ℕ) (o : Move) (made : List Event)
+    (u now : Now) (here : Here) (cancelled_from : Table) (w : Wake) (rest : Rest) (ps : List Place) (count : ℕ) (o : Move) (made : List Event)
     (s : Stopped) →
-    TurnsOver u now here froms w rest ps count o → o.stopped ≡ Some s → (table : Table) (told : ChildOutcomes) →
-    WakesBy table told here u now w rest.stopped ps →
-    AgreesOn now.at table froms ps →
-    AgreesAhead now.at table (fill told o.made) (rest_comes_to (by_table table) told rest here (stack_at table ps) u).log →
-    AllTold (a_round_after here.clock now.at) table told o.begun →
-    task_comes_to (by_table table) told made rest here (stack_at table ps) u
-    ≡ task_comes_to (by_table table) told (made ++ o.made) (record { stopped = s; frames = o.frames }) here (stack_at table o.places) (now_after here.clock now o.made)
+    TurnsOver u now here cancelled_from w rest ps count o → o.stopped ≡ Some s → (table : Table) (outcomes : ChildOutcomes) →
+    WakesBy table outcomes here u now w rest.stopped ps →
+    AgreesOn now.at table cancelled_from ps →
+    AgreesAhead now.at table (fill outcomes o.made) (rest_comes_to (by_table table) outcomes rest here (stack_at table ps) u).log →
+    AreOutcomes (a_round_after here.clock now.at) table outcomes o.begun →
+    task_comes_to (by_table table) outcomes made rest here (stack_at table ps) u
+    ≡ task_comes_to (by_table table) outcomes (made ++ o.made) (record { stopped = s; frames = o.frames }) here (stack_at table o.places) (now_after here.clock now o.made)
 
 -- the from of a label that was not entered is lowered by exactly the signs made for it
-abbrev pub FromsAreLowered : Type 0
-FromsAreLowered = (es : List Event) (froms : Table) (l : Label) → (EntersIn l es → ⊥) →
-    froms_after froms es l ≡ from_by (froms l) (made_sign l es)
+abbrev pub CancelledFromIsLowered : Type 0
+CancelledFromIsLowered = (es : List Event) (cancelled_from : Table) (l : Label) → (EntersIn l es → ⊥) →
+    cancelled_from_after cancelled_from es l ≡ from_by (cancelled_from l) (made_sign l es)
 
 -- and that of a label that was entered once, and was none of those before, starts as its deadline
-abbrev pub FromsAreOpened : Type 0
-FromsAreOpened =
-    (clock : Clock) (t : ℕ) (es : List Event) (ls : List Label) (froms : Table) (l : Label) (d : Tick) → MadeAt clock t ls es → (IsAmong l ls → ⊥) →
+abbrev pub CancelledFromIsOpened : Type 0
+CancelledFromIsOpened =
+    (clock : Clock) (t : ℕ) (es : List Event) (ls : List Label) (cancelled_from : Table) (l : Label) (d : Tick) → MadeAt clock t ls es → (IsAmong l ls → ⊥) →
     EntersOnceWith l d es →
-    froms_after froms es l ≡ from_by d (made_sign l es)
+    cancelled_from_after cancelled_from es l ≡ from_by d (made_sign l es)
 
 -- in a job whose names are given once, none is the name of an enclosing scope
 abbrev pub JobsBeginNew : Type 0
@@ -67,11 +67,11 @@ JobsBeginNew = (job : Tree) → GivesNamesOnce job → NewIn (steps_left job.ste
 
 -- and each step and each turn keep that, so the scopes that enclose a task have different labels
 abbrev pub EachStepStaysNew : Type 0
-EachStepStaysNew = (froms : Table) (now : Now) (here : Here) (m : Midway) → NewIn m.frames m.places → OwnNames (names_at m.places) →
-    StaysNew (step_of froms now here m)
+EachStepStaysNew = (cancelled_from : Table) (now : Now) (here : Here) (m : Midway) → NewIn m.frames m.places → OwnNames (names_at m.places) →
+    StaysNew (step_of cancelled_from now here m)
 
 abbrev pub EachTurnStaysNew : Type 0
 EachTurnStaysNew =
-    (n : ℕ) (now : Now) (here : Here) (froms : Table) (w : Wake) (rest : Rest) (ps : List Place) (count : ℕ) → CanWake w rest.stopped →
+    (n : ℕ) (now : Now) (here : Here) (cancelled_from : Table) (w : Wake) (rest : Rest) (ps : List Place) (count : ℕ) → CanWake w rest.stopped →
     NewIn rest.frames (outer_places (Some rest.stopped) ps) → OwnNames (names_at ps) →
-    StaysNew (turn_from n froms now here w rest.stopped rest.frames ps count)
+    StaysNew (turn_from n cancelled_from now here w rest.stopped rest.frames ps count)

@@ -33,10 +33,10 @@ abbrev pub level_on : Bool → Level Label → Stack → Stack
 level_on true l st = record st { events = l ∷ st.events }
 level_on false l st = record st { scopes = l ∷ st.scopes }
 
--- the stack of a task with these enclosing scopes, nurseries and events, with the froms of a table
+-- the stack of a task with these enclosing scopes, nurseries and events, with the moments of cancellation of a table
 abbrev pub stack_at : Table → List Place → Stack
-stack_at froms [] = no_stack
-stack_at froms (p ∷ ps) = level_on p.is_event (record { label = p.label; shield = p.shield; from = froms p.label }) (stack_at froms ps)
+stack_at cancelled_from [] = no_stack
+stack_at cancelled_from (p ∷ ps) = level_on p.is_event (record { label = p.label; shield = p.shield; from = cancelled_from p.label }) (stack_at cancelled_from ps)
 
 -- A task in the middle of a turn: the frames that it has not finished and the scopes, nurseries and events that enclose
 -- it, both innermost first, its exception so far, and how many children it started.
@@ -102,29 +102,29 @@ so_far exc now = record { end = now.at; own = now.own; exc = exc; members = []; 
 
 -- a result, with these events before it
 abbrev pub after_events : ChildOutcomes → List Event → Result → Result
-after_events told es r = record r { log = followed_by (fill told es) r.log }
+after_events outcomes es r = record r { log = followed_by (fill outcomes es) r.log }
 
 -- the result of what is left of a task in the middle of a turn, with these frames, enclosing scopes and nurseries,
 -- and exception
 abbrev pub going_to : Table → ChildOutcomes → Here → Now → List Frame → List Place → Option Exc → Result
-going_to table told here now fs ps exc = finish (by_table table) told fs here (stack_at table ps) (so_far exc now)
+going_to table outcomes here now fs ps exc = finish (by_table table) outcomes fs here (stack_at table ps) (so_far exc now)
 
 abbrev pub stop_comes_to : Option Stopped → Table → ChildOutcomes → Here → Now → List Frame → List Place → Option Exc → Result
-stop_comes_to None table told here now fs ps exc = going_to table told here now fs ps exc
-stop_comes_to (Some s) table told here now fs ps exc = finished_from (by_table table) told s fs here (stack_at table ps) now
+stop_comes_to None table outcomes here now fs ps exc = going_to table outcomes here now fs ps exc
+stop_comes_to (Some s) table outcomes here now fs ps exc = finished_from (by_table table) outcomes s fs here (stack_at table ps) now
 
 -- the result of what is left of a task after a move
 abbrev pub left_after : Table → ChildOutcomes → Here → Now → Move → Result
-left_after table told here now o = stop_comes_to o.stopped table told here (now_after here.clock now o.made) o.frames o.places o.exc
+left_after table outcomes here now o = stop_comes_to o.stopped table outcomes here (now_after here.clock now o.made) o.frames o.places o.exc
 
 -- the result of what is left of a task in the middle of a turn
 abbrev pub left_of : Table → ChildOutcomes → Here → Now → Midway → Result
-left_of table told here now m = going_to table told here now m.frames m.places m.exc
+left_of table outcomes here now m = going_to table outcomes here now m.frames m.places m.exc
 
 -- nothing is recorded of the children of a task that has none
-abbrev pub none_told : ChildOutcomes
-none_told i = done_at (only_at 0)
+abbrev pub no_outcomes : ChildOutcomes
+no_outcomes i = done_at (only_at 0)
 
 -- the result of a child that began in moment t, following a table from its start
 abbrev pub begun_comes_to : Table → ℕ → Begun → Result
-begun_comes_to table t b = rest_comes_to (by_table table) none_told (rest_at_start b.body) b.here (stack_at table b.places) (only_at t)
+begun_comes_to table t b = rest_comes_to (by_table table) no_outcomes (rest_at_start b.body) b.here (stack_at table b.places) (only_at t)

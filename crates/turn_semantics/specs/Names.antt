@@ -42,7 +42,7 @@ abbrev mutual
   IsNewCleanup around uncleaned = Unit {0}
   IsNewCleanup around (finally body) = AreNew around body
 
--- the same for the frames of a task with these enclosing scopes and nurseries
+-- the blocks in the frames of a task with these enclosing scopes and nurseries have new names
 abbrev pub NewIn : List Frame → List Place → Type 0
 NewIn [] ps = Unit {0}
 NewIn (steps_left ss ∷ fs) ps = AreNew (names_at ps) ss × NewIn fs ps

@@ -106,7 +106,7 @@ HasChild i home (in_nursery children ∷ fs) [] = ⊥
 HasChild i home (in_nursery children ∷ fs) (p ∷ ps) = (IsAmong i children × (home ≡ p ∷ ps)) ⊎ HasChild i home fs ps
 HasChild i home (_ ∷ fs) ps = HasChild i home fs ps
 
--- the same for a nursery that the task waits for
+-- the task waits for a nursery with this child, which has this home
 abbrev pub WaitsFor : ℕ → List Place → Option Stopped → List Place → Type 0
 WaitsFor i home None ps = ⊥
 WaitsFor i home (Some to_begin) ps = ⊥

@@ -15,30 +15,30 @@ use Rattle.job_meaning.specs.Asking.{shows, needs, paces}
 use Rattle.job_meaning.specs.Asking as ask
 use Rattle.turn_semantics.specs.Midway.{Place, label_among, stack_at, Midway, Begun, Move, after_move, no_move, then_move, now_after}
 
--- ---- the froms of the world
+-- ---- the moments of cancellation of the world
 
 -- a label is cancelled in a tick, which is seen from the next one on
 abbrev pub from_lowered_if : Bool → ℕ → Tick → Tick
 from_lowered_if true t from = earlier from (next (Some t))
 from_lowered_if false t from = from
 
-abbrev pub froms_after_sign : Table → Label → ℕ → Table
-froms_after_sign froms label t l = from_lowered_if (same_label l label) t (froms l)
+abbrev pub cancelled_from_after_sign : Table → Label → ℕ → Table
+cancelled_from_after_sign cancelled_from label t l = from_lowered_if (same_label l label) t (cancelled_from l)
 
 -- a label is entered: its from is its deadline at first
 abbrev pub from_entered_if : Bool → Tick → Tick → Tick
 from_entered_if true deadline from = deadline
 from_entered_if false deadline from = from
 
-abbrev pub froms_after_entry : Table → Label → Tick → Table
-froms_after_entry froms label deadline l = from_entered_if (same_label l label) deadline (froms l)
+abbrev pub cancelled_from_after_entry : Table → Label → Tick → Table
+cancelled_from_after_entry cancelled_from label deadline l = from_entered_if (same_label l label) deadline (cancelled_from l)
 
--- the froms after these events
-abbrev pub froms_after : Table → List Event → Table
-froms_after froms [] = froms
-froms_after froms (signs l t ∷ es) = froms_after (froms_after_sign froms l t) es
-froms_after froms (enters l t d ∷ es) = froms_after (froms_after_entry froms l d) es
-froms_after froms (_ ∷ es) = froms_after froms es
+-- the moments of cancellation after these events
+abbrev pub cancelled_from_after : Table → List Event → Table
+cancelled_from_after cancelled_from [] = cancelled_from
+cancelled_from_after cancelled_from (signs l t ∷ es) = cancelled_from_after (cancelled_from_after_sign cancelled_from l t) es
+cancelled_from_after cancelled_from (enters l t d ∷ es) = cancelled_from_after (cancelled_from_after_entry cancelled_from l d) es
+cancelled_from_after cancelled_from (_ ∷ es) = cancelled_from_after cancelled_from es
 
 -- ---- what a step does
 
@@ -63,7 +63,7 @@ falls_asleep by_ticks false paced (suc n) t fs ps = blocks_on (asleep paced (suc
 falls_asleep by_rounds seen_now paced n t fs ps = blocks_on (asleep paced n t) fs ps
 
 abbrev pub sleeps : Clock → Table → (paced : Bool) → ℕ → ℕ → List Frame → List Place → Move
-sleeps clock froms paced n t fs ps = falls_asleep clock (seen (stack_at froms ps).scopes t) paced n t fs ps
+sleeps clock cancelled_from paced n t fs ps = falls_asleep clock (seen (stack_at cancelled_from ps).scopes t) paced n t fs ps
 
 abbrev pub signs_to : Option Label → ℕ → List Event
 signs_to None t = []
@@ -121,25 +121,25 @@ begins_passes (suc k) body fs ps = onward (steps_left body ∷ in_repeat 0 k bod
 -- One step of a block, at this point of the job, with nothing raised; the steps ss of the block come after it, and the
 -- frames fs after them.
 abbrev pub step_on : Table → Now → Here → Step → Steps → List Frame → List Place → ℕ → Move
-step_on froms now here (sleep n) ss fs ps count = sleeps here.clock froms false n now.at (steps_left ss ∷ fs) ps
-step_on froms now here checkpoint ss fs ps count = sleeps here.clock froms false 0 now.at (steps_left ss ∷ fs) ps
-step_on froms now here forever ss fs ps count = sleeps here.clock froms false (far - tick_of here.clock now.at) now.at (steps_left ss ∷ fs) ps
-step_on froms now here (pace k) ss fs ps count = blocks_on (asking ask.count (paces k)) (steps_left ss ∷ fs) ps
-step_on froms now here (find text) ss fs ps count = blocks_on (asking (ask.find text) shows) (steps_left ss ∷ fs) ps
-step_on froms now here (head n) ss fs ps count = blocks_on (asking (ask.head n) shows) (steps_left ss ∷ fs) ps
-step_on froms now here longest ss fs ps count = blocks_on (asking ask.longest shows) (steps_left ss ∷ fs) ps
-step_on froms now here (need text name) ss fs ps count = blocks_on (asking (ask.need text) (needs name)) (steps_left ss ∷ fs) ps
-step_on froms now here (raise name) ss fs ps count = onward (steps_left ss ∷ fs) ps (Some (raised name here.task (tick_of here.clock now.at)))
-step_on froms now here (cancel name) ss fs ps count = makes (signs_to (label_among false name ps) now.at) (steps_left ss ∷ fs) ps
-step_on froms now here (set_event name) ss fs ps count = makes (signs_to (label_among true name ps) now.at) (steps_left ss ∷ fs) ps
-step_on froms now here (wait_for name) ss fs ps count = waits_on (label_among true name ps) name now.at (steps_left ss ∷ fs) ps
-step_on froms now here (scope name deadline shield fail body) ss fs ps count =
+step_on cancelled_from now here (sleep n) ss fs ps count = sleeps here.clock cancelled_from false n now.at (steps_left ss ∷ fs) ps
+step_on cancelled_from now here checkpoint ss fs ps count = sleeps here.clock cancelled_from false 0 now.at (steps_left ss ∷ fs) ps
+step_on cancelled_from now here forever ss fs ps count = sleeps here.clock cancelled_from false (far - tick_of here.clock now.at) now.at (steps_left ss ∷ fs) ps
+step_on cancelled_from now here (pace k) ss fs ps count = blocks_on (asking ask.count (paces k)) (steps_left ss ∷ fs) ps
+step_on cancelled_from now here (find text) ss fs ps count = blocks_on (asking (ask.find text) shows) (steps_left ss ∷ fs) ps
+step_on cancelled_from now here (head n) ss fs ps count = blocks_on (asking (ask.head n) shows) (steps_left ss ∷ fs) ps
+step_on cancelled_from now here longest ss fs ps count = blocks_on (asking ask.longest shows) (steps_left ss ∷ fs) ps
+step_on cancelled_from now here (need text name) ss fs ps count = blocks_on (asking (ask.need text) (needs name)) (steps_left ss ∷ fs) ps
+step_on cancelled_from now here (raise name) ss fs ps count = onward (steps_left ss ∷ fs) ps (Some (raised name here.task (tick_of here.clock now.at)))
+step_on cancelled_from now here (cancel name) ss fs ps count = makes (signs_to (label_among false name ps) now.at) (steps_left ss ∷ fs) ps
+step_on cancelled_from now here (set_event name) ss fs ps count = makes (signs_to (label_among true name ps) now.at) (steps_left ss ∷ fs) ps
+step_on cancelled_from now here (wait_for name) ss fs ps count = waits_on (label_among true name ps) name now.at (steps_left ss ∷ fs) ps
+step_on cancelled_from now here (scope name deadline shield fail body) ss fs ps count =
     enters_block (label_here name here) shield (due here.clock deadline now.at) now.at body (in_scope fail) (steps_left ss ∷ fs) ps
-step_on froms now here (nursery name deadline shield body) ss fs ps count =
+step_on cancelled_from now here (nursery name deadline shield body) ss fs ps count =
     enters_block (label_here name here) shield (due here.clock deadline now.at) now.at body (in_nursery []) (steps_left ss ∷ fs) ps
-step_on froms now here (event name body) ss fs ps count =
+step_on cancelled_from now here (event name body) ss fs ps count =
     enters_event (label_here name here) now.at body (steps_left ss ∷ fs) ps
-step_on froms now here (start name None body) ss fs ps count =
+step_on cancelled_from now here (start name None body) ss fs ps count =
     record {
       frames = steps_left ss ∷ with_started (count ∷ []) fs;
       places = ps;
@@ -148,7 +148,7 @@ step_on froms now here (start name None body) ss fs ps count =
       begun = begun_one count (here_in (label_here name here) here.part here) body ps ∷ [];
       stopped = None;
     }
-step_on froms now here (start name (Some k) body) ss fs ps count =
+step_on cancelled_from now here (start name (Some k) body) ss fs ps count =
     record {
       frames = steps_left ss ∷ with_started (consecutive count k) fs;
       places = ps;
@@ -157,20 +157,20 @@ step_on froms now here (start name (Some k) body) ss fs ps count =
       begun = begun_over name here k body ps count k;
       stopped = None;
     }
-step_on froms now here (repeat n body) ss fs ps count = begins_passes n body (steps_left ss ∷ fs) ps
-step_on froms now here (attempt body handler cleanup) ss fs ps count =
+step_on cancelled_from now here (repeat n body) ss fs ps count = begins_passes n body (steps_left ss ∷ fs) ps
+step_on cancelled_from now here (attempt body handler cleanup) ss fs ps count =
     onward (steps_left body ∷ in_try handler cleanup ∷ steps_left ss ∷ fs) ps None
 
 -- the steps of a block: an exception skips what is left of them
 abbrev pub step_steps : Table → Now → Here → Steps → List Frame → List Place → Option Exc → ℕ → Move
-step_steps froms now here ss fs ps (Some e) count = onward fs ps (Some e)
-step_steps froms now here stop fs ps None count = onward fs ps None
-step_steps froms now here (step s ss) fs ps None count = step_on froms now (inside fs here) s ss fs ps count
+step_steps cancelled_from now here ss fs ps (Some e) count = onward fs ps (Some e)
+step_steps cancelled_from now here stop fs ps None count = onward fs ps None
+step_steps cancelled_from now here (step s ss) fs ps None count = step_on cancelled_from now (inside fs here) s ss fs ps count
 
 -- a scope or nursery is left: it catches or not, and notes that
 abbrev pub leaves : Clock → Table → Now → Kind → List Frame → Place → List Place → Option Exc → Move
-leaves clock froms now kind fs p ps exc =
-    let left = left_with (catches (from_for now.own now.at p.label (froms p.label)) p.shield (stack_for now.own now.at (stack_at froms ps).scopes) now.at) exc in
+leaves clock cancelled_from now kind fs p ps exc =
+    let left = left_with (catches (from_for now.own now.at p.label (cancelled_from p.label)) p.shield (stack_for now.own now.at (stack_at cancelled_from ps).scopes) now.at) exc in
     record {
       frames = fs;
       places = ps;
@@ -204,24 +204,25 @@ ends_as s exc t fs ps = record { frames = fs; places = ps; exc = None; made = si
 
 -- One step by the innermost frame. A task with no frame left ends, and one whose nursery's body has ended waits.
 abbrev pub step_frames : Table → Now → Here → List Frame → List Place → Option Exc → ℕ → Move
-step_frames froms now here [] ps exc count = ends_as (at_end now.at exc) exc now.at [] ps
-step_frames froms now here (steps_left ss ∷ fs) ps exc count = step_steps froms now here ss fs ps exc count
-step_frames froms now here (in_scope fail ∷ fs) (p ∷ ps) exc count = leaves here.clock froms now (a_scope fail) fs p ps exc
-step_frames froms now here (in_event ∷ fs) (p ∷ ps) exc count = onward fs ps exc
-step_frames froms now here (in_nursery children ∷ fs) (p ∷ ps) exc count = ends_as (awaiting children now.at exc) exc now.at fs (p ∷ ps)
-step_frames froms now here (in_repeat pass left body ∷ fs) ps exc count = step_pass pass left body fs ps exc
-step_frames froms now here (in_try handler cleanup ∷ fs) ps exc count = step_try handler cleanup fs ps exc
-step_frames froms now here (in_handler rest cleanup ∷ fs) ps exc count = onward (in_try unhandled cleanup ∷ fs) ps (handler_exc exc rest)
-step_frames froms now here (in_cleanup outcome ∷ fs) ps exc count = onward fs ps (outcome_after outcome exc)
-step_frames froms now here (_ ∷ fs) [] exc count = onward fs [] exc
+step_frames cancelled_from now here [] ps exc count = ends_as (at_end now.at exc) exc now.at [] ps
+step_frames cancelled_from now here (steps_left ss ∷ fs) ps exc count = step_steps cancelled_from now here ss fs ps exc count
+step_frames cancelled_from now here (in_scope fail ∷ fs) (p ∷ ps) exc count = leaves here.clock cancelled_from now (a_scope fail) fs p ps exc
+step_frames cancelled_from now here (in_event ∷ fs) (p ∷ ps) exc count = onward fs ps exc
+step_frames cancelled_from now here (in_nursery children ∷ fs) (p ∷ ps) exc count = ends_as (awaiting children now.at exc) exc now.at fs (p ∷ ps)
+step_frames cancelled_from now here (in_repeat pass left body ∷ fs) ps exc count = step_pass pass left body fs ps exc
+step_frames cancelled_from now here (in_try handler cleanup ∷ fs) ps exc count = step_try handler cleanup fs ps exc
+step_frames cancelled_from now here (in_handler rest cleanup ∷ fs) ps exc count = onward (in_try unhandled cleanup ∷ fs) ps (handler_exc exc rest)
+step_frames cancelled_from now here (in_cleanup outcome ∷ fs) ps exc count = onward fs ps (outcome_after outcome exc)
+step_frames cancelled_from now here (_ ∷ fs) [] exc count = onward fs [] exc
 
--- one step of a task in a moment of a world with these froms
+-- one step of a task in a moment of a world with these moments of cancellation
 unfoldable pub step_of : Table → Now → Here → Midway → Move
-step_of froms now here m = step_frames froms now here m.frames m.places m.exc m.count
+step_of cancelled_from now here m = step_frames cancelled_from now here m.frames m.places m.exc m.count
 
--- a turn: steps until the task stops, at most the given number; each reads the froms that the steps before it left
+-- a turn: steps until the task stops, at most the given number; each reads the moments of cancellation that the steps before it
+-- left
 unfoldable pub turn_of : ℕ → Table → Now → Here → Midway → Move
-turn_of zero froms now here m = no_move m
-turn_of (suc n) froms now here m =
-    let o = step_of froms now here m in
-    then_move o.stopped o (turn_of n (froms_after froms o.made) (now_after here.clock now o.made) here (after_move m o))
+turn_of zero cancelled_from now here m = no_move m
+turn_of (suc n) cancelled_from now here m =
+    let o = step_of cancelled_from now here m in
+    then_move o.stopped o (turn_of n (cancelled_from_after cancelled_from o.made) (now_after here.clock now o.made) here (after_move m o))

@@ -15,13 +15,14 @@ use Rattle.turn_semantics.specs.Made.{EnteredLabel, SignedLabel, StartedChild, e
 use Rattle.turn_semantics.specs.Midway.{Place, stack_at, Midway, Begun, Move, OwnFits, after_events, left_of, left_after, begun_comes_to}
 use Rattle.turn_semantics.specs.Placed.{PlacedAfter, outer_places, home_after, KidsAfter, HasChild, HasChildAfter, AllHoused}
 use Rattle.turn_semantics.specs.Wakes.{Wake, WakesBy}
-use Rattle.turn_semantics.specs.Steps.{froms_after}
+use Rattle.turn_semantics.specs.Steps.{cancelled_from_after}
 
 -- ---- what is required of a table
 
--- a table agrees with froms at tick t on these enclosing scopes and nurseries: each from is the same, or both are later than t
+-- a table agrees with moments of cancellation at tick t on these enclosing scopes and nurseries: each from is the same, or both
+-- are later than t
 abbrev pub AgreesOn : ℕ → Table → Table → List Place → Type 0
-AgreesOn t table froms ps = Each (λ (p : Place). upto (suc t) (table p.label) ≡ upto (suc t) (froms p.label)) ps
+AgreesOn t table cancelled_from ps = Each (λ (p : Place). upto (suc t) (table p.label) ≡ upto (suc t) (cancelled_from p.label)) ps
 
 -- a table agrees at tick t with the deadline of each label that a task itself enters, according to its log
 abbrev pub AgreesIn : ℕ → Table → Log → Type 0
@@ -37,8 +38,8 @@ abbrev pub AgreesAhead : ℕ → Table → Log → Log → Type 0
 AgreesAhead t table made ahead = AgreesIn t table made ⊎ AgreesIn t table ahead
 
 -- what is recorded of each child begun in moment t is the result of following the table from its start
-abbrev pub AllTold : ℕ → Table → ChildOutcomes → List Begun → Type 0
-AllTold t table told bs = Each (λ (b : Begun). told b.number ≡ begun_comes_to table t b) bs
+abbrev pub AreOutcomes : ℕ → Table → ChildOutcomes → List Begun → Type 0
+AreOutcomes t table outcomes bs = Each (λ (b : Begun). outcomes b.number ≡ begun_comes_to table t b) bs
 
 -- ---- what was made
 
@@ -116,17 +117,17 @@ abbrev pub FallsAsleep : Clock → ℕ → (seen_now : Bool) → Type 0
 FallsAsleep by_ticks n seen_now = (0 < n) × (seen_now ≡ false)
 FallsAsleep by_rounds n seen_now = Unit {0}
 
--- How a task stops in moment t, with these froms after the turn: a sleep begins now; for a body that waits, and for a task that
--- gives up or ended, it is now.
+-- How a task stops in moment t, with these moments of cancellation after the turn: a sleep begins now; for a body that waits, and
+-- for a task that gives up or ended, it is now.
 abbrev pub StopsAt : Clock → ℕ → Table → Option Stopped → List Place → Type 0
-StopsAt clock t froms None ps = Unit {0}
-StopsAt clock t froms (Some to_begin) ps = ⊥
-StopsAt clock t froms (Some (asking kernel purpose)) ps = Unit {0}
-StopsAt clock t froms (Some (asleep paced n since)) ps = (since ≡ t) × FallsAsleep clock n (seen (stack_at froms ps).scopes t)
-StopsAt clock t froms (Some (waiting_for event since)) ps = since ≡ t
-StopsAt clock t froms (Some (giving_up since)) ps = since ≡ t
-StopsAt clock t froms (Some (awaiting children ended e)) ps = ended ≡ t
-StopsAt clock t froms (Some (at_end u e)) ps = u ≡ t
+StopsAt clock t cancelled_from None ps = Unit {0}
+StopsAt clock t cancelled_from (Some to_begin) ps = ⊥
+StopsAt clock t cancelled_from (Some (asking kernel purpose)) ps = Unit {0}
+StopsAt clock t cancelled_from (Some (asleep paced n since)) ps = (since ≡ t) × FallsAsleep clock n (seen (stack_at cancelled_from ps).scopes t)
+StopsAt clock t cancelled_from (Some (waiting_for event since)) ps = since ≡ t
+StopsAt clock t cancelled_from (Some (giving_up since)) ps = since ≡ t
+StopsAt clock t cancelled_from (Some (awaiting children ended e)) ps = ended ≡ t
+StopsAt clock t cancelled_from (Some (at_end u e)) ps = u ≡ t
 
 -- ---- weights
 
@@ -140,14 +141,14 @@ weight_of_begun (b ∷ bs) = rest_weight (rest_at_start b.body) + weight_of_begu
 
 -- ---- the promise
 
--- What a move begins with: the moment, the task, and the froms of the world; whether the task had stopped, its frames and its
--- enclosing scopes and nurseries, and how many children it had started. `Given` is what else is required of a table and of what is
--- recorded of the children, `before` is the result of what was left of the task by them, and `bound` is above the weight of what is
--- left after the move.
+-- What a move begins with: the moment, the task, and the moments of cancellation of the world; whether the task had stopped, its
+-- frames and its enclosing scopes and nurseries, and how many children it had started. `Given` is what else is required of a
+-- table and of what is recorded of the children, `before` is the result of what was left of the task by them, and `bound` is
+-- above the weight of what is left after the move.
 pub record TurnContext : Type 1 where
   pub now : Now
   pub here : Here
-  pub froms : Table
+  pub cancelled_from : Table
   pub Given : Table → ChildOutcomes → Type 0
   pub before : Table → ChildOutcomes → Result
   pub bound : ℕ
@@ -158,14 +159,14 @@ pub record TurnContext : Type 1 where
 
 -- What is promised of a move: of one step, of several, or of a whole turn with the wake before it.
 pub record Turned (c : TurnContext) (o : Move) : Type 0 where
-  -- For each table that agrees in the moment with the froms of the scopes and nurseries that enclose the task, and with the deadlines of
-  -- what the move enters, and each record of outcomes that fits the children begun: what was left results in the events made,
-  -- followed by the result of what is left after the move. Of the table this requires only that it agrees in the moment with
-  -- the froms after the move: for others a sign takes effect from the next moment on.
+  -- For each table that agrees in the moment with the moments of cancellation of the scopes and nurseries that enclose the task,
+  -- and with the deadlines of what the move enters, and each record of outcomes that fits the children begun: what was left
+  -- results in the events made, followed by the result of what is left after the move. Of the table this requires only that it
+  -- agrees in the moment with the moments of cancellation after the move: for others a sign takes effect from the next moment on.
   pub keeps :
-      (table : Table) (told : ChildOutcomes) → c.Given table told → AgreesOn c.now.at table c.froms c.places →
-      AgreesAhead c.now.at table (fill told o.made) (c.before table told).log →
-      AllTold (a_round_after c.here.clock c.now.at) table told o.begun → c.before table told ≡ after_events told o.made (left_after table told c.here c.now o)
+      (table : Table) (outcomes : ChildOutcomes) → c.Given table outcomes → AgreesOn c.now.at table c.cancelled_from c.places →
+      AgreesAhead c.now.at table (fill outcomes o.made) (c.before table outcomes).log →
+      AreOutcomes (a_round_after c.here.clock c.now.at) table outcomes o.begun → c.before table outcomes ≡ after_events outcomes o.made (left_after table outcomes c.here c.now o)
   -- the frames that are left fit the enclosing scopes and nurseries
   pub placed : PlacedAfter o.stopped o.frames o.places
   -- outside the scopes and nurseries of the task's own frames are those of its home, as before
@@ -190,19 +191,19 @@ pub record Turned (c : TurnContext) (o : Move) : Type 0 where
   -- and counts time as its starter does
   pub clocks : AllBy c.here.clock o.begun
   -- how the task stopped
-  pub stops : StopsAt c.here.clock c.now.at (froms_after c.froms o.made) o.stopped o.places
+  pub stops : StopsAt c.here.clock c.now.at (cancelled_from_after c.cancelled_from o.made) o.stopped o.places
   -- the weight of what is left, the children's included, is less than the bound
   pub weight : weight_of_stop o.stopped + frames_weight o.frames + weight_of_begun o.begun < c.bound
 
 -- the promise of steps of a task that is in the middle of a turn
 abbrev pub Goes : Now → Here → Table → Midway → Move → Type 0
-Goes now here froms m o =
+Goes now here cancelled_from m o =
     Turned (record {
       now = now;
       here = here;
-      froms = froms;
-      Given = λ table told. OwnFits here.clock now.own;
-      before = λ table told. left_of table told here now m;
+      cancelled_from = cancelled_from;
+      Given = λ table outcomes. OwnFits here.clock now.own;
+      before = λ table outcomes. left_of table outcomes here now m;
       bound = 1 + frames_weight m.frames;
       stopped = None;
       frames = m.frames;
@@ -212,13 +213,13 @@ Goes now here froms m o =
 
 -- the promise of a turn of a task that stopped in one moment, and wakes in another one by this wake
 abbrev pub TurnsOver : Now → Now → Here → Table → Wake → Rest → List Place → ℕ → Move → Type 0
-TurnsOver u now here froms w rest ps count o =
+TurnsOver u now here cancelled_from w rest ps count o =
     Turned (record {
       now = now;
       here = here;
-      froms = froms;
-      Given = λ table told. WakesBy table told here u now w rest.stopped ps;
-      before = λ table told. rest_comes_to (by_table table) told rest here (stack_at table ps) u;
+      cancelled_from = cancelled_from;
+      Given = λ table outcomes. WakesBy table outcomes here u now w rest.stopped ps;
+      before = λ table outcomes. rest_comes_to (by_table table) outcomes rest here (stack_at table ps) u;
       bound = rest_weight rest;
       stopped = Some rest.stopped;
       frames = rest.frames;

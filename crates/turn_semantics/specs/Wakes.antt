@@ -9,9 +9,9 @@ use Rattle.job_meaning.specs.declared.clock.Clock.{Clock}
 use Rattle.job_meaning.specs.declared.clock.Clock.TheVariants.{ByTicks as by_ticks, ByRounds as by_rounds}
 use Rattle.job_meaning.specs.Walk.{Stack, Here, event_on, set_moment, a_nursery, pace_ticks, with_exc, excs_of, latest}
 use Rattle.job_meaning.specs.Asking.{Kernel, Answer, lines, missing, counted, answer_of, Purpose, shows, needs, paces}
-use Rattle.job_meaning.specs.Rest.{Event, noted, ChildOutcomes, told_members, Frame, Stopped, to_begin, asking, asleep, waiting_for, giving_up, awaiting, at_end}
+use Rattle.job_meaning.specs.Rest.{Event, noted, ChildOutcomes, outcome_members, Frame, Stopped, to_begin, asking, asleep, waiting_for, giving_up, awaiting, at_end}
 use Rattle.turn_semantics.specs.Midway.{Place, stack_at, Move, then_move, OwnFits, now_after}
-use Rattle.turn_semantics.specs.Steps.{onward, blocks_on, makes, sleeps, leaves, froms_after, turn_of}
+use Rattle.turn_semantics.specs.Steps.{onward, blocks_on, makes, sleeps, leaves, cancelled_from_after, turn_of}
 
 -- what wakes a task: its first turn, a cancellation that is seen, the round after a checkpoint that was cancelled, a sleep that
 -- is due, a kernel's answer, or the last member of its nursery, with the nursery's exception
@@ -30,33 +30,33 @@ lines_made t (l ∷ ls) = noted t (line l) ∷ lines_made t ls
 
 -- what a task does first with an answer: `need` raises if there is no line, and `pace` sleeps by the count
 abbrev pub goes_on_with : Table → ℕ → Here → Answer → Purpose → List Frame → List Place → Move
-goes_on_with froms t here (lines ls) purpose fs ps = makes (lines_made t ls) fs ps
-goes_on_with froms t here missing (needs name) fs ps = onward fs ps (Some (raised name here.task (tick_of here.clock t)))
-goes_on_with froms t here missing shows fs ps = onward fs ps None
-goes_on_with froms t here missing (paces k) fs ps = onward fs ps None
-goes_on_with froms t here (counted n) (paces k) fs ps = sleeps here.clock froms true (pace_ticks n k) t fs ps
-goes_on_with froms t here (counted n) shows fs ps = onward fs ps None
-goes_on_with froms t here (counted n) (needs name) fs ps = onward fs ps None
+goes_on_with cancelled_from t here (lines ls) purpose fs ps = makes (lines_made t ls) fs ps
+goes_on_with cancelled_from t here missing (needs name) fs ps = onward fs ps (Some (raised name here.task (tick_of here.clock t)))
+goes_on_with cancelled_from t here missing shows fs ps = onward fs ps None
+goes_on_with cancelled_from t here missing (paces k) fs ps = onward fs ps None
+goes_on_with cancelled_from t here (counted n) (paces k) fs ps = sleeps here.clock cancelled_from true (pace_ticks n k) t fs ps
+goes_on_with cancelled_from t here (counted n) shows fs ps = onward fs ps None
+goes_on_with cancelled_from t here (counted n) (needs name) fs ps = onward fs ps None
 
 -- only a task that asked does something with an answer
 abbrev pub with_answer : Table → ℕ → Here → Answer → Stopped → List Frame → List Place → Move
-with_answer froms t here a (asking kernel purpose) fs ps = goes_on_with froms t here a purpose fs ps
-with_answer froms t here a to_begin fs ps = onward fs ps None
-with_answer froms t here a _ fs ps = onward fs ps None
+with_answer cancelled_from t here a (asking kernel purpose) fs ps = goes_on_with cancelled_from t here a purpose fs ps
+with_answer cancelled_from t here a to_begin fs ps = onward fs ps None
+with_answer cancelled_from t here a _ fs ps = onward fs ps None
 
 -- a nursery whose last member ended is left
 abbrev pub leaves_settled : Clock → Table → Now → Option Exc → List Frame → List Place → Move
-leaves_settled clock froms now exc fs [] = onward fs [] exc
-leaves_settled clock froms now exc fs (p ∷ ps) = leaves clock froms now a_nursery fs p ps exc
+leaves_settled clock cancelled_from now exc fs [] = onward fs [] exc
+leaves_settled clock cancelled_from now exc fs (p ∷ ps) = leaves clock cancelled_from now a_nursery fs p ps exc
 
 -- the moment in which a wait for an event ends
 abbrev pub set_at : Clock → Option (Level Label) → ℕ → ℕ
 set_at clock None since = since
 set_at clock (Some l) since = set_moment clock l.from since
 
--- the moment in which a wait for the event of this name ends, by the froms of a table
+-- the moment in which a wait for the event of this name ends, by the moments of cancellation of a table
 abbrev pub ends_at : Clock → Table → List ℕ → ℕ → List Place → ℕ
-ends_at clock froms name since ps = set_at clock (event_on name (stack_at froms ps).events) since
+ends_at clock cancelled_from name since ps = set_at clock (event_on name (stack_at cancelled_from ps).events) since
 
 -- where there are rounds, a wait for an event that is set by the next round is a checkpoint
 abbrev pub is_checkpoint : Clock → (set since : ℕ) → Bool
@@ -75,34 +75,34 @@ notes_wait (Some l) t fs ps = makes (noted t (waited l.label) ∷ []) fs ps
 
 -- A task that sees a cancellation raises, but for one at a checkpoint, which raises a round later.
 abbrev pub sees_from : Clock → Table → ℕ → Stopped → List Frame → List Place → Move
-sees_from clock froms t (asleep false zero since) fs ps = blocks_on (giving_up t) fs ps
-sees_from clock froms t (asleep false (suc n) since) fs ps = onward fs ps (Some cancelled)
-sees_from clock froms t to_begin fs ps = onward fs ps (Some cancelled)
-sees_from clock froms t (waiting_for event since) fs ps =
-    gives_up_if (is_checkpoint clock (ends_at clock froms event since ps) since) t fs ps
-sees_from clock froms t _ fs ps = onward fs ps (Some cancelled)
+sees_from clock cancelled_from t (asleep false zero since) fs ps = blocks_on (giving_up t) fs ps
+sees_from clock cancelled_from t (asleep false (suc n) since) fs ps = onward fs ps (Some cancelled)
+sees_from clock cancelled_from t to_begin fs ps = onward fs ps (Some cancelled)
+sees_from clock cancelled_from t (waiting_for event since) fs ps =
+    gives_up_if (is_checkpoint clock (ends_at clock cancelled_from event since ps) since) t fs ps
+sees_from clock cancelled_from t _ fs ps = onward fs ps (Some cancelled)
 
 -- a task whose wait is over continues
 abbrev pub is_due_from : Table → ℕ → Stopped → List Frame → List Place → Move
-is_due_from froms t (waiting_for event since) fs ps = notes_wait (event_on event (stack_at froms ps).events) t fs ps
-is_due_from froms t _ fs ps = onward fs ps None
+is_due_from cancelled_from t (waiting_for event since) fs ps = notes_wait (event_on event (stack_at cancelled_from ps).events) t fs ps
+is_due_from cancelled_from t _ fs ps = onward fs ps None
 
 -- what a task that wakes does first, depending on where it stopped
 abbrev pub wake_of : Table → Now → Here → Wake → Stopped → List Frame → List Place → Move
-wake_of froms now here begins s fs ps = onward fs ps None
-wake_of froms now here sees s fs ps = sees_from here.clock froms now.at s fs ps
-wake_of froms now here gives_up s fs ps = onward fs ps (Some cancelled)
-wake_of froms now here is_due s fs ps = is_due_from froms now.at s fs ps
-wake_of froms now here (has_answer a) s fs ps = with_answer froms now.at here a s fs ps
-wake_of froms now here (settles exc) s fs ps = leaves_settled here.clock froms now exc fs ps
+wake_of cancelled_from now here begins s fs ps = onward fs ps None
+wake_of cancelled_from now here sees s fs ps = sees_from here.clock cancelled_from now.at s fs ps
+wake_of cancelled_from now here gives_up s fs ps = onward fs ps (Some cancelled)
+wake_of cancelled_from now here is_due s fs ps = is_due_from cancelled_from now.at s fs ps
+wake_of cancelled_from now here (has_answer a) s fs ps = with_answer cancelled_from now.at here a s fs ps
+wake_of cancelled_from now here (settles exc) s fs ps = leaves_settled here.clock cancelled_from now exc fs ps
 
 -- a whole turn of a task that stopped there with these frames and these enclosing scopes and nurseries, and had started
 -- the given number of children: the wake, and then at most n steps
 unfoldable pub turn_from : ℕ → Table → Now → Here → Wake → Stopped → List Frame → List Place → ℕ → Move
-turn_from n froms now here w s fs ps count =
-    let o = wake_of froms now here w s fs ps in
+turn_from n cancelled_from now here w s fs ps count =
+    let o = wake_of cancelled_from now here w s fs ps in
     then_move o.stopped o
-    (turn_of n (froms_after froms o.made) (now_after here.clock now o.made) here (record {
+    (turn_of n (cancelled_from_after cancelled_from o.made) (now_after here.clock now o.made) here (record {
       frames = o.frames;
       places = o.places;
       exc = o.exc;
@@ -143,20 +143,20 @@ GoesOnWaiting clock set since t st =
 -- is by the end of its sleep, or else at the end; one that gives up, a round later; and a task that waits, with its nursery. What
 -- it has cancelled in the moment is what it had cancelled before, if it is the same moment; where moments are ticks, that is nothing.
 abbrev pub WakesBy : Table → ChildOutcomes → Here → Now → Now → Wake → Stopped → List Place → Type 0
-WakesBy table told here u now begins to_begin ps = (u ≡ now) × OwnFits here.clock now.own
-WakesBy table told here u now (has_answer a) (asking kernel purpose) ps = (u ≡ now) × (a ≡ answer_of kernel here) × OwnFits here.clock now.own
-WakesBy table told here u now sees (asleep paced n since) ps =
+WakesBy table outcomes here u now begins to_begin ps = (u ≡ now) × OwnFits here.clock now.own
+WakesBy table outcomes here u now (has_answer a) (asking kernel purpose) ps = (u ≡ now) × (a ≡ answer_of kernel here) × OwnFits here.clock now.own
+WakesBy table outcomes here u now sees (asleep paced n since) ps =
     (since < now.at) × (now.at ≤ wakes_at here.clock n since) × SeesAt here.clock since now.at (stack_at table ps) × (now.own ≡ [])
-WakesBy table told here u now gives_up (giving_up since) ps = (suc since ≡ now.at) × (now.own ≡ [])
-WakesBy table told here u now is_due (asleep paced n since) ps =
+WakesBy table outcomes here u now gives_up (giving_up since) ps = (suc since ≡ now.at) × (now.own ≡ [])
+WakesBy table outcomes here u now is_due (asleep paced n since) ps =
     (wakes_at here.clock n since ≡ now.at) × (seen (stack_at table ps).scopes now.at ≡ false) × (now.own ≡ [])
-WakesBy table told here u now sees (waiting_for event since) ps =
+WakesBy table outcomes here u now sees (waiting_for event since) ps =
     SeesWaiting here.clock (ends_at here.clock table event since ps) since now.at (stack_at table ps) × (now.own ≡ [])
-WakesBy table told here u now is_due (waiting_for event since) ps =
+WakesBy table outcomes here u now is_due (waiting_for event since) ps =
     GoesOnWaiting here.clock (ends_at here.clock table event since ps) since now.at (stack_at table ps) × (now.own ≡ [])
-WakesBy table told here u now (settles exc) (awaiting children ended e) ps =
-    SettlesAt here.clock now.at exc (told_members told children) ended e ps × (now.own ≡ [])
-WakesBy table told here u now _ _ ps = ⊥
+WakesBy table outcomes here u now (settles exc) (awaiting children ended e) ps =
+    SettlesAt here.clock now.at exc (outcome_members outcomes children) ended e ps × (now.own ≡ [])
+WakesBy table outcomes here u now _ _ ps = ⊥
 
 -- a wake that is possible after such a stop
 pub data CanWake : Wake → Stopped → Type 0 where

@@ -10,7 +10,7 @@ use Rattle.job_meaning.specs.Asking.{lines, missing, counted, shows, needs, pace
 use Rattle.job_meaning.specs.Asking as ask
 use Rattle.job_meaning.specs.Rest.{Event, Rest, rest_at_start, task_comes_to, finish, noted, signs, enters, starts, Frame, steps_left, in_scope, in_event, Stopped, to_begin, asking, asleep, waiting_for, awaiting, at_end}
 use Rattle.job_meaning.specs.Examples.{block_of, event_of, scope_of, timed_scope, nursery_of, start_of, label_named, raised_by, group_by}
-use Rattle.turn_semantics.specs.Midway.{none_told, stack_at, Place, Move}
+use Rattle.turn_semantics.specs.Midway.{no_outcomes, stack_at, Place, Move}
 use Rattle.turn_semantics.specs.Steps.{step_of, turn_of}
 use Rattle.turn_semantics.specs.Wakes.{Wake, begins, is_due, has_answer, settles, turn_from}
 
@@ -31,10 +31,10 @@ unfoldable pub first_turn : List Step → Move
 unfolding turn_from turn_of step_of
 first_turn ss = turn_from 20 never (only_at 0) (main_at []) begins to_begin (steps_left (block_of ss) ∷ []) [] 0
 
--- a turn from a stop of `main`, in a tick of a world with these froms, with one child started before
+-- a turn from a stop of `main`, in a tick of a world with these moments of cancellation, with one child started before
 unfoldable pub later_turn : Table → ℕ → List ℕ → Wake → Stopped → List Frame → List Place → Move
 unfolding turn_from turn_of step_of
-later_turn froms t input w s fs ps = turn_from 20 froms (only_at t) (main_at input) w s fs ps 1
+later_turn cancelled_from t input w s fs ps = turn_from 20 cancelled_from (only_at t) (main_at input) w s fs ps 1
 
 -- nursery n { start c { checkpoint; } raise E; }: the body starts a child, fails, signs for its nursery, and waits
 pub body_fails :
@@ -179,7 +179,7 @@ wait_is_noted = refl
 -- the result of `main` by a table in which each label is cancelled from tick 1 on, with nothing recorded of children
 unfoldable pub final_result_of : List Event → Rest → List Place → Result
 unfolding finish walk and_then sleep_result lines_result need_result cancel_result block with_sign nursery_result child handler_result cleanup_result
-final_result_of made rest ps = task_comes_to (by_table (λ l. Some 1)) none_told made rest (main_at []) (stack_at (λ l. Some 1) ps) (only_at 0)
+final_result_of made rest ps = task_comes_to (by_table (λ l. Some 1)) no_outcomes made rest (main_at []) (stack_at (λ l. Some 1) ps) (only_at 0)
 
 -- it is cancelled in tick 1, and the scope catches that
 abbrev pub caught_at_one : Result

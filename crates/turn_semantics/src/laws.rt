@@ -6,16 +6,16 @@ ghost use Rattle.turn_semantics.specs.Laws.{
   EachStepStaysNew,
   EachTurnStaysNew,
   EachTurnStops,
-  FromsAreLowered,
-  FromsAreOpened,
+  CancelledFromIsLowered,
+  CancelledFromIsOpened,
   JobsBeginNew,
   TaskComesToTheSame,
 };
 
-/// One step of a task, by its innermost frame: for each table that agrees with the world's froms, what is left of the task
-/// results in the events of the step, followed by the result of what is left after it. The events are of this moment, but
-/// for the starts of children, which begin a round later where there are rounds; signs are for labels of scopes and
-/// nurseries that enclose the task, the children begun are numbered consecutively, and the weight does not increase.
+/// One step of a task, by its innermost frame: for each table that agrees with the world's moments of cancellation, what is left
+/// of the task results in the events of the step, followed by the result of what is left after it. The events are of this moment,
+/// but for the starts of children, which begin a round later where there are rounds; signs are for labels of scopes and nurseries
+/// that enclose the task, the children begun are numbered consecutively, and the weight does not increase.
 pub fn law_step()
     ensures { EachStepGoes }
 {}
@@ -28,11 +28,11 @@ pub fn law_turn()
     ensures same { TaskComesToTheSame }
 {}
 
-/// The froms after a turn: each is lowered by exactly the signs made. That of a label entered in the turn starts as its
-/// deadline.
-pub fn law_froms()
-    ensures lowered { FromsAreLowered }
-    ensures opened { FromsAreOpened }
+/// The moments of cancellation after a turn: each is lowered by exactly the signs made. That of a label entered in the turn
+/// starts as its deadline.
+pub fn law_cancelled_from()
+    ensures lowered { CancelledFromIsLowered }
+    ensures opened { CancelledFromIsOpened }
 {}
 
 /// If each name of a job is given once, the scopes and nurseries that enclose a task have different names, and none is

@@ -10,22 +10,22 @@ use Rattle.workers.specs.declared.rule.Hand.{Hand}
 use Rattle.workers.specs.declared.worker.Pass.{Pass}
 use Rattle.workers.specs.declared.rule.Counts.{Counts}
 use Rattle.workers.specs.Rule.{times, both_hands, Kept}
-use Rattle.workers.specs.Claims.{drawn_by, was_told}
+use Rattle.workers.specs.Claims.{drawn_by, is_spent}
 use Rattle.workers.proofs.RuleLemmas.{Knows}
 use Rattle.workers.proofs.StepLemmas.{closed_knows}
 
 abbrev pub drawn_in : ℕ → List Pass → ℕ
 drawn_in i passes = sum_by (λ pass. count_by (nat_eq i) (drawn_by pass)) passes
 
-abbrev pub told_in : List Pass → ℕ
-told_in passes = sum_by (λ pass. pass.seat.me.0.nones) passes
+abbrev pub nones_in : List Pass → ℕ
+nones_in passes = sum_by (λ pass. pass.seat.me.0.nones) passes
 
 -- one hand and the tickets that are left together have what all tickets had
 pub record Gathered (v : Hand) (left all : List Pass) : Type 0 where
   pub some : 0 < v.parts
   pub parts : v.parts + length left ≡ length all
   pub drawn : (i : ℕ) → count_by (nat_eq i) v.drawn + drawn_in i left ≡ drawn_in i all
-  pub nones : v.nones + told_in left ≡ told_in all
+  pub nones : v.nones + nones_in left ≡ nones_in all
 
 -- the last ticket and those before it together have what all tickets had
 pub gather_first : (left : List Pass) (pass : Pass) → pass.seat.me.0.parts ≡ 1 → Gathered pass.seat.me.0 left (left ++ pass ∷ [])
@@ -57,15 +57,15 @@ gather_next v left all pass one before =
     }
 
 -- where one of the tickets got `None`, the tickets together got at least one
-told_at : (passes : List Pass) (k : ℕ) (pass : Pass) → k < length passes → slice_index_or passes k pass ≡ pass → was_told pass ≡ true →
-    0 < told_in passes
-told_at [] k pass within is told = absurd (omega arith)
-told_at (p ∷ ps) zero pass within is told =
-    let some : 0 < p.seat.me.0.nones = subst (λ (q : Pass). 0 < q.seat.me.0.nones) (sym is) (ltb-true 0 pass.seat.me.0.nones told) in
+spent_at : (passes : List Pass) (k : ℕ) (pass : Pass) → k < length passes → slice_index_or passes k pass ≡ pass → is_spent pass ≡ true →
+    0 < nones_in passes
+spent_at [] k pass within is spent = absurd (omega arith)
+spent_at (p ∷ ps) zero pass within is spent =
+    let some : 0 < p.seat.me.0.nones = subst (λ (q : Pass). 0 < q.seat.me.0.nones) (sym is) (ltb-true 0 pass.seat.me.0.nones spent) in
     let sum = sum_by-cons (λ (q : Pass). q.seat.me.0.nones) p ps in
     omega arith
-told_at (p ∷ ps) (suc k) pass within is told =
-    let rest = told_at ps k pass (omega arith) is told in
+spent_at (p ∷ ps) (suc k) pass within is spent =
+    let rest = spent_at ps k pass (omega arith) is spent in
     let sum = sum_by-cons (λ (q : Pass). q.seat.me.0.nones) p ps in
     omega arith
 
@@ -75,8 +75,8 @@ times_count x [] = refl
 times_count x (y ∷ ys) = ap (λ n. cond (nat_eq x y) 1 0 + n) (times_count x ys) ∙ sym (sum_by-cons (λ z. cond (nat_eq x z) 1 0) y ys)
 
 -- where some ticket got `None`, the tickets together got it at least once
-pub told_once : (passes : List Pass) → Any (λ pass. was_told pass ≡ true) passes → 0 < told_in passes
-told_once passes any = told_at passes any.0 any.1 any.2 any.3 any.4
+pub spent_once : (passes : List Pass) → Any (λ pass. is_spent pass ≡ true) passes → 0 < nones_in passes
+spent_once passes any = spent_at passes any.0 any.1 any.2 any.3 any.4
 
 -- what is true of a list is true of its last element and of those before
 pub all_front : {X : Type 0} (P : X → Type 0) (xs : List X) (y : X) → All P (xs ++ y ∷ []) → All P xs × P y
@@ -95,11 +95,11 @@ pub record Settled (requests word : ℕ) (all : List Pass) : Type 0 where
   pub each_once : (i : ℕ) → i < requests → drawn_in i all ≡ 1
   pub no_other : (i : ℕ) → requests ≤ i → drawn_in i all ≡ 0
 
-all_drawn : (requests word : ℕ) (v : Hand) (all : List Pass) → Gathered v [] all → 0 < told_in all → Knows requests word v →
+all_drawn : (requests word : ℕ) (v : Hand) (all : List Pass) → Gathered v [] all → 0 < nones_in all → Knows requests word v →
     Settled requests word all
-all_drawn requests word v all gathered told knows =
+all_drawn requests word v all gathered spent knows =
     let nones = knows.nones in
-    let was_told = gathered.nones in
+    let is_spent = gathered.nones in
     let over : requests < word = omega arith in
     record {
       count = omega arith;
@@ -116,9 +116,9 @@ none_left v (p ∷ ps) all none gathered = absurd (omega arith)
 -- once all tickets are returned and one got `None`, each request was drawn once and nothing else
 pub settled : (counts : Counts) (id : ℕ) (v : Hand) (words : List ℕ) (slots : List (Unit {0})) (word : ℕ) (left all : List Pass) →
     Final (Seen (Kept counts) id v) words slots → get_elem? words 0 ≡ some word → length left ≡ 0
-    → Gathered v left all → length all ≡ counts.passes → Any (λ pass. was_told pass ≡ true) all → Settled counts.requests word all
-settled counts id v words slots word left all final at none gathered long told =
+    → Gathered v left all → length all ≡ counts.passes → Any (λ pass. is_spent pass ≡ true) all → Settled counts.requests word all
+settled counts id v words slots word left all final at none gathered long spent =
     let parts = gathered.parts in
     let knows = closed_knows counts id v words slots final (omega arith) in
-    all_drawn counts.requests word v all (none_left v left all none gathered) (told_once all told)
+    all_drawn counts.requests word v all (none_left v left all none gathered) (spent_once all spent)
     (subst (λ n. Knows counts.requests n v) (first_word words word at) knows)

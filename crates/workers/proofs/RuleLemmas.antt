@@ -47,7 +47,7 @@ nones_few requests passes word hands rule =
 -- a ticket is split off a hand that stands for more than one
 pub splits : (requests passes word : ℕ) (hands : List Hand) (i : ℕ) (v : Hand) → Claimed requests passes word hands →
     get_elem? hands i ≡ some v → 1 < v.parts → v.nones ≡ 0 → Claimed requests passes word (set hands i (one_less v) ++ new_hand v ∷ [])
-splits requests passes word hands i v rule at more untold =
+splits requests passes word hands i v rule at more unspent =
     let left = one_less v in
     let right = new_hand v in
     let fair = rule.fair i v at in
@@ -127,7 +127,7 @@ draws_number requests passes word hands i v rule at some_part left =
 pub draws_none : (requests passes word : ℕ) (hands : List Hand) (i : ℕ) (v : Hand) → Claimed requests passes word hands →
     get_elem? hands i ≡ some v → 0 < v.parts → v.nones ≡ 0 → requests ≤ word
     → Claimed requests passes (word + 1) (set hands i (hand v.most v.parts v.drawn (v.nones + 1)))
-draws_none requests passes word hands i v rule at some_part untold over =
+draws_none requests passes word hands i v rule at some_part unspent over =
     let w = hand v.most v.parts v.drawn (v.nones + 1) in
     let fair = rule.fair i v at in
     let same = λ (x : ℕ).

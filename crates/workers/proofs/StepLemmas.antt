@@ -23,10 +23,10 @@ placed counts s n id me w wide rule = (
 pub claims_allowed : (counts : Counts) (slots id : ℕ) (me : Me (Unit {0}) Hand) → me.0.parts ≡ 1 → me.0.nones ≡ 0 →
     counts.requests ≤ MAX_REQUESTS → counts.passes ≤ 64
     → Allows (Kept counts) slots id me 0 (λ n. (n + 1) % 18446744073709551616) (Draws (step slots 0 1 0 none) me)
-claims_allowed counts slots id me one untold few_requests few_passes s rule homes at small =
+claims_allowed counts slots id me one unspent few_requests few_passes s rule homes at small =
     let word = slice_index s.words 0 in
     let v = me.0 in
-    let told = nones_few counts.requests counts.passes word s.views rule.1 in
+    let spent = nones_few counts.requests counts.passes word s.views rule.1 in
     let next : word + 1 ≡ (word + 1) % 18446744073709551616 = omega arith in
     let some_part : 0 < v.parts = omega arith in
     let most = (rule.1.fair id v at).most some_part in
@@ -53,15 +53,15 @@ claims_allowed counts slots id me one untold few_requests few_passes s rule home
             w,
             keeps,
             tt,
-            kept w (draws_none counts.requests counts.passes word s.views id v rule.1 at some_part untold over),
+            kept w (draws_none counts.requests counts.passes word s.views id v rule.1 at some_part unspent over),
             (refl, record { number = λ below. absurd (omega arith); none = λ over. refl }),
           )
     ]
 
 -- a ticket may be split off a hand that stands for more than one
 pub cuts_allowed : (counts : Counts) (id : ℕ) (v : Hand) → 1 < v.parts → v.nones ≡ 0 → Splits (Kept counts) id v (one_less v) (new_hand v)
-cuts_allowed counts id v more untold s rule at =
-    (rule.0, splits counts.requests counts.passes (slice_index s.words 0) s.views id v rule.1 at more untold)
+cuts_allowed counts id v more unspent s rule at =
+    (rule.0, splits counts.requests counts.passes (slice_index s.words 0) s.views id v rule.1 at more unspent)
 
 -- another hand may be joined to a hand that stands for a ticket
 pub joins_allowed : (counts : Counts) (id : ℕ) (v : Hand) (other : ℕ) (w : Hand) → 0 < v.parts →

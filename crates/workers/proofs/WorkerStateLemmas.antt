@@ -9,7 +9,7 @@ use Rattle.std.proofs.lemmas.List.Elements.{All-append, All-push, All-head, All-
 use Rattle.input_lines.specs.declared.request.Request.{Request}
 use Rattle.input_lines.specs.declared.answers.Answer.{Answer}
 use Rattle.workers.specs.declared.worker.Pass.{Pass}
-use Rattle.workers.specs.Claims.{drawn_by, was_told}
+use Rattle.workers.specs.Claims.{drawn_by, is_spent}
 use Rattle.workers.specs.declared.slot.Slot.{Slot}
 use Rattle.workers.specs.declared.worker_state.Numbered.{Numbered}
 use Rattle.workers.specs.Slots.{Answers, IsComputed, AreComputed, slot_of}
@@ -107,7 +107,7 @@ gathered-all requests passes answered gathered once =
     record { right = gathered.right; each = λ i inside. let same = gathered.each i in let one = once i inside in omega arith }
 
 -- where all of several tickets got `None`, the first did
-pub told-first : (passes : List Pass) → 0 < length passes → All (λ pass. was_told pass ≡ true) passes →
-    Any (λ pass. was_told pass ≡ true) passes
-told-first [] some all = absurd (omega arith)
-told-first (pass ∷ passes) some all = (0, pass, some, refl, all 0 pass some)
+pub spent-first : (passes : List Pass) → 0 < length passes → All (λ pass. is_spent pass ≡ true) passes →
+    Any (λ pass. is_spent pass ≡ true) passes
+spent-first [] some all = absurd (omega arith)
+spent-first (pass ∷ passes) some all = (0, pass, some, refl, all 0 pass some)

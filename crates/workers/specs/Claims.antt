@@ -16,8 +16,8 @@ abbrev pub drawn_by : Pass → List ℕ
 drawn_by pass = pass.seat.me.0.drawn
 
 -- whether a ticket got `None`, which says that no request is left
-abbrev pub was_told : Pass → Bool
-was_told pass = nat_lt 0 pass.seat.me.0.nones
+abbrev pub is_spent : Pass → Bool
+is_spent pass = nat_lt 0 pass.seat.me.0.nones
 
 -- The ticket is one of those that were created with these claims: it belongs to their table, stands for one ticket, and
 -- has the number of requests.

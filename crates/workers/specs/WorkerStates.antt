@@ -4,7 +4,7 @@ use Rattle.input_lines.specs.declared.request.Request.{Request}
 use Rattle.input_lines.specs.declared.answers.Answer.{Answer}
 use Rattle.workers.specs.declared.batch.Claims.{Claims}
 use Rattle.workers.specs.declared.worker.Pass.{Pass}
-use Rattle.workers.specs.Claims.{IsPassOf, drawn_by, was_told}
+use Rattle.workers.specs.Claims.{IsPassOf, drawn_by, is_spent}
 use Rattle.workers.specs.declared.worker_state.WorkerState.{WorkerState}
 use Rattle.workers.specs.declared.worker_state.Numbered.{Numbered}
 use Rattle.workers.specs.Slots.{Answers}
@@ -26,14 +26,14 @@ pub record AreDrawn (requests : List Request) (drawn : List ℕ) (answered : Lis
 -- the worker's ticket is one of these claims, and the worker has drawn and answered nothing
 pub record IsFresh (claims : Claims) (worker_state : WorkerState) : Type 0 where
   pub pass : IsPassOf claims worker_state.pass
-  pub untold : was_told worker_state.pass ≡ false
+  pub unspent : is_spent worker_state.pass ≡ false
   pub drawn : drawn_by worker_state.pass ≡ []
   pub answered : worker_state.answered.items ≡ []
 
 -- the worker's ticket got `None`, and unless memory ran out for the worker, each number that it drew has its answer
 pub record IsFinished (requests : List Request) (claims : Claims) (worker_state : WorkerState) : Type 0 where
   pub pass : IsPassOf claims worker_state.pass
-  pub told : was_told worker_state.pass ≡ true
+  pub spent : is_spent worker_state.pass ≡ true
   pub answered : worker_state.refused ≡ false → AreDrawn requests (drawn_by worker_state.pass) worker_state.answered.items
 
 -- the worker has answered one more request, or memory ran out for it

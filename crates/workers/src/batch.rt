@@ -17,7 +17,7 @@ pub struct Claims {
 }
 
 impl Claims {
-    ghost use Rattle.workers.specs.Claims.{requests_of, passes_of, IsPassOf, drawn_by, was_told};
+    ghost use Rattle.workers.specs.Claims.{requests_of, passes_of, IsPassOf, drawn_by, is_spent};
 
     /// Creates claims for the numbers from 0 up to `requests`, which is left out, and the given number of tickets, which
     /// have drawn nothing yet. The caller must ensure that there are at most `MAX_REQUESTS` requests and from 1 to 64 tickets.
@@ -32,7 +32,7 @@ impl Claims {
         requires few_passes { passes ≤ 64 }
         ensures requests { IfOk result (λ made. requests_of made.0 ≡ requests) }
         ensures passes { IfOk result (λ made. (passes_of made.0 ≡ passes) × (vec_len made.1 ≡ passes)) }
-        ensures fresh { IfOk result (λ made. All (λ pass. IsPassOf made.0 pass × (drawn_by pass ≡ []) × (was_told pass ≡ false))
+        ensures fresh { IfOk result (λ made. All (λ pass. IsPassOf made.0 pass × (drawn_by pass ≡ []) × (is_spent pass ≡ false))
             made.1.items) }
     {
         let counts = Counts {
@@ -58,12 +58,12 @@ impl Claims {
     /// and does not wait.
     pub fn claim(&self, pass: &mut Pass) -> Option<usize>
         requires same { IsPassOf self.now pass.old }
-        requires untold { was_told pass.old ≡ false }
+        requires unspent { is_spent pass.old ≡ false }
         ensures same { IsPassOf self.now pass.new }
         ensures number { IfSome result (λ i. (i < requests_of self.now) × All (λ j. j < i) (drawn_by pass.old)) }
         ensures drawn { IfSome result (λ i. drawn_by pass.new ≡ drawn_by pass.old ++ i ∷ []) }
-        ensures untold { IsSome result → was_told pass.new ≡ false }
-        ensures told { IsNone result → (drawn_by pass.new ≡ drawn_by pass.old) × (was_told pass.new ≡ true) }
+        ensures unspent { IsSome result → is_spent pass.new ≡ false }
+        ensures spent { IsNone result → (drawn_by pass.new ≡ drawn_by pass.old) × (is_spent pass.new ≡ true) }
     {
         let found = self.word.shared.fetch_add::<Draw>(&mut pass.seat, 0, 1);
         if found < self.requests as u64 {
@@ -78,7 +78,7 @@ impl Claims {
     /// must have got `None`.
     pub fn close(self, passes: Vec<Pass>) -> u64
         requires all { (vec_len passes ≡ passes_of self) × All (IsPassOf self) passes.items }
-        requires told { Any (λ pass. was_told pass ≡ true) passes.items }
+        requires spent { Any (λ pass. is_spent pass ≡ true) passes.items }
         ensures count { result ≡ requests_of self }
         ensures each_once { (i : ℕ) → i < requests_of self → sum_by (λ pass. count_by (nat_eq i) (drawn_by pass)) passes.items ≡ 1 }
         ensures no_other { (i : ℕ) → requests_of self ≤ i → sum_by (λ pass. count_by (nat_eq i) (drawn_by pass)) passes.items ≡ 0 }

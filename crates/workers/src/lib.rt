@@ -13,7 +13,7 @@
 //! every number of workers and every gate. The workers draw the numbers of the requests, so that no worker waits
 //! while a request is left.
 //!
-//! The same kind of work on each of a list of items, by several threads, with each answer at the index of its item.
+//! Work of one kind on each of a list of items, by several threads, with each answer at the index of its item.
 //!
 //! The layer promises that `answers_for` returns the answer of a `Work` for each item, in the order of the items, for every
 //! number of workers and every gate. The items are split among the threads, and each thread writes into slots of its own.

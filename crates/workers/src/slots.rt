@@ -8,9 +8,9 @@ use std::alloc::{AllocError, Global};
 use std::thread;
 use std::thread::Threads;
 
-/// Returns the answers for these items, in their order, found by at most `workers` threads. The thread that works on an item calls the
-/// gate before and after it, with the index of the item. The caller must ensure that there is at least one worker and that the work's
-/// own requirement (`Work::may`) holds.
+/// Returns the answers for these items, in their order, found by at most `workers` threads. The thread that works on an item
+/// calls the gate before and after it, with the index of the item. The caller must ensure that there is at least one worker and
+/// that the work's own requirement (`Work::may`) holds.
 ///
 /// Returns `AllocError` if memory runs out. If that happens at one item, the work on the other items is still done.
 pub fn answers_for<R: Threads + Sync, W: Work + Sync, G: Gate + Sync>(

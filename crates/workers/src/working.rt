@@ -1,6 +1,6 @@
 ghost use Rattle.std.specs.Prelude.{◌≡◌, ◌≤◌, ◌<◌, List, [], ◌∷◌, ◌++◌, true, false, length, vec_len, map, replicate, slice_set, All, IfOk};
 ghost use Rattle.workers.specs.declared.limits.TheConstants.{MAX_REQUESTS};
-ghost use Rattle.workers.specs.Claims.{IsPassOf, requests_of, drawn_by, was_told};
+ghost use Rattle.workers.specs.Claims.{IsPassOf, requests_of, drawn_by, is_spent};
 ghost use Rattle.workers.specs.Slots.{AreAnswers, AreComputed, IsFilled, empty_slot, slot_of};
 ghost use Rattle.workers.specs.WorkerStates.{IsFresh, IsFinished, AreGathered, HaveAnswers};
 
@@ -79,7 +79,7 @@ fn worker_states_of<'a>(
     claims: &Claims,
     passes: Vec<Pass>,
 ) -> Result<Vec<WorkerState<'a>>, AllocError>
-    requires { All (λ pass. IsPassOf claims.now pass × (drawn_by pass ≡ []) × (was_told pass ≡ false)) passes.items }
+    requires { All (λ pass. IsPassOf claims.now pass × (drawn_by pass ≡ []) × (is_spent pass ≡ false)) passes.items }
     ensures count { IfOk result (λ worker_states. vec_len worker_states ≡ vec_len passes) }
     ensures fresh { IfOk result (λ worker_states. All (IsFresh claims.now) worker_states.items) }
 {
@@ -183,7 +183,7 @@ fn gather<'a>(
 ) -> Result<Gathered<'a>, AllocError>
     requires { All (IsFinished requests.now claims.now) worker_states.items }
     ensures count { IfOk result (λ gathered. vec_len gathered.passes ≡ vec_len worker_states.entry) }
-    ensures passes { IfOk result (λ gathered. All (λ pass. IsPassOf claims.now pass × (was_told pass ≡ true)) gathered.passes.items) }
+    ensures passes { IfOk result (λ gathered. All (λ pass. IsPassOf claims.now pass × (is_spent pass ≡ true)) gathered.passes.items) }
     ensures answered { IfOk result (λ gathered. gathered.refused ≡ false →
         AreGathered requests.entry.now gathered.passes.items gathered.answered.items) }
 {

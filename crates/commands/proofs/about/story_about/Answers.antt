@@ -1,6 +1,6 @@
 use Rattle.std.proofs.Common.{ap, map}
 use Rattle.std.specs.Option.{option_copied}
-use Rattle.job_story.specs.Froms.{table_in}
+use Rattle.job_story.specs.CancelledFrom.{table_in}
 use Rattle.story_index.specs.Seen.{event_in}
 use Rattle.commands.proofs.Explained.{story_about_some}
 use Rattle.commands.proofs.about.story_about.Goals as goal

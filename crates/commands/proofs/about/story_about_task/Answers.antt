@@ -1,5 +1,5 @@
 use Rattle.std.proofs.Common.{refl, sym, ap, ◌∙◌, map}
-use Rattle.job_story.specs.Froms.{table_in}
+use Rattle.job_story.specs.CancelledFrom.{table_in}
 use Rattle.story_index.specs.Seen.{event_in}
 use Rattle.story_index.specs.Holds.{label_seen}
 use Rattle.job_answers.specs.declared.story_verdict.StoryVerdict.TheVariants.{NoTask}

@@ -3,4 +3,4 @@ use Rattle.job_answers.proofs.meaning.meaning_of.Goals as goal
 
 pub returns-clause-table : goal.returns-clause-table
 returns-clause-table g c =
-    is_of_meaning _ _ _ _ c.law_froms_of_meaning.ensures c.in_ok-run.ensures.froms c.in_ok-table.ensures
+    is_of_meaning _ _ _ _ c.law_cancelled_from_of_meaning.ensures c.in_ok-run.ensures.cancelled_from c.in_ok-table.ensures

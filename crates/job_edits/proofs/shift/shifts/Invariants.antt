@@ -1,5 +1,5 @@
 use Rattle.std.proofs.Common.{◌≡◌, ◌++◌, drop}
-use Rattle.job_edits.specs.Finer.{shifts_of}
+use Rattle.job_edits.specs.FinerTicks.{shifts_of}
 use Rattle.job_edits.proofs.shift.shifts.Given as goal
 
 abbrev pub invariant-sites : goal.invariant-sites

@@ -1,5 +1,5 @@
 use Rattle.std.proofs.Common.{length, ap, arith}
-use Rattle.task_table.specs.TaskTable.{gone_of}
+use Rattle.task_table.specs.TaskTable.{ended_task_of}
 use Rattle.job_runner.proofs.FewRequests.{few_requests}
 use Rattle.job_runner.proofs.Rounds.{ready_some}
 use Rattle.job_runner.proofs.running.run_batch.Goals as goal
@@ -7,7 +7,7 @@ use Rattle.job_runner.proofs.running.run_batch.Goals as goal
 pub returns-clause-turns : goal.returns-clause-turns
 returns-clause-turns g c =
     let more = c.in_ok-runner.ensures.turns in
-    let some = ready_some c.args.runner.batch.current (gone_of c.args.runner.task_table 0) c.requires.ready in
+    let some = ready_some c.args.runner.batch.current (ended_task_of c.args.runner.task_table 0) c.requires.ready in
     omega (arith, more, some)
 
 pub work-requires-clause-few_requests : goal.work-requires-clause-few_requests

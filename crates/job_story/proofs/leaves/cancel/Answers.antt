@@ -10,7 +10,7 @@ use Rattle.job_story.proofs.leaves.cancel.Goals as goal
 pub returns : goal.returns
 unfolding tell_cancel
 returns c = record {
-  told = c.at.ensures _ _;
+  stretch = c.at.ensures _ _;
   events =
       adds_like _ _ _ _ _ c.in_ok-note.ensures
       (ap (λ (o : Option Label). story_of_one c.args.moment (cancels o)) (c.in_ok-label.ensures ∙ c.label_on.ensures));

@@ -4,7 +4,7 @@ use Rattle.job_story.specs.Story.{misses}
 use Rattle.job_story.specs.Tell.{failed_at, story_of_one}
 use Rattle.job_meaning.specs.Clocks.{tick_of}
 use Rattle.job_story.specs.Heres.{here_of}
-use Rattle.job_story.specs.Tales.{IsTold, now_in}
+use Rattle.job_story.specs.Tales.{IsStretchOf, now_in}
 use Rattle.job_story.proofs.Shows.{shows_needed, misses_needed}
 use Rattle.job_story.proofs.leaves.need.Goals as goal
 
@@ -15,8 +15,8 @@ returns-in_default c =
     misses_needed _ _ _ c.args.here.part c.bytes.result _ _ name (here_of c.args.here) _ now c.in_ok-lines.ensures.answer
     c.in_default.not-Lines
     c.bytes.ensures (record {
-      told =
-          subst (λ (l : Label). IsTold c.raised.result (failed_at (raised name l (tick_of c.args.here.clock now.at)) now
+      stretch =
+          subst (λ (l : Label). IsStretchOf c.raised.result (failed_at (raised name l (tick_of c.args.here.clock now.at)) now
           (story_of_one now.at (misses name)))) c.in_ok-task.ensures
           (c.raised.ensures now.own (story_of_one now.at (misses name)));
       events = c.in_ok-note.ensures;
@@ -26,4 +26,4 @@ returns-in_default c =
 pub returns : goal.returns
 returns c =
     shows_needed _ _ _ c.args.here.part c.bytes.result _ _ _ _ _ _ _ c.in_ok-lines.ensures.answer c.in-Lines.is c.bytes.ensures
-    c.in_ok-told.ensures
+    c.in_ok-stretch.ensures

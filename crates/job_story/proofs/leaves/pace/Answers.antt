@@ -19,11 +19,11 @@ returns c =
     let least = a_round_after here.clock m in
     let end = wakes_at here.clock n m in
     let seen = sight (scopes_of here) in
-    subst (λ (k : ℕ). Tells here.task.now start c.in_ok-told.told after (tell_paced here k m))
+    subst (λ (k : ℕ). Tells here.task.now start c.in_ok-stretch.stretch after (tell_paced here k m))
     (paced_is c.in_ok-count.count c.args.per_tick c.requires.some ∙ ap (λ (k : ℕ). pace_ticks k c.args.per_tick)
     c.in_ok-count.ensures.count)
-    (subst (λ (g : ℕ). Tells here.task.now start c.in_ok-told.told after
+    (subst (λ (g : ℕ). Tells here.task.now start c.in_ok-stretch.stretch after
     (tell_slept seen n m least g end (scopes_of here) here.in_cleanup (Some end))) c.a_round_after-gives_up.ensures
-    (subst (λ (u : ℕ). Tells here.task.now start c.in_ok-told.told after
+    (subst (λ (u : ℕ). Tells here.task.now start c.in_ok-stretch.stretch after
     (tell_slept seen n m least c.a_round_after-gives_up.result end (scopes_of here) here.in_cleanup (Some u)))
-    c.wakes_at-until.ensures.wakes c.in_ok-told.ensures))
+    c.wakes_at-until.ensures.wakes c.in_ok-stretch.ensures))

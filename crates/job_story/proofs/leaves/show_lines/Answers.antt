@@ -10,7 +10,7 @@ use Rattle.job_story.proofs.leaves.show_lines.Goals as goal
 pub returns : goal.returns
 unfolding tell_lines
 returns c = record {
-  told = c.at.ensures _ _;
+  stretch = c.at.ensures _ _;
   events = adds_like _ _ _ _ _ c.in_ok-note.ensures
       (ap (λ (ls : List Span). story_of_one c.args.moment (finds ls)) (c.in_ok-lines.ensures ∙ ap (map span_of) c.as_slice.ensures));
   own = refl;

@@ -10,10 +10,10 @@ use Rattle.job_story.proofs.notes.wait.Goals as goal
 
 pub returns : goal.returns
 returns c = λ start (a : Tale) h.
-    tells_wait c.args.here.clock _ start _ _ c.args.told _ c.args.label.now a h
+    tells_wait c.args.here.clock _ start _ _ c.args.stretch _ c.args.label.now a h
     (adds_like _ _ _ _ _ c.in_ok-note.ensures
     (ap (λ (n : ℕ). story_of_one n (waits c.in_ok-nursery.nursery (unboxed_exc c.in_ok-exc.exc))) c.end.ensures
-    ∙ (ap (λ (l : Label). story_of_one c.args.told.end (waits l (unboxed_exc c.in_ok-exc.exc))) c.in_ok-nursery.ensures
-    ∙ ap (λ (o : Option Exc). story_of_one c.args.told.end (waits c.args.label.now o)) c.in_ok-exc.ensures)))
+    ∙ (ap (λ (l : Label). story_of_one c.args.stretch.end (waits l (unboxed_exc c.in_ok-exc.exc))) c.in_ok-nursery.ensures
+    ∙ ap (λ (o : Option Exc). story_of_one c.args.stretch.end (waits c.args.label.now o)) c.in_ok-exc.ensures)))
     (none_own _ c.clear.ensures.items)
-    c.in_ok-told.ensures
+    c.in_ok-stretch.ensures

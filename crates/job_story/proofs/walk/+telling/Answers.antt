@@ -33,7 +33,7 @@ use Rattle.job_story.proofs.Passing.{at_first, room_pass, pass_failed, pass_next
 use Rattle.job_story.proofs.walk.+telling.Goals as goal
 
 pub tell_steps-steps-init : goal.tell_steps-steps-init
-tell_steps-steps-init t c = at_start _ _ _ _ _ c.at-told.ensures c.requires.in_range c.requires.room
+tell_steps-steps-init t c = at_start _ _ _ _ _ c.at-stretch.ensures c.requires.in_range c.requires.room
 
 pub tell_steps-tell_step-requires : goal.tell_steps-tell_step-requires
 tell_steps-tell_step-requires t c =
@@ -51,14 +51,14 @@ pub tell_steps-returns-then-has_failed : goal.tell_steps-returns-then-has_failed
 tell_steps-returns-then-has_failed t c =
     let at = at_item _ _ _ c.args.steps.now c.steps.step-index c.step-item.result _ _ _ c.steps.invariant c.steps-test.true c.step-item.is
     in
-    at_failed _ _ _ _ _ _ _ _ _ _ _ at _ c.end.ensures c.in_ok-next.ensures c.in_ok-told.ensures
+    at_failed _ _ _ _ _ _ _ _ _ _ _ at _ c.end.ensures c.in_ok-next.ensures c.in_ok-stretch.ensures
     (sym c.has_failed.ensures ∙ c.if-has_failed.true)
 
 pub tell_steps-steps-preserved : goal.tell_steps-steps-preserved
 tell_steps-steps-preserved t c =
     let at = at_item _ _ _ c.args.steps.now c.steps.step-index c.step-item.result _ _ _ c.steps.invariant c.steps-test.true c.step-item.is
     in
-    at_next _ _ _ _ _ _ _ _ _ _ _ at _ c.end.ensures c.in_ok-next.ensures c.in_ok-told.ensures
+    at_next _ _ _ _ _ _ _ _ _ _ _ at _ c.end.ensures c.in_ok-next.ensures c.in_ok-stretch.ensures
     (sym c.has_failed.ensures ∙ c.if-has_failed.false)
 
 pub tell_steps-returns : goal.tell_steps-returns
@@ -66,7 +66,7 @@ tell_steps-returns t c =
     let done : drop c.steps.step-index c.args.steps.now ≡ [] = drop_all c.steps.step-index c.args.steps.now c.steps-test.false in
     at_stop _ _ _ _ _ _
     (subst (λ (ss : List Step). AtStep c.args.here (now_in c.args.moment c.args.progress.now) (steps_of c.args.steps.now)
-    (steps_of ss) c.args.progress.now.events.items c.steps.told
+    (steps_of ss) c.args.progress.now.events.items c.steps.stretch
     c.steps.progress) done c.steps.invariant)
 
 pub tell_block-returns : goal.tell_block-returns
@@ -79,23 +79,23 @@ tell_block-returns t c =
     let entering = adds_like _ _ _ _ _ c.in_ok-note.ensures
     (ap (λ (l : Label). story_of_one m (enters kind l block.deadline block.shield)) c.in_ok-label.ensures) in
     tells_block here.clock here.task.now _ _ _ _ (table_of here) kind block.label m block.deadline block.shield (scopes_of here)
-    body c.in_ok-inner.inner c.in_ok-told.told block.from c.requires.known entering c.in_ok-inner.ensures c.in_ok-told.ensures
+    body c.in_ok-inner.inner c.in_ok-stretch.stretch block.from c.requires.known entering c.in_ok-inner.ensures c.in_ok-stretch.ensures
 
 pub tell_inside-wait-requires : goal.tell_inside-wait-requires
 tell_inside-wait-requires t c =
     let here = c.args.here in
     let now = now_in c.args.moment c.args.progress.now in
-    let body = tells_at _ _ _ c.in_ok-told.told _ _ c.args.body.now _ _ now now c.as_slice.ensures refl c.in_ok-told.ensures in
-    let small = ends_small c.in_ok-told.told _ c.args.body.now _ _ now c.requires.in_range c.requires.room.small body.told in
+    let body = tells_at _ _ _ c.in_ok-stretch.stretch _ _ c.args.body.now _ _ now now c.as_slice.ensures refl c.in_ok-stretch.ensures in
+    let small = ends_small c.in_ok-stretch.stretch _ c.args.body.now _ _ now c.requires.in_range c.requires.room.small body.stretch in
     omega (arith, small, c.requires.room.room)
 
 pub tell_inside-returns-in-Scope : goal.tell_inside-returns-in-Scope
 tell_inside-returns-in-Scope t c =
     let here = c.args.here in
     let now = now_in c.args.moment c.args.progress.now in
-    let body = tells_at _ _ _ c.in_ok-told.told _ _ c.args.body.now _ _ now now c.as_slice.ensures refl c.in_ok-told.ensures in
+    let body = tells_at _ _ _ c.in_ok-stretch.stretch _ _ c.args.body.now _ _ now now c.as_slice.ensures refl c.in_ok-stretch.ensures in
     rw c.in-Scope.is
-    (subst (λ (l : Label). Tells here.task.now c.args.progress.now.events.items c.in_ok-told.told c.tell_steps.new.progress
+    (subst (λ (l : Label). Tells here.task.now c.args.progress.now.events.items c.in_ok-stretch.stretch c.tell_steps.new.progress
     (tell (table_of here) c.args.body.now (scene_of here) (stack_inside l c.args.block.now.shield c.args.block.now.from
     (stack_of here)) now))
     c.in_ok-copy.ensures body)
@@ -104,12 +104,12 @@ pub tell_inside-returns : goal.tell_inside-returns
 tell_inside-returns t c =
     let here = c.args.here in
     let now = now_in c.args.moment c.args.progress.now in
-    let body = tells_at _ _ _ c.in_ok-told.told _ _ c.args.body.now _ _ now now c.as_slice.ensures refl c.in_ok-told.ensures in
-    let inner = subst (λ (l : Label). Tells here.task.now c.args.progress.now.events.items c.in_ok-told.told c.tell_steps.new.progress
+    let body = tells_at _ _ _ c.in_ok-stretch.stretch _ _ c.args.body.now _ _ now now c.as_slice.ensures refl c.in_ok-stretch.ensures in
+    let inner = subst (λ (l : Label). Tells here.task.now c.args.progress.now.events.items c.in_ok-stretch.stretch c.tell_steps.new.progress
     (tell (table_of here) c.args.body.now (scene_of here) (stack_inside l c.args.block.now.shield c.args.block.now.from
     (stack_of here)) now))
     c.in_ok-copy.ensures body in
-    rw c.in-Nursery.is (c.in_ok-told-in-Nursery.ensures _ _ inner)
+    rw c.in-Nursery.is (c.in_ok-stretch-in-Nursery.ensures _ _ inner)
 
 pub tell_event-returns : goal.tell_event-returns
 tell_event-returns t c =
@@ -119,12 +119,12 @@ tell_event-returns t c =
     let entering = adds_like _ _ _ _ _ c.in_ok-note.ensures
     (ap (λ (l : Label). story_of_one c.args.moment (enters_event l))
     (c.in_ok-label.ensures ∙ ap (λ (e : Level). e.label) c.in_ok-event.ensures)) in
-    let body = tells_at _ _ _ c.in_ok-told.told _ _ c.args.body.now _ _ now now c.as_slice.ensures refl c.in_ok-told.ensures in
-    let inner = subst (λ (e : Level). Tells here.task.now c.note.new.events.items c.in_ok-told.told c.tell_steps.new.progress
+    let body = tells_at _ _ _ c.in_ok-stretch.stretch _ _ c.args.body.now _ _ now now c.as_slice.ensures refl c.in_ok-stretch.ensures in
+    let inner = subst (λ (e : Level). Tells here.task.now c.note.new.events.items c.in_ok-stretch.stretch c.tell_steps.new.progress
     (tell (table_of here) c.args.body.now (scene_of here)
     (let outer = (stack_of here).events in record (stack_of here) { events = level_of e ∷ outer }) now)) c.in_ok-event.ensures body in
     tells_event here.task.now _ _ _ (table_of here) label c.args.moment (inside_event label c.args.body.now here now)
-    c.in_ok-told.told entering inner
+    c.in_ok-stretch.stretch entering inner
 
 pub tell_child-returns : goal.tell_child-returns
 tell_child-returns t c =
@@ -132,17 +132,17 @@ tell_child-returns t c =
     let home = home_of (scopes_of here) in
     let scene = scene_in c.args.label (range_of c.args.part) here in
     let now = now_in c.args.moment c.args.progress.now in
-    let inner = subst (λ (x : Now). Tells c.args.label c.note_start.new.events.items c.in_ok-told.told c.tell_steps.new.progress
+    let inner = subst (λ (x : Now). Tells c.args.label c.note_start.new.events.items c.in_ok-stretch.stretch c.tell_steps.new.progress
     (tell (table_of here) (steps_of c.args.steps.now) scene (stack_of here) x))
     (same_now c.args.begins c.replace-own.new.dest.items c.args.begins [] refl
     (none_own c.replace-own.new.dest.items (ap (λ (v : Vec Label). v.items) c.replace-own.ensures.after ∙ c.new.ensures.items)))
-    (tells_in _ _ _ c.in_ok-told.told _ _ _ _ _ _ _ _ _ _ c.requires.same c.in_ok-told.ensures) in
-    tells_child here.task.now c.args.label home scene c.args.begins _ now _ _ _ _ c.in_ok-told.told _ c.in_ok-note_start.ensures
+    (tells_in _ _ _ c.in_ok-stretch.stretch _ _ _ _ _ _ _ _ _ _ c.requires.same c.in_ok-stretch.ensures) in
+    tells_child here.task.now c.args.label home scene c.args.begins _ now _ _ _ _ c.in_ok-stretch.stretch _ c.in_ok-note_start.ensures
     inner c.in_ok-note_end.ensures (ap (λ (v : Vec Label). reverse v.items) c.replace-own.ensures.value)
-    (c.in_ok-told-2.ensures c.args.label home scene c.args.begins now.own _ inner.told)
+    (c.in_ok-stretch-2.ensures c.args.label home scene c.args.begins now.own _ inner.stretch)
 
 pub tell_children-copies-init : goal.tell_children-copies-init
-tell_children-copies-init t c = record { told = c.at-told.ensures _ _; events = adds_nothing _ _; own = refl }
+tell_children-copies-init t c = record { stretch = c.at-stretch.ensures _ _; events = adds_nothing _ _; own = refl }
 
 pub tell_children-copies-preserved : goal.tell_children-copies-preserved
 tell_children-copies-preserved t c =
@@ -165,18 +165,18 @@ tell_children-copies-preserved t c =
     (now_in c.args.moment c.copies.progress))) c.cut-part.ensures.range labelled in
     let child = subst (λ (x : Now). Tells here.task.now start c.in_ok-child.child after
     (started_over c.args.name.now c.args.copies c.args.body.now here begins x c.copies.i)) own lent in
-    rw (add-one c.copies.i) (tells_joined _ _ _ _ _ _ _ _ _ c.copies.invariant child c.in_ok-told.ensures)
+    rw (add-one c.copies.i) (tells_joined _ _ _ _ _ _ _ _ _ c.copies.invariant child c.in_ok-stretch.ensures)
 
 pub tell_children-returns : goal.tell_children-returns
 tell_children-returns t c =
     let here = c.args.here in
     let now = now_in c.args.moment c.args.progress.now in
     let last : c.copies.i ≡ c.args.copies = omega (arith, c.copies-test.false, c.copies.auto.i-end) in
-    subst (λ (k : ℕ). Tells here.task.now c.args.progress.now.events.items c.copies.told c.copies.progress
+    subst (λ (k : ℕ). Tells here.task.now c.args.progress.now.events.items c.copies.stretch c.copies.progress
     (tell_each k (started_over c.args.name.now c.args.copies c.args.body.now here c.args.begins now) now)) last c.copies.invariant
 
 pub tell_passes-passes-init : goal.tell_passes-passes-init
-tell_passes-passes-init t c = at_first _ _ _ _ _ _ c.at-told.ensures c.requires.in_range c.requires.room
+tell_passes-passes-init t c = at_first _ _ _ _ _ _ c.at-stretch.ensures c.requires.in_range c.requires.room
 
 pub tell_passes-tell_pass-requires : goal.tell_passes-tell_pass-requires
 tell_passes-tell_pass-requires t c = (
@@ -190,12 +190,12 @@ tell_passes-tell_pass-requires t c = (
 
 pub tell_passes-returns-then-has_failed : goal.tell_passes-returns-then-has_failed
 tell_passes-returns-then-has_failed t c =
-    pass_failed _ _ _ _ _ _ _ _ _ _ _ c.passes.invariant c.passes-test.true _ c.end.ensures c.in_ok-next.ensures c.in_ok-told.ensures
+    pass_failed _ _ _ _ _ _ _ _ _ _ _ c.passes.invariant c.passes-test.true _ c.end.ensures c.in_ok-next.ensures c.in_ok-stretch.ensures
     (sym c.has_failed.ensures ∙ c.if-has_failed.true)
 
 pub tell_passes-passes-preserved : goal.tell_passes-passes-preserved
 tell_passes-passes-preserved t c =
-    pass_next _ _ _ _ _ _ _ _ _ _ _ c.passes.invariant c.passes-test.true _ c.end.ensures c.in_ok-next.ensures c.in_ok-told.ensures
+    pass_next _ _ _ _ _ _ _ _ _ _ _ c.passes.invariant c.passes-test.true _ c.end.ensures c.in_ok-next.ensures c.in_ok-stretch.ensures
     (sym c.has_failed.ensures ∙ c.if-has_failed.false)
 
 pub tell_passes-returns : goal.tell_passes-returns
@@ -205,10 +205,10 @@ pub tell_pass-returns : goal.tell_pass-returns
 tell_pass-returns t c =
     let here = c.args.here in
     let now = now_in c.args.moment c.args.progress.now in
-    let body = tells_at _ _ _ c.in_ok-told.told _ _ c.args.body.now _ _ now now c.as_slice.ensures refl c.in_ok-told.ensures in
+    let body = tells_at _ _ _ c.in_ok-stretch.stretch _ _ c.args.body.now _ _ now now c.as_slice.ensures refl c.in_ok-stretch.ensures in
     let path = ap (λ (l : Label). l.indices) c.in_ok-place.ensures
     ∙ ap (λ (l : Label). l.indices ++ c.args.number ∷ []) c.in_ok-copy.ensures in
-    subst (λ (p : List ℕ). Tells here.task.now c.args.progress.now.events.items c.in_ok-told.told c.tell_steps.new.progress
+    subst (λ (p : List ℕ). Tells here.task.now c.args.progress.now.events.items c.in_ok-stretch.stretch c.tell_steps.new.progress
     (tell (table_of here) c.args.body.now
     (record {
       here = record { clock = here.clock; input = input_of here; part = range_of here.part; task = here.task.now; path = p };
@@ -220,8 +220,8 @@ tell_pass-returns t c =
 pub tell_try-tell_handler-requires : goal.tell_try-tell_handler-requires
 tell_try-tell_handler-requires t c =
     let now = now_in c.args.moment c.args.progress.now in
-    let inner = tells_at _ _ _ c.in_ok-told.told _ _ c.args.body.now _ _ now now c.as_slice.ensures refl c.in_ok-told.ensures in
-    let small = ends_small c.in_ok-told.told _ c.args.body.now _ _ now c.requires.in_range c.requires.room.small inner.told in (
+    let inner = tells_at _ _ _ c.in_ok-stretch.stretch _ _ c.args.body.now _ _ now now c.as_slice.ensures refl c.in_ok-stretch.ensures in
+    let small = ends_small c.in_ok-stretch.stretch _ c.args.body.now _ _ now c.requires.in_range c.requires.room.small inner.stretch in (
       omega (arith, c.decreases),
       (c.requires.in_range_handler, record { room = omega (arith, small, c.requires.room.room); small = c.requires.room.small }),
     )
@@ -229,10 +229,10 @@ tell_try-tell_handler-requires t c =
 pub tell_try-tell_cleanup-requires : goal.tell_try-tell_cleanup-requires
 tell_try-tell_cleanup-requires t c =
     let now = now_in c.args.moment c.args.progress.now in
-    let inner = tells_at _ _ _ c.in_ok-told.told _ _ c.args.body.now _ _ now now c.as_slice.ensures refl c.in_ok-told.ensures in
-    let handled = c.in_ok-told-2.ensures _ _ inner in
-    let small = ends_handled c.in_ok-told-2.told _ (handled_of c.args.handler.now) c.args.body.now _ _ now c.requires.in_range
-    c.requires.in_range_handler c.requires.room.small handled.told in (
+    let inner = tells_at _ _ _ c.in_ok-stretch.stretch _ _ c.args.body.now _ _ now now c.as_slice.ensures refl c.in_ok-stretch.ensures in
+    let handled = c.in_ok-stretch-2.ensures _ _ inner in
+    let small = ends_handled c.in_ok-stretch-2.stretch _ (handled_of c.args.handler.now) c.args.body.now _ _ now c.requires.in_range
+    c.requires.in_range_handler c.requires.room.small handled.stretch in (
       omega (arith, c.decreases),
       (c.requires.in_range_cleanup, record { room = omega (arith, small, c.requires.room.room); small = c.requires.room.small }),
     )
@@ -240,8 +240,8 @@ tell_try-tell_cleanup-requires t c =
 pub tell_try-returns : goal.tell_try-returns
 tell_try-returns t c =
     let now = now_in c.args.moment c.args.progress.now in
-    let inner = tells_at _ _ _ c.in_ok-told.told _ _ c.args.body.now _ _ now now c.as_slice.ensures refl c.in_ok-told.ensures in
-    c.in_ok-told-3.ensures _ _ (c.in_ok-told-2.ensures _ _ inner)
+    let inner = tells_at _ _ _ c.in_ok-stretch.stretch _ _ c.args.body.now _ _ now now c.as_slice.ensures refl c.in_ok-stretch.ensures in
+    c.in_ok-stretch-3.ensures _ _ (c.in_ok-stretch-2.ensures _ _ inner)
 
 pub tell_handler-returns-in_default : goal.tell_handler-returns-in_default
 unfolding tell
@@ -250,29 +250,29 @@ tell_handler-returns-in_default t c = λ start (a : Tale) h. rw c.in_default.is 
 pub tell_handler-returns-in_default-2 : goal.tell_handler-returns-in_default-2
 unfolding tell
 tell_handler-returns-in_default-2 t c = λ start (a : Tale) h.
-    let e : a.exc ≡ None = sym h.told.exc ∙ (sym c.in_ok-exc.ensures ∙ ap (option_map exc_of) c.in_default-2.is) in
-    rw c.in-Some.is (not_raised _ _ _ c.args.told _ a _ e h)
+    let e : a.exc ≡ None = sym h.stretch.exc ∙ (sym c.in_ok-exc.ensures ∙ ap (option_map exc_of) c.in_default-2.is) in
+    rw c.in-Some.is (not_raised _ _ _ c.args.stretch _ a _ e h)
 
 pub tell_handler-returns-in_default-kept : goal.tell_handler-returns-in_default-kept
 unfolding tell
 tell_handler-returns-in_default-kept t c = λ start (a : Tale) h.
-    let e : a.exc ≡ Some (exc_of c.in-Some-2.exc) = sym h.told.exc ∙ (sym c.in_ok-exc.ensures ∙ ap (option_map exc_of) c.in-Some-2.is) in
+    let e : a.exc ≡ Some (exc_of c.in-Some-2.exc) = sym h.stretch.exc ∙ (sym c.in_ok-exc.ensures ∙ ap (option_map exc_of) c.in-Some-2.is) in
     rw c.in-Some.is
-    (not_wanted _ _ _ c.args.told _ a _ _ e (sym c.in_ok-kept.ensures.kept ∙ ap (option_map exc_of) c.in_default-kept.is) h)
+    (not_wanted _ _ _ c.args.stretch _ a _ _ e (sym c.in_ok-kept.ensures.kept ∙ ap (option_map exc_of) c.in_default-kept.is) h)
 
 pub tell_handler-returns : goal.tell_handler-returns
 unfolding tell
 tell_handler-returns t c = λ start (a : Tale) h.
-    let e : a.exc ≡ Some (exc_of c.in-Some-2.exc) = sym h.told.exc ∙ (sym c.in_ok-exc.ensures ∙ ap (option_map exc_of) c.in-Some-2.is) in
+    let e : a.exc ≡ Some (exc_of c.in-Some-2.exc) = sym h.stretch.exc ∙ (sym c.in_ok-exc.ensures ∙ ap (option_map exc_of) c.in-Some-2.is) in
     let matched = exc_of c.in-Some-kept.matched in
     let handling = adds_like _ _ _ _ _ c.in_ok-note_handled.ensures
     (ap (λ (n : ℕ). story_of_one n (handles matched (option_map exc_of c.in_ok-kept.rest))) c.end.ensures) in
     let next = tells_at _ _ _ c.in_ok-next.next _ _ _ _ _ _ (now_of a) c.as_slice.ensures
-    (same_now _ c.args.progress.now.cancelled.items a.end a.own (c.end-2.ensures ∙ h.told.end) h.own) c.in_ok-next.ensures in
+    (same_now _ c.args.progress.now.cancelled.items a.end a.own (c.end-2.ensures ∙ h.stretch.end) h.own) c.in_ok-next.ensures in
     rw c.in-Some.is
     (is_wanted _ start _ _ _ a _ _ matched _ e (sym (ap (option_map exc_of) c.in-Some-kept.is) ∙ c.in_ok-kept.ensures.kept)
     c.in_ok-kept.ensures.dropped
-    (tells_handled _ start _ _ _ c.args.told c.in_ok-next.next _ matched _ a _ h handling next c.in_ok-told.ensures))
+    (tells_handled _ start _ _ _ c.args.stretch c.in_ok-next.next _ matched _ a _ h handling next c.in_ok-stretch.ensures))
 
 pub tell_cleanup-returns-in_default : goal.tell_cleanup-returns-in_default
 unfolding tell
@@ -281,37 +281,37 @@ tell_cleanup-returns-in_default t c = λ start (a : Tale) h. rw c.in_default.is 
 pub tell_cleanup-returns : goal.tell_cleanup-returns
 unfolding tell
 tell_cleanup-returns t c = λ start (a : Tale) h.
-    let told = c.args.told in
+    let stretch = c.args.stretch in
     let cleaning = adds_like _ _ _ _ _ c.in_ok-note.ensures
     (ap (λ (n : ℕ). story_of_one n (cleans (unboxed_exc c.in_ok-exc.exc))) c.end.ensures
-    ∙ ap (λ (o : Option Exc). story_of_one told.end (cleans o)) c.in_ok-exc.ensures) in
+    ∙ ap (λ (o : Option Exc). story_of_one stretch.end (cleans o)) c.in_ok-exc.ensures) in
     let next = tells_at _ _ _ c.in_ok-next.next _ _ _ _ _ _ (now_of a) c.as_slice.ensures
-    (same_now _ c.args.progress.now.cancelled.items a.end a.own (c.end-2.ensures ∙ h.told.end) h.own) c.in_ok-next.ensures in
+    (same_now _ c.args.progress.now.cancelled.items a.end a.own (c.end-2.ensures ∙ h.stretch.end) h.own) c.in_ok-next.ensures in
     let replacing = adds_like _ _ _ _ _ c.in_ok-note_replaced.ensures
-    (ap (λ (n : ℕ). replacement (option_map exc_of told.exc) (option_map exc_of c.in_ok-next.next.exc) n) c.end-3.ensures) in
-    rw c.in-Some.is (tells_cleaned _ start _ _ _ _ told c.in_ok-next.next _ a _ h cleaning next replacing refl c.in_ok-told.ensures)
+    (ap (λ (n : ℕ). replacement (option_map exc_of stretch.exc) (option_map exc_of c.in_ok-next.next.exc) n) c.end-3.ensures) in
+    rw c.in-Some.is (tells_cleaned _ start _ _ _ _ stretch c.in_ok-next.next _ a _ h cleaning next replacing refl c.in_ok-stretch.ensures)
 
 pub tell_step-returns-in_ok-block-in-Scope : goal.tell_step-returns-in_ok-block-in-Scope
 unfolding tell
 tell_step-returns-in_ok-block-in-Scope t c =
     let here = c.args.here in
-    let told = c.tell_block in
+    let stretch = c.tell_block in
     rw (c.in-Scope.is, ← c.due.ensures.due)
-    (subst (λ (b : Block). IfOk told.result (λ w. Tells here.task.now c.args.progress.now.events.items w told.new.progress
+    (subst (λ (b : Block). IfOk stretch.result (λ w. Tells here.task.now c.args.progress.now.events.items w stretch.new.progress
     (tell_block here.clock (table_of here) (kind_of b.kind) b.label c.args.moment b.deadline b.shield (scopes_of here)
     (inside (kind_of b.kind) b.label b.shield c.in-Scope.body here (now_in c.args.moment c.args.progress.now)))))
-    c.in_ok-block-in-Scope.ensures told.ensures)
+    c.in_ok-block-in-Scope.ensures stretch.ensures)
 
 pub tell_step-returns-in_ok-block-in-Nursery : goal.tell_step-returns-in_ok-block-in-Nursery
 unfolding tell
 tell_step-returns-in_ok-block-in-Nursery t c =
     let here = c.args.here in
-    let told = c.tell_block-in-Nursery in
+    let stretch = c.tell_block-in-Nursery in
     rw (c.in-Nursery.is, ← c.due-in-Nursery.ensures.due)
-    (subst (λ (b : Block). IfOk told.result (λ w. Tells here.task.now c.args.progress.now.events.items w told.new.progress
+    (subst (λ (b : Block). IfOk stretch.result (λ w. Tells here.task.now c.args.progress.now.events.items w stretch.new.progress
     (tell_block here.clock (table_of here) (kind_of b.kind) b.label c.args.moment b.deadline b.shield (scopes_of here)
     (inside (kind_of b.kind) b.label b.shield c.in-Nursery.body here (now_in c.args.moment c.args.progress.now)))))
-    c.in_ok-block-in-Nursery.ensures told.ensures)
+    c.in_ok-block-in-Nursery.ensures stretch.ensures)
 
 pub tell_step-returns-in-Event : goal.tell_step-returns-in-Event
 unfolding tell

@@ -11,17 +11,17 @@ use Rattle.job_story.proofs.walk.+telling.Given as goal
 abbrev pub invariant-tell_steps-steps : goal.invariant-tell_steps-steps
 invariant-tell_steps-steps l =
     AtStep l.here (now_in l.moment l.fn.progress) (steps_of l.steps) (steps_of (drop l.step-index l.steps)) l.fn.progress.events.items
-    l.told l.progress
+    l.stretch l.progress
 
 abbrev pub invariant-tell_children-copies : goal.invariant-tell_children-copies
 invariant-tell_children-copies l =
     let now = now_in l.moment l.fn.progress in
-    Tells l.here.task.now l.fn.progress.events.items l.told l.progress
+    Tells l.here.task.now l.fn.progress.events.items l.stretch l.progress
     (tell_each l.i (started_over l.name l.copies l.body l.here l.begins now) now)
 
 abbrev pub invariant-tell_passes-passes : goal.invariant-tell_passes-passes
 invariant-tell_passes-passes l =
-    AtPass l.here (now_in l.moment l.fn.progress) l.count l.body l.i l.fn.progress.events.items l.told l.progress
+    AtPass l.here (now_in l.moment l.fn.progress) l.count l.body l.i l.fn.progress.events.items l.stretch l.progress
 
 abbrev pub decreases-tell_steps : goal.decreases-tell_steps
 decreases-tell_steps l = weight_of (steps_of l.steps.now)

@@ -5,7 +5,7 @@ use Rattle.serde_json.specs.Written.{compact_text}
 use Rattle.story_index.specs.Seen.{event_in}
 use Rattle.json_story.specs.Values.{list_of, text_json}
 use Rattle.json_story.specs.Events.{tick_json}
-use Rattle.json_story.specs.Known.{clock_in, events_in, froms_in}
+use Rattle.json_story.specs.Known.{clock_in, events_in, cancelled_from_in}
 use Rattle.json_story.specs.Stories.{kept_json, running_json}
 use Rattle.json_story.proofs.story.kept_json.Goals as goal
 
@@ -13,7 +13,7 @@ pub returns : goal.returns
 returns c =
     let sorted = map event_in c.args.sorted.now in
     let walked = map event_in c.args.walked.now in
-    let table = froms_in c.args.known.now in
+    let table = cancelled_from_in c.args.known.now in
     let clock = clock_in c.args.known.now in
     let events = events_in c.args.known.now in
     let running = member (codes "running") (list_of (running_json clock c.args.until sorted walked)) no_members in

@@ -1,4 +1,4 @@
-use Rattle.refusal_text.proofs.Told.{cut_front}
+use Rattle.refusal_text.proofs.Messages.{cut_front}
 use Rattle.refusal_text.proofs.explaining.first_bytes.Goals as goal
 
 pub returns : goal.returns

@@ -1,7 +1,7 @@
 use Rattle.std.proofs.Common.{◌≡◌, ◌∙◌, ◌++◌, ℕ, List, replicate, ap, refl}
 use Rattle.std.specs.String.{string_bytes}
 use Rattle.refusal_text.specs.Explaining.{width_before}
-use Rattle.refusal_text.proofs.Told.{pieces, cut_front, cut_back, width_is, before_is, after_is, headed_same}
+use Rattle.refusal_text.proofs.Messages.{pieces, cut_front, cut_back, width_is, before_is, after_is, headed_same}
 use Rattle.refusal_text.proofs.Counted.{column_least, shown_inside}
 use Rattle.refusal_text.proofs.explaining.message_at.Goals as goal
 

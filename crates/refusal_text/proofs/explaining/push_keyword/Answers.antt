@@ -1,7 +1,7 @@
 use Rattle.std.proofs.Common.{◌∙◌, ◌++◌, List, ℕ, ap, map}
 use Rattle.std.specs.String.{string_bytes}
 use Rattle.refusal_text.specs.Explaining.{shown_byte}
-use Rattle.refusal_text.proofs.Told.{three_pieces}
+use Rattle.refusal_text.proofs.Messages.{three_pieces}
 use Rattle.refusal_text.proofs.explaining.push_keyword.Goals as goal
 
 pub returns : goal.returns

@@ -1,4 +1,4 @@
-use Rattle.refusal_text.proofs.Told.{three_pieces}
+use Rattle.refusal_text.proofs.Messages.{three_pieces}
 use Rattle.refusal_text.proofs.explaining.push_size.Goals as goal
 
 pub returns : goal.returns

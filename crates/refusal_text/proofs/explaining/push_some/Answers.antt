@@ -1,6 +1,6 @@
 use Rattle.std.proofs.Common.{ℕ, List, ◌++◌, ap, ◌∙◌}
 use Rattle.std.specs.String.{string_bytes}
-use Rattle.refusal_text.proofs.Told.{four_pieces}
+use Rattle.refusal_text.proofs.Messages.{four_pieces}
 use Rattle.refusal_text.proofs.explaining.push_some.Goals as goal
 
 pub returns : goal.returns

@@ -3,7 +3,7 @@ use Rattle.std.specs.Prelude.{Option}
 use Rattle.refusal_text.specs.Explaining.{pointed_message, hint_of, names_of}
 use Rattle.refusal_text.specs.Sentences.{sentence_of}
 use Rattle.refusal_text.specs.Scopes.{names_held}
-use Rattle.refusal_text.proofs.Told.{cut_back, first_at}
+use Rattle.refusal_text.proofs.Messages.{cut_back, first_at}
 use Rattle.refusal_text.proofs.explaining.refusal_message.Goals as goal
 
 pub returns : goal.returns

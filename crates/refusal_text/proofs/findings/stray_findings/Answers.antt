@@ -8,7 +8,7 @@ use Rattle.job_hints.specs.ByGrammar.{keyword_in, if_keyword}
 use Rattle.refusal_text.specs.Hinting.{advice_hint, task_advice}
 use Rattle.refusal_text.specs.Scanning.{last_before, shape_at}
 use Rattle.refusal_text.specs.Scopes.{enclosing_names, uses_event, names_held}
-use Rattle.refusal_text.proofs.Told.{of_tokens}
+use Rattle.refusal_text.proofs.Messages.{of_tokens}
 use Rattle.refusal_text.proofs.findings.stray_findings.Goals as goal
 
 pub returns-clause-of_event : goal.returns-clause-of_event

@@ -1,4 +1,4 @@
-use Rattle.refusal_text.proofs.Told.{expects, helps_text}
+use Rattle.refusal_text.proofs.Messages.{expects, helps_text}
 use Rattle.refusal_text.proofs.findings.syntax_findings.Goals as goal
 
 pub returns-clause-asked : goal.returns-clause-asked

@@ -6,7 +6,7 @@ use Rattle.job_hints.specs.declared.advice.Advice.{Advice}
 use Rattle.job_hints.specs.Numbers.{number_advice}
 use Rattle.refusal_text.specs.declared.hinting.Hint.TheVariants as hint
 use Rattle.refusal_text.specs.Scanning.{last_before}
-use Rattle.refusal_text.proofs.Told.{of_tokens, helps_number}
+use Rattle.refusal_text.proofs.Messages.{of_tokens, helps_number}
 use Rattle.refusal_text.proofs.hinting.number_hint.Goals as goal
 
 pub returns : goal.returns

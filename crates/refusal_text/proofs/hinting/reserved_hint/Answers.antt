@@ -3,7 +3,7 @@ use Rattle.std.specs.Prelude.{None}
 use Rattle.job_tokens.specs.declared.token.Token.{Token}
 use Rattle.refusal_text.specs.Scanning.{shape_at, last_before}
 use Rattle.refusal_text.specs.Hinting.{reserved_name_hint}
-use Rattle.refusal_text.proofs.Told.{of_tokens, helps_reserved}
+use Rattle.refusal_text.proofs.Messages.{of_tokens, helps_reserved}
 use Rattle.refusal_text.proofs.hinting.reserved_hint.Goals as goal
 
 pub returns : goal.returns

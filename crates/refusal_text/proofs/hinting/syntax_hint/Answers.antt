@@ -1,4 +1,4 @@
-use Rattle.refusal_text.proofs.Told.{helps}
+use Rattle.refusal_text.proofs.Messages.{helps}
 use Rattle.refusal_text.proofs.hinting.syntax_hint.Goals as goal
 
 pub returns : goal.returns

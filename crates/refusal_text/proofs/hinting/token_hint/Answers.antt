@@ -3,7 +3,7 @@ use Rattle.std.specs.Prelude.{None}
 use Rattle.job_tokens.specs.declared.token.Token.{Token}
 use Rattle.refusal_text.specs.Scanning.{last_before}
 use Rattle.refusal_text.specs.Hinting.{advice_hint, token_advice}
-use Rattle.refusal_text.proofs.Told.{of_tokens}
+use Rattle.refusal_text.proofs.Messages.{of_tokens}
 use Rattle.refusal_text.proofs.hinting.token_hint.Goals as goal
 
 pub returns : goal.returns

@@ -1,4 +1,4 @@
-use Rattle.refusal_text.proofs.Told.{helps_twice}
+use Rattle.refusal_text.proofs.Messages.{helps_twice}
 use Rattle.refusal_text.proofs.hinting.twice_hint.Goals as goal
 
 pub returns : goal.returns

@@ -7,7 +7,7 @@ use Rattle.job_reader.specs.Refusals.{format_of}
 use Rattle.std.specs.Prelude.{Some}
 use Rattle.refusal_text.specs.declared.hinting.Hint.TheVariants as hint
 use Rattle.refusal_text.specs.Hinting.{size_hint}
-use Rattle.refusal_text.proofs.Told.{of_tokens}
+use Rattle.refusal_text.proofs.Messages.{of_tokens}
 use Rattle.refusal_text.proofs.Read.{none_read, some_read, size_in}
 use Rattle.refusal_text.proofs.size.size_hint.Goals as goal
 

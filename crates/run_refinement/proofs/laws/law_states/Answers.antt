@@ -12,7 +12,7 @@ use Rattle.run_refinement.proofs.laws.law_states.Goals as goal
 pub returns-clause-begin : goal.returns-clause-begin
 returns-clause-begin c =
     λ k job input state in_range names starting small h.
-    state_begun k job input state h.root in_range starting names small h.world h.is_root h.first h.others h.gone h.start h.children h.turns
+    state_begun k job input state h.root in_range starting names small h.world h.is_root h.first h.others h.ended_task h.start h.children h.turns
 
 pub returns-clause-fit : goal.returns-clause-fit
 returns-clause-fit c = state_fits

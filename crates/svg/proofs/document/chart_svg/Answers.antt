@@ -1,8 +1,8 @@
 use Rattle.std.proofs.Common.{◌∙◌, ap, sym, map}
 use Rattle.std.proofs.lemmas.Result.{IfOk-weaker}
-use Rattle.job_story.specs.Froms.{table_in}
+use Rattle.job_story.specs.CancelledFrom.{table_in}
 use Rattle.story_index.specs.Seen.{event_in}
-use Rattle.story_text.specs.Told.{clock_in, events_in, froms_in}
+use Rattle.story_text.specs.Known.{clock_in, events_in, cancelled_from_in}
 use Rattle.chart.specs.HeldBars.{bar_of}
 use Rattle.chart.specs.HeldColumns.{column_of}
 use Rattle.svg.proofs.Drawn.{drawing_is}
@@ -15,13 +15,13 @@ returns-clause-drawing c =
     IfOk-weaker c.document.result _ _
     (λ svg p.
     drawing_is c.args.clock c.args.width
-    (table_in c.args.froms.now) c.args.until (map event_in c.args.walked.now) (map bar_of c.args.bars.now)
+    (table_in c.args.cancelled_from.now) c.args.until (map event_in c.args.walked.now) (map bar_of c.args.bars.now)
     c.in_ok-longest_name.field-0 c.in_ok-less.less c.as_slice.result.now (map column_of all) (map column_of c.as_slice-3.result.now)
-    (clock_in known) (froms_in known) (events_in known)
+    (clock_in known) (cancelled_from_in known) (events_in known)
     (map event_in c.args.sorted.now) svg.items (c.as_slice.ensures.value ∙ c.in_ok-ticks.ensures)
     (ap (map column_of) c.as_slice-2.ensures.value ∙ c.in_ok-columns.ensures)
     (ap (map column_of) (c.as_slice-3.ensures.value ∙ sym c.as_slice-2.ensures.value)) c.in_ok-less.ensures c.in_ok-longest_name.ensures
     c.new-known.ensures.clock
-    c.new-known.ensures.froms
+    c.new-known.ensures.cancelled_from
     c.new-known.ensures.events c.requires.sorted p)
     c.document.ensures.drawing

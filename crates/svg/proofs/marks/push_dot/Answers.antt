@@ -13,4 +13,4 @@ returns c =
     let x = x_of sheet c.args.event.now.tick in
     element_ok c.end.result tags.Circle (dot x (middle_of c.args.row)) (events_title sheet (event_of c.args.event.now ∷ [])) _ _ _ _
     (at_place dot tags.Circle _ _ c.x_of.result x c.middle_of.result (middle_of c.args.row) c.in_ok-begin_dot.ensures c.x_of.ensures.value
-    c.middle_of.ensures) c.in_ok-push_told.ensures c.end.ensures
+    c.middle_of.ensures) c.in_ok-push_title.ensures c.end.ensures

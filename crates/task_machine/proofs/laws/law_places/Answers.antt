@@ -8,8 +8,8 @@ pub returns-clause-caught : goal.returns-clause-caught
 returns-clause-caught c = catches_at
 
 pub returns-clause-found : goal.returns-clause-found
-returns-clause-found c = λ sought labels events froms name st ps a. (
-  named_at sought labels events froms name st ps a,
+returns-clause-found c = λ sought labels events cancelled_from name st ps a. (
+  named_at sought labels events cancelled_from name st ps a,
   named_is_in sought labels events name st,
 )
 

@@ -10,13 +10,13 @@ rows-init c =
     let stack : c.push.new.self.items ≡ 0 ∷ [] = c.in_ok-push.ensures.items ∙ ap (λ (x : List ℕ). x ++ 0 ∷ []) c.new-stack.ensures.items in
     rw c.as_mut_slice-left.ensures.value record {
       apart = apart_first c.args.rows.items c.push.new.self.items stack c.requires.ended c.requires.tree;
-      listed = λ input rs are. listed_first input rs c.args.rows.items _ _ _ stack c.new-records.ensures.items c.new-froms.ensures.items are;
+      listed = λ input rs are. listed_first input rs c.args.rows.items _ _ _ stack c.new-records.ensures.items c.new-cancelled_from.ensures.items are;
     }
 
 abbrev takes_top : (c : goal.After-drop-below-in-Some) →
     TakesTop c.rows.left c.take_row-start.new.rows c.rows.stack.items c.push_reversed.new.stack.items
 takes_top c = record {
-  place = c.in-Some.place;
+  row_number = c.in-Some.row_number;
   popped = c.pop.new.self.items;
   row = c.take_row-start.result;
   top = c.in-Some.ensures.items;
@@ -33,8 +33,8 @@ rows-preserved c = record {
   apart = apart_step c.rows.invariant.apart (takes_top c);
   listed = λ input rs are.
       listed_step (c.rows.invariant.listed input rs are) (takes_top c) c.in-Some-end.ended c.in-Some-end.is
-      c.record_and_froms-record.result.0 c.record_and_froms-record.ensures.record c.in_ok-push-2.ensures.items
-      (c.in_ok-append.ensures.items ∙ ap (λ (x : List ScopeFrom). c.rows.froms.items ++ x) c.record_and_froms-record.ensures.froms);
+      c.record_and_cancelled_from-record.result.0 c.record_and_cancelled_from-record.ensures.record c.in_ok-push-2.ensures.items
+      (c.in_ok-append.ensures.items ∙ ap (λ (x : List ScopeFrom). c.rows.cancelled_from.items ++ x) c.record_and_cancelled_from-record.ensures.cancelled_from);
 }
 
 pub returns : goal.returns
@@ -43,9 +43,9 @@ returns c = λ input rs are. listed_last
     (c.rows.invariant.listed input rs are)
 
 pub take_row-start-requires : goal.take_row-start-requires
-take_row-start-requires c = top_within _ c.in-Some.place c.rows.left c.rows.stack.items c.pop.new.self.items c.rows.invariant.apart
+take_row-start-requires c = top_within _ c.in-Some.row_number c.rows.left c.rows.stack.items c.pop.new.self.items c.rows.invariant.apart
     c.in-Some.ensures.items
 
 pub unreachable-requires : goal.unreachable-requires
-unreachable-requires c = top_has_ended _ c.in-Some.place c.rows.left c.rows.stack.items c.pop.new.self.items c.take_row-start.result
+unreachable-requires c = top_has_ended _ c.in-Some.row_number c.rows.left c.rows.stack.items c.pop.new.self.items c.take_row-start.result
     c.rows.invariant.apart c.in-Some.ensures.items c.take_row-start.ensures.taken c.in_default-end.is

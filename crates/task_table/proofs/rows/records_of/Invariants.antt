@@ -10,7 +10,7 @@ abbrev pub invariant-rows : goal.invariant-rows
 invariant-rows l = record {
   apart : Apart (length l.fn.rows.items) l.left l.stack.items;
   listed : (input : List ℕ) (rs : ℕ → interleaving.Row) → AreShown input rs l.fn.rows.items →
-      Listed input rs l.left l.stack.items l.records.items l.froms.items;
+      Listed input rs l.left l.stack.items l.records.items l.cancelled_from.items;
 }
 
 abbrev pub decreases-rows : goal.decreases-rows

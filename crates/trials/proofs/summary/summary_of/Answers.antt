@@ -1,7 +1,7 @@
 use Rattle.std.proofs.Common.{map, ap, ◌∙◌}
-use Rattle.job_story.specs.Froms.{table_in}
+use Rattle.job_story.specs.CancelledFrom.{table_in}
 use Rattle.job_meaning.specs.Clocks.{clock_of}
-use Rattle.job_runner.specs.Runs.{rows_of, scope_froms_of}
+use Rattle.job_runner.specs.Runs.{rows_of, scopes_cancelled_from_of}
 use Rattle.task_table.specs.Records.{row_in}
 use Rattle.job_answers.proofs.Tables.{is_of_meaning}
 use Rattle.outcomes.specs.JobOutcomes.{cancelled_in}
@@ -15,5 +15,5 @@ returns g c =
     is_summary c.args.job.now c.args.input.now (rows_of run) table _ c.in_ok-run.ensures.records
     (c.of-clock.ensures ∙ ap clock_of c.text_format.ensures) c.end-end.ensures c.in_ok-exc.ensures
     (c.in_ok-cancelled.ensures ∙ ap (λ rs. cancelled_in (map row_in rs)) c.records.ensures)
-    (is_of_meaning table (scope_froms_of run) c.args.job.now c.args.input.now c.law_froms_of_meaning.ensures c.in_ok-run.ensures.froms
+    (is_of_meaning table (scopes_cancelled_from_of run) c.args.job.now c.args.input.now c.law_cancelled_from_of_meaning.ensures c.in_ok-run.ensures.cancelled_from
     c.in_ok-table.ensures) c.in_ok-events.ensures

@@ -6,4 +6,4 @@ pub returns : goal.returns
 returns g c =
     let swept = c.args.swept.now in
     are_seen swept.text.now swept.input.now swept.limit swept.number c.args.job.now c.args.values.now (job_outcome_held c.in_ok-first.first)
-    c.in_ok-told.told.items c.in_ok-first.ensures c.in_ok-told.ensures
+    c.in_ok-of_values.of_values.items c.in_ok-first.ensures c.in_ok-of_values.ensures

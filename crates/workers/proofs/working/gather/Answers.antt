@@ -1,7 +1,7 @@
 use Rattle.std.proofs.Common.{arith, ◌≡◌, ◌∷◌, [], length, length-append, All, ap, sym, subst, true}
 use Rattle.std.proofs.lemmas.List.Elements.{All-head, All-push, All-rest}
 use Rattle.workers.specs.declared.worker.Pass.{Pass}
-use Rattle.workers.specs.Claims.{IsPassOf, was_told}
+use Rattle.workers.specs.Claims.{IsPassOf, is_spent}
 use Rattle.workers.specs.WorkerStates.{IsFinished}
 use Rattle.workers.proofs.WorkerStateLemmas.{gathered-one_more}
 use Rattle.workers.proofs.working.gather.Goals as goal
@@ -18,7 +18,7 @@ loop-worker_state-preserved c =
     let passes = c.loop-worker_state.gathered.passes.items in
     let pushed = c.in_ok-take.ensures.passes in
     let this = All-head (IsFinished requests claims) worker_state left (subst (All (IsFinished requests claims)) next before.left) in
-    let IsTold : Pass → Type 0 = λ pass. IsPassOf claims pass × (was_told pass ≡ true) in
+    let IsSpent : Pass → Type 0 = λ pass. IsPassOf claims pass × (is_spent pass ≡ true) in
     record {
       count =
           (let longer = ap length pushed in
@@ -27,7 +27,7 @@ loop-worker_state-preserved c =
           let was = before.count in
           omega arith);
       left = All-rest (IsFinished requests claims) worker_state left rest next before.left;
-      passes = subst (All IsTold) (sym pushed) (All-push IsTold passes worker_state.pass before.passes (this.pass, this.told));
+      passes = subst (All IsSpent) (sym pushed) (All-push IsSpent passes worker_state.pass before.passes (this.pass, this.spent));
       answered =
           λ fits.
           let was = c.in_ok-take.ensures.refused fits in

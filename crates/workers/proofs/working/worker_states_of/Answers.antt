@@ -1,7 +1,7 @@
 use Rattle.std.proofs.Common.{arith, ◌≡◌, ◌∙◌, ◌∷◌, [], length, length-append, All, ap, sym, subst, false}
 use Rattle.std.proofs.lemmas.List.Elements.{All-head, All-push, All-rest}
 use Rattle.workers.specs.declared.worker.Pass.{Pass}
-use Rattle.workers.specs.Claims.{IsPassOf, drawn_by, was_told}
+use Rattle.workers.specs.Claims.{IsPassOf, drawn_by, is_spent}
 use Rattle.workers.specs.WorkerStates.{IsFresh}
 use Rattle.workers.proofs.working.worker_states_of.Goals as goal
 
@@ -16,13 +16,13 @@ loop-pass-preserved c =
     let worker_states = c.loop-pass.worker_states.items in
     let worker_state = c.new.result in
     let pushed = c.in_ok-push.ensures.items in
-    let IsUnused : Pass → Type 0 = λ pass. IsPassOf claims pass × (drawn_by pass ≡ []) × (was_told pass ≡ false) in
+    let IsUnused : Pass → Type 0 = λ pass. IsPassOf claims pass × (drawn_by pass ≡ []) × (is_spent pass ≡ false) in
     let this = All-head IsUnused pass left (subst (All IsUnused) next before.left) in
     let same = c.new.ensures.pass in
     let fresh : IsFresh claims worker_state =
     record {
       pass = subst (IsPassOf claims) (sym same) this.0;
-      untold = ap was_told same ∙ this.2;
+      unspent = ap is_spent same ∙ this.2;
       drawn = ap drawn_by same ∙ this.1;
       answered = c.new.ensures.answered;
     } in

@@ -1,18 +1,18 @@
 use Rattle.std.proofs.Common.{refl, subst}
-use Rattle.cancel_scopes.specs.Children.{HasPlace, Orphaned}
-use Rattle.cancel_scopes.proofs.ChildLemmas.{outlines-none, added-none, added-outlines, added, place_same, place_kept}
+use Rattle.cancel_scopes.specs.Children.{HasIndex, Orphaned}
+use Rattle.cancel_scopes.proofs.ChildLemmas.{outlines-none, added-none, added-outlines, added, index_same, index_kept}
 use Rattle.cancel_scopes.proofs.store.Store.add_child.Goals as goal
 
 pub index_mut-scope-requires : goal.index_mut-scope-requires
 index_mut-scope-requires c =
     let slots = c.args.self.now.scopes.slots in
-    place_kept slots c.in-Some.parent c.in-Some.parent refl (subst (HasPlace slots) c.in-Some.is c.requires.parent)
+    index_kept slots c.in-Some.parent c.in-Some.parent refl (subst (HasIndex slots) c.in-Some.is c.requires.parent)
 
 pub push_reserved-requires : goal.push_reserved-requires
 push_reserved-requires c =
     let slots = c.args.self.now.scopes.slots in
-    place_same slots c.in-Some.parent c.in-Some.parent c.index_mut-scope.result.now refl
-    (subst (HasPlace slots) c.in-Some.is c.requires.parent) c.index_mut-scope.ensures.value
+    index_same slots c.in-Some.parent c.in-Some.parent c.index_mut-scope.result.now refl
+    (subst (HasIndex slots) c.in-Some.is c.requires.parent) c.index_mut-scope.ensures.value
 
 pub returns-in_default-clause-same : goal.returns-in_default-clause-same
 returns-in_default-clause-same c = outlines-none c.args.self.now.scopes.slots

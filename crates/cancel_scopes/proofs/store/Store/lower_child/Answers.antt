@@ -1,6 +1,6 @@
 use Rattle.std.proofs.Common.{◌≡◌, ◌∙◌, Some, sym, ap, inl, inr, arith}
 use Rattle.cancel_scopes.specs.Sight.{before}
-use Rattle.cancel_scopes.specs.Kept.{scope_in, place_under}
+use Rattle.cancel_scopes.specs.Kept.{scope_in, index_under}
 use Rattle.cancel_scopes.specs.declared.store.Scope.{Scope}
 use Rattle.cancel_scopes.proofs.WorkLemmas.{child_key, child-stays, child-lowered, lowers-along, lowers-work, scope_same, later_count}
 use Rattle.cancel_scopes.proofs.store.Store.lower_child.Goals as goal
@@ -20,20 +20,20 @@ lower-requires-clause-lowered_room c =
 pub returns-then-scope-clause-state : goal.returns-then-scope-clause-state
 returns-then-scope-clause-state c =
     let slots = c.args.self.now.scopes.slots in
-    let at : place_under c.args.parent (scope_in slots c.index-key.result.now) ≡ Some c.args.place =
-    child_key slots c.args.parent c.args.place c.index-key.result.now c.index.result.now c.index.ensures c.requires.state.family
-    c.requires.place c.index-key.ensures in
-    child-stays c.args.tick c.args.parent c.args.place slots c.args.self.now.changed.items c.args.self.now.lowered.items
+    let at : index_under c.args.parent (scope_in slots c.index-key.result.now) ≡ Some c.args.index =
+    child_key slots c.args.parent c.args.index c.index-key.result.now c.index.result.now c.index.ensures c.requires.state.family
+    c.requires.index c.index-key.ensures in
+    child-stays c.args.tick c.args.parent c.args.index slots c.args.self.now.changed.items c.args.self.now.lowered.items
     c.index-key.result.now c.index-scope.result.now
     c.requires.state c.requires.parent at c.index-scope.ensures (inl c.if-scope.true)
 
 pub returns-else-before-clause-state : goal.returns-else-before-clause-state
 returns-else-before-clause-state c =
     let slots = c.args.self.now.scopes.slots in
-    let at : place_under c.args.parent (scope_in slots c.index-key.result.now) ≡ Some c.args.place =
-    child_key slots c.args.parent c.args.place c.index-key.result.now c.index.result.now c.index.ensures c.requires.state.family
-    c.requires.place c.index-key.ensures in
-    child-stays c.args.tick c.args.parent c.args.place slots c.args.self.now.changed.items c.args.self.now.lowered.items
+    let at : index_under c.args.parent (scope_in slots c.index-key.result.now) ≡ Some c.args.index =
+    child_key slots c.args.parent c.args.index c.index-key.result.now c.index.result.now c.index.ensures c.requires.state.family
+    c.requires.index c.index-key.ensures in
+    child-stays c.args.tick c.args.parent c.args.index slots c.args.self.now.changed.items c.args.self.now.lowered.items
     c.index-key.result.now c.index-scope.result.now
     c.requires.state c.requires.parent at c.index-scope.ensures (inr (sym c.before-2.ensures ∙ c.if-before.false))
 
@@ -42,12 +42,12 @@ returns-then-before-clause-state c =
     let slots = c.args.self.now.scopes.slots in
     let key = c.index-key.result.now in
     let h = c.lower.ensures.lowers in
-    let at : place_under c.args.parent (scope_in slots key) ≡ Some c.args.place =
-    child_key slots c.args.parent c.args.place key c.index.result.now c.index.ensures c.requires.state.family c.requires.place
+    let at : index_under c.args.parent (scope_in slots key) ≡ Some c.args.index =
+    child_key slots c.args.parent c.args.index key c.index.result.now c.index.ensures c.requires.state.family c.requires.index
     c.index-key.ensures in
     let same : c.index-scope.result.now ≡ h.scope = scope_same slots key c.index-scope.result.now h.scope c.index-scope.ensures h.kept in
     rw c.lower.ensures.lowered
-    (child-lowered c.args.tick c.args.parent c.args.place slots c.args.self.now.changed.items c.args.self.now.lowered.items key
+    (child-lowered c.args.tick c.args.parent c.args.index slots c.args.self.now.changed.items c.args.self.now.lowered.items key
     c.lower.new.self.scopes.slots c.lower.new.self.changed.items c.requires.state c.requires.parent at h
     (sym (ap (λ (s : Scope). s.shield) same) ∙ c.if-scope.false)
     (sym (ap (λ (s : Scope). before (Some c.args.tick) s.sight) same) ∙ sym c.before-2.ensures ∙ c.if-before.true)

@@ -20,14 +20,14 @@ lower_child-requires-clause-parent c =
     low_stays c.args.tick c.args.self.now.scopes.slots c.children.self.scopes.slots c.args.parent c.children.invariant.along
     c.requires.parent
 
-pub lower_child-requires-clause-place : goal.lower_child-requires-clause-place
-lower_child-requires-clause-place c =
+pub lower_child-requires-clause-index : goal.lower_child-requires-clause-index
+lower_child-requires-clause-index c =
     let parent = c.index.result.now in
     let same : children_at (scope_in c.children.self.scopes.slots c.args.parent) ≡ parent.children.items =
     c.children.invariant.along.children c.args.parent ∙ ap children_at c.index.ensures in
-    let inside : c.children.place < length parent.children.items =
-    omega (arith, parent.children.ok.0, c.children-test.true, c.len-place-end.ensures) in
-    subst (λ (l : List ℕ). c.children.place < length l) (sym same) inside
+    let inside : c.children.index < length parent.children.items =
+    omega (arith, parent.children.ok.0, c.children-test.true, c.len-index-end.ensures) in
+    subst (λ (l : List ℕ). c.children.index < length l) (sym same) inside
 
 pub lower_child-requires-clause-changed_room : goal.lower_child-requires-clause-changed_room
 lower_child-requires-clause-changed_room c =
@@ -52,8 +52,8 @@ returns-clause-state c =
     let parent = c.index.result.now in
     let same : children_at (scope_in c.children.self.scopes.slots c.args.parent) ≡ parent.children.items =
     c.children.invariant.along.children c.args.parent ∙ ap children_at c.index.ensures in
-    let outside : length parent.children.items ≤ c.children.place =
-    omega (arith, parent.children.ok.0, c.children-test.false, c.len-place-end.ensures) in
-    all_children c.args.tick c.args.parent c.children.place c.children.self.scopes.slots c.children.self.changed.items
+    let outside : length parent.children.items ≤ c.children.index =
+    omega (arith, parent.children.ok.0, c.children-test.false, c.len-index-end.ensures) in
+    all_children c.args.tick c.args.parent c.children.index c.children.self.scopes.slots c.children.self.changed.items
     c.children.self.lowered.items
-    (subst (λ (l : List ℕ). length l ≤ c.children.place) (sym same) outside) c.children.invariant.state
+    (subst (λ (l : List ℕ). length l ≤ c.children.index) (sym same) outside) c.children.invariant.state

@@ -28,23 +28,23 @@ remove_child-requires c =
     let unmarked = c.unmark.new.self.scopes.slots in
     let same = c.unmark.ensures.marks.same in
     let key = c.id.inside.key in
-    let gone = c.remove-scope.ensures in
+    let emptied = c.remove-scope.ensures in
     let tree = same-tree slots unmarked same.finds c.self.invariant.tree in
-    let family = family-same slots unmarked same.places same.children c.self.invariant.family in
+    let family = family-same slots unmarked same.indices same.children c.self.invariant.family in
     record {
       lost = rw c.key_of.ensures
-          (lost unmarked c.remove-scope.new.self.slots key c.remove-scope.result tree family gone.value gone.updates.changed
-          gone.updates.others
+          (lost unmarked c.remove-scope.new.self.slots key c.remove-scope.result tree family emptied.value emptied.updates.changed
+          emptied.updates.others
           (childless unmarked key c.remove-scope.result tree family
           (innermost_kept c.args.self.now slots unmarked key c.args.id c.self.view_is c.id.view_is (same_find slots unmarked same.finds)
-          c.requires.innermost) gone.value));
+          c.requires.innermost) emptied.value));
     }
 
 pub invariant_of-self : goal.invariant_of-self
 invariant_of-self c =
     let slots = c.self.inside.store.scopes.slots in
     let unmarked = c.unmark.new.self.scopes.slots in
-    let gone = c.remove-scope.new.self.slots in
+    let emptied = c.remove-scope.new.self.slots in
     let new = c.remove_child.new.self.scopes.slots in
     let marks = c.unmark.ensures.marks in
     let key = c.id.inside.key in
@@ -55,9 +55,9 @@ invariant_of-self c =
     closes c.args.self.now slots new key c.args.id (outline_of s) c.self.view_is c.id.view_is
     (sym (marks.same.finds key) ∙ found_at unmarked key s removed.value)
     (child.same.finds key ∙ ap (option_map outline_of) removed.updates.changed)
-    (closed-finds slots unmarked gone new key s marks removed.updates.others child.same) c.requires.innermost in
+    (closed-finds slots unmarked emptied new key s marks removed.updates.others child.same) c.requires.innermost in
     rw (child.changed, child.lowered, c.unmark.ensures.room, c.unmark.ensures.lowered)
-    (closed-ready slots unmarked gone new key s c.self.inside.store.changed.items c.unmark.new.self.changed.items _ _ _
+    (closed-ready slots unmarked emptied new key s c.self.inside.store.changed.items c.unmark.new.self.changed.items _ _ _
     c.self.invariant marks c.unmark.ensures.listed closed (rw removed.slots (length-set unmarked key None)) removed.updates.changed
     removed.updates.others child.same child.family)
 
@@ -70,7 +70,7 @@ pub returns-clause-others : goal.returns-clause-others
 returns-clause-others c =
     let slots = c.self.inside.store.scopes.slots in
     let unmarked = c.unmark.new.self.scopes.slots in
-    let gone = c.remove-scope.new.self.slots in
+    let emptied = c.remove-scope.new.self.slots in
     let new = c.remove_child.new.self.scopes.slots in
     let marks = c.unmark.ensures.marks in
     let key = c.id.inside.key in
@@ -81,7 +81,7 @@ returns-clause-others c =
     (closes c.args.self.now slots new key c.args.id (outline_of s) c.self.view_is c.id.view_is
     (sym (marks.same.finds key) ∙ found_at unmarked key s removed.value)
     (child.same.finds key ∙ ap (option_map outline_of) removed.updates.changed)
-    (closed-finds slots unmarked gone new key s marks removed.updates.others child.same) c.requires.innermost)
+    (closed-finds slots unmarked emptied new key s marks removed.updates.others child.same) c.requires.innermost)
 
 pub returns-clause-from : goal.returns-clause-from
 returns-clause-from c stack is =

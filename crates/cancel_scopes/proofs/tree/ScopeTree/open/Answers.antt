@@ -3,7 +3,7 @@ use Rattle.cancel_scopes.specs.declared.store.Scope.{Scope}
 use Rattle.cancel_scopes.specs.Tree.{Tree, stack_of, is_changed, SameStacks}
 use Rattle.cancel_scopes.specs.Kept.{outline_of, tree_of}
 use Rattle.cancel_scopes.proofs.StackLemmas.{kept_where_open, tree_of-same}
-use Rattle.cancel_scopes.proofs.ChildLemmas.{orphaned, place_stays}
+use Rattle.cancel_scopes.proofs.ChildLemmas.{orphaned, index_stays}
 use Rattle.cancel_scopes.proofs.ReadyLemmas.{roomier-ready}
 use Rattle.cancel_scopes.proofs.OpenLemmas.{Inserts, opens, fresh, opened, opened-others, opened-ready, opened-marks, opened-unmarked}
 use Rattle.cancel_scopes.proofs.tree.ScopeTree.open.Goals as goal
@@ -33,9 +33,9 @@ returns-in_err-make_room-clause-err c =
 pub add_child-requires-clause-parent : goal.add_child-requires-clause-parent
 add_child-requires-clause-parent c =
     let put = c.insert_reserved-key.ensures in
-    place_stays c.make_room.new.self.scopes.slots c.insert_reserved-key.new.self.slots c.insert_reserved-key.result
+    index_stays c.make_room.new.self.scopes.slots c.insert_reserved-key.new.self.slots c.insert_reserved-key.result
     c.scope_under-scope.result c.key_of-parent.result
-    put.was_vacant put.updates.others c.in_ok-make_room.ensures.place
+    put.was_vacant put.updates.others c.in_ok-make_room.ensures.index
 
 pub add_child-requires-clause-orphan : goal.add_child-requires-clause-orphan
 add_child-requires-clause-orphan c =
@@ -48,7 +48,7 @@ add_child-requires-clause-orphan c =
     let made = c.scope_under-scope.ensures in
     orphaned c.make_room.new.self.scopes.slots c.insert_reserved-key.new.self.slots c.insert_reserved-key.result c.scope_under-scope.result
     c.key_of-parent.result
-    ready.family put.was_vacant put.updates.changed put.updates.others made.parent made.childless made.place
+    ready.family put.was_vacant put.updates.changed put.updates.others made.parent made.childless made.index
 
 pub invariant_of-self-2 : goal.invariant_of-self-2
 invariant_of-self-2 c =

@@ -9,6 +9,6 @@ invariant_of-self-2 c =
     let ticks = c.self.inside.ticks.items in
     let room : c.args.key < length ticks = omega (arith, c.in-Some.ensures.variant.0 refl, c.self.inside.ticks.ok.0) in
     let has : Some c.in-Some-take.tick ≡ tick_in ticks c.args.key =
-    sym c.in-Some-take.is ∙ c.take.ensures.value ∙ get_or_read ticks c.args.key c.in-Some.place.now room c.in-Some.ensures.value None in
+    sym c.in-Some-take.is ∙ c.take.ensures.value ∙ get_or_read ticks c.args.key c.in-Some.slot.now room c.in-Some.ensures.value None in
     agree_removed ticks _ c.self.inside.order c.remove.new.self c.args.key c.in-Some-take.tick c.self.invariant has
     c.remove.ensures.updates (set_at ticks c.args.key c.take.new.self None room c.take.ensures.after)

@@ -54,7 +54,7 @@ invariant_of-self-2 c =
     let free : scope_of (sleep_slot_at sleep_slots.items c.args.task) ≡ None =
     ap scope_of (c.grow_to_task.ensures.same c.args.task) ∙ sym (scope_seen c.self.inside.by_task.items c.args.task) ∙ was in
     placed_added sleep_slots.items lists.items c.args.task _ v c.push.new.self placed free within kept c.index_mut-tasks.ensures.value
-    c.in_ok-push.ensures.items (c.len-place.ensures ∙ v.ok.0)
+    c.in_ok-push.ensures.items (c.len-index.ensures ∙ v.ok.0)
 
 pub returns-clause-ok : goal.returns-clause-ok
 returns-clause-ok c =

@@ -1,5 +1,5 @@
 use Rattle.std.proofs.Common.{refl, ap, ◌∙◌}
-use Rattle.task_table.specs.TaskTable.{gone_of}
+use Rattle.task_table.specs.TaskTable.{ended_task_of}
 use Rattle.job_runner.specs.declared.runner.Runner.{Runner}
 use Rattle.job_runner.proofs.Landing.{none_due, some_timer, next_cancel_later, past_limit, past_next, next_moment, not_too_late, no_earlier, jumped, both_woken, landed, ready_some}
 use Rattle.job_runner.proofs.States.{moment_bounded}
@@ -53,7 +53,7 @@ returns-clause-underway c =
     c.turn_over.ensures.current c.turn_over.ensures.next c.turn_over.ensures.unplaced
 
 pub returns-clause-ready : goal.returns-clause-ready
-returns-clause-ready c = ready_some c.turn_over.new.self.current c.wake_due.new.self.batch.next (gone_of c.wake_due.new.self.task_table 0)
+returns-clause-ready c = ready_some c.turn_over.new.self.current c.wake_due.new.self.batch.next (ended_task_of c.wake_due.new.self.task_table 0)
     c.turn_over.ensures.current c.in_ok-wake_due-in-To.ensures.some
 
 pub returns-in-Limit-clause-limit : goal.returns-in-Limit-clause-limit

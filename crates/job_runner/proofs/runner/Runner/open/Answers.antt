@@ -38,7 +38,7 @@ returns-clause-underway c =
       own = c.in_ok-task.ensures.own;
       task_state = c.in_ok-task.ensures.task_state;
       entries = c.in_ok-task.ensures.entries;
-      froms = c.in_ok-task.ensures.froms;
+      cancelled_from = c.in_ok-task.ensures.cancelled_from;
       cancelled = c.in_ok-task.ensures.cancelled;
     })
     c.in_ok-task_table.ensures.root refl c.in_ok-task_table.ensures.agree c.new-2.ensures.now limit c.requires.bounded

@@ -1,6 +1,6 @@
 use Rattle.std.proofs.Common.{refl}
 use Rattle.job_runner.specs.declared.runner.Runner.{Runner}
-use Rattle.job_runner.proofs.Telling.{TellsOne, taken_open, telling_first, telling_fewer, telling_next, told_still, told_unchanged, told_only}
+use Rattle.job_runner.proofs.Telling.{TellsOne, taken_open, telling_first, telling_fewer, telling_next, informed_still, informed_unchanged, informed_only}
 use Rattle.job_runner.proofs.runner.Runner.see_changed.Goals as goal
 
 abbrev after_see : goal.In_ok-see → Runner
@@ -39,18 +39,18 @@ returns-clause-going c =
     let stacks = rw c.scopes_mut.ensures.value at c.in_default.ensures.stacks in
     let none = rw c.scopes_mut.ensures.value at c.in_default.ensures.taken in
     let same = rw c.scopes_mut.ensures.value at (c.in_default.ensures.none refl) in
-    told_still c.take_changed.new.self c.changed.invariant stacks none same
+    informed_still c.take_changed.new.self c.changed.invariant stacks none same
 
 pub returns-clause-unchanged : goal.returns-clause-unchanged
 returns-clause-unchanged c =
     let stacks = rw c.scopes_mut.ensures.value at c.in_default.ensures.stacks in
     let none = rw c.scopes_mut.ensures.value at c.in_default.ensures.taken in
     let same = rw c.scopes_mut.ensures.value at (c.in_default.ensures.none refl) in
-    told_unchanged c.take_changed.new.self c.changed.invariant stacks none same
+    informed_unchanged c.take_changed.new.self c.changed.invariant stacks none same
 
 pub returns-clause-rest : goal.returns-clause-rest
 returns-clause-rest c =
     let stacks = rw c.scopes_mut.ensures.value at c.in_default.ensures.stacks in
     let none = rw c.scopes_mut.ensures.value at c.in_default.ensures.taken in
     let same = rw c.scopes_mut.ensures.value at (c.in_default.ensures.none refl) in
-    told_only c.take_changed.new.self c.changed.invariant stacks none same
+    informed_only c.take_changed.new.self c.changed.invariant stacks none same

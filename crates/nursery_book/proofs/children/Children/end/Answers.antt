@@ -10,17 +10,17 @@ use Rattle.nursery_book.proofs.children.Children.end.Goals as goal
 
 pub overflow_sub-self : goal.overflow_sub-self
 overflow_sub-self c =
-    let fewer = running_fewer c.self.inside.ends.items c.args.place c.args.exc
-    (ap (λ es. slice_get es c.args.place) c.self.view_is ∙ c.requires) in
+    let fewer = running_fewer c.self.inside.ends.items c.args.index c.args.exc
+    (ap (λ es. slice_get es c.args.index) c.self.view_is ∙ c.requires) in
     omega (arith, fewer, c.self.invariant)
 
 pub invariant_of-self : goal.invariant_of-self
 invariant_of-self c =
-    let fewer = running_fewer c.self.inside.ends.items c.args.place c.args.exc
-    (ap (λ es. slice_get es c.args.place) c.self.view_is ∙ c.requires) in
+    let fewer = running_fewer c.self.inside.ends.items c.args.index c.args.exc
+    (ap (λ es. slice_get es c.args.index) c.self.view_is ∙ c.requires) in
     omega (arith, fewer, c.self.invariant)
 
 pub returns : goal.returns
 returns c =
-    map-set end_of c.self.inside.ends.items c.args.place (Ended c.args.exc)
-    ∙ ap (λ es. slice_set es c.args.place (Some (option_map exc_of c.args.exc))) c.self.view_is
+    map-set end_of c.self.inside.ends.items c.args.index (Ended c.args.exc)
+    ∙ ap (λ es. slice_set es c.args.index (Some (option_map exc_of c.args.exc))) c.self.view_is

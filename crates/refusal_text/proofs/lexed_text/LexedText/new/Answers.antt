@@ -1,7 +1,7 @@
 use Rattle.std.proofs.Common.{ℕ, Bool, List, length, drop, subst}
 use Rattle.job_reader.proofs.Passing.{comments_by}
 use Rattle.job_tokens.specs.Lexing.{has_comments, Lexes}
-use Rattle.refusal_text.proofs.Told.{cut_back}
+use Rattle.refusal_text.proofs.Messages.{cut_back}
 use Rattle.refusal_text.proofs.lexed_text.LexedText.new.Goals as goal
 
 pub returns-clause-tokens : goal.returns-clause-tokens

@@ -81,7 +81,7 @@ returns-in-Event-clause-fits c =
     (state_eq _ _ _ _ (e.stays ∙ ap (λ (t : Task). record c.args.self.now {
       frames = c.pop.new.self;
       own = c.leave.new.self.own;
-      froms = c.leave.new.self.froms;
+      cancelled_from = c.leave.new.self.cancelled_from;
       entries = t.entries;
     }) (sym e.stays)) e.world)
 
@@ -97,7 +97,7 @@ returns-in-Event-clause-step c =
     let e = c.leave.ensures in
     takes_event_left (state_of (record c.args.self.now { frames = c.pop.new.self }) c.args.world.now) (state_of c.leave.new.self c.leave.new.world) c.args.self.now.frames.items c.args.exc
     (c.in-Some.ensures.items ∙ ap (λ (f : Frame). c.pop.new.self.items ++ f ∷ []) c.in-Event.is) (state_eq _ _ _ _ e.stays e.world)
-    (λ froms p ps at. (e.at froms p ps at).around) e.left
+    (λ cancelled_from p ps at. (e.at cancelled_from p ps at).around) e.left
 
 pub end_body-requires-clause-nursery : goal.end_body-requires-clause-nursery
 end_body-requires-clause-nursery c =

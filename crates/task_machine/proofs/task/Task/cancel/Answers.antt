@@ -35,11 +35,11 @@ returns-in_ok-keep_label-clause-at c =
     subst (λ (t : Task). CancelsAt (state_of self world) (state_of t c.sign.new.self) c.args.name) (sym c.in_ok-keep_label.ensures.stays) (
       subst (λ (o : Option ℕ). Signed world.tick world.scopes c.sign.new.self.scopes o) (sym found)
           (record { stacks = c.sign.ensures.stacks; marks = c.sign.ensures.marks }),
-      λ froms ps own a. (
+      λ cancelled_from ps own a. (
         cancels_at (label_at world) (label_at c.sign.new.self) (event_at world) (event_at c.sign.new.self) world.scopes c.sign.new.self.scopes _ c.args.name c.in-Some.id world.tick
-            (ap label_at c.sign.ensures.rest) (ap event_at c.sign.ensures.rest) c.sign.ensures.stacks found froms ps own a,
+            (ap label_at c.sign.ensures.rest) (ap event_at c.sign.ensures.rest) c.sign.ensures.stacks found cancelled_from ps own a,
         c.in_ok-keep_label.ensures.kept
-            ∙ cancels_kept false world.clock (label_at world) (event_at world) froms _ ps c.args.name c.in-Some.id self.cancelled.items found a,
+            ∙ cancels_kept false world.clock (label_at world) (event_at world) cancelled_from _ ps c.args.name c.in-Some.id self.cancelled.items found a,
       ),
     )
 
@@ -49,9 +49,9 @@ returns-in_default-clause-at c =
     let none = ap (λ (s : Option ℕ). scope_named false (label_at world) (event_at world) c.args.name (outer_of world.scopes s)) (sym c.scope.ensures)
     ∙ sym c.find.ensures ∙ c.in_default.is in (
       subst (λ (o : Option ℕ). Signed world.tick world.scopes world.scopes o) (sym none) refl,
-      λ froms ps own a. (
-        cancels_none false (label_at world) (event_at world) _ c.args.name world.tick none froms ps a,
-        cancels_no_more false world.clock (label_at world) (event_at world) froms _ ps c.args.name c.args.self.now.cancelled.items none a,
+      λ cancelled_from ps own a. (
+        cancels_none false (label_at world) (event_at world) _ c.args.name world.tick none cancelled_from ps a,
+        cancels_no_more false world.clock (label_at world) (event_at world) cancelled_from _ ps c.args.name c.args.self.now.cancelled.items none a,
       ),
     )
 

@@ -18,7 +18,7 @@ returns-clause-at c =
     let world = c.args.world.now in
     let entered = c.in_ok-id.ensures in
     let label : Label = label_in c.args.self.now c.args.name in
-    λ froms ps named a.
+    λ cancelled_from ps named a.
     enters_at (label_at world) (label_at c.enter_event.new.self) (event_at world) (event_at c.enter_event.new.self) world.scopes
     c.enter_event.new.self.scopes _ _ c.in_ok-id.id (an_event_at label) None c.stacks_are_chains.ensures.chain entered.fresh
     (entered.opened ∙ ap (λ (s : Option ℕ). Some (record { label = c.in_ok-id.id; shield = false; from = None } ∷ outer_of world.scopes s))
@@ -26,7 +26,7 @@ returns-clause-at c =
     (subst (λ (l : Label). Updates (label_at world) (label_at c.enter_event.new.self) c.in_ok-id.id (Some l)) c.in_ok-label.ensures entered.label)
     entered.event (event_entry label)
     (ap scope_of c.in_ok-push-4.ensures.stays ∙ ap scope_of c.in_ok-push-3.ensures.stays
-    ∙ last_pushed _ _ _ _ c.in_ok-push-2.ensures.items) froms ps named a
+    ∙ last_pushed _ _ _ _ c.in_ok-push-2.ensures.items) cancelled_from ps named a
 
 pub returns-clause-own : goal.returns-clause-own
 returns-clause-own c =
@@ -36,11 +36,11 @@ returns-clause-own c =
     record {
       scope = record { id = c.in_ok-id.id; at = c.len-at.result };
       opened = ap (λ (t : Task). t.own.items) c.in_ok-push-4.ensures.stays ∙ ap (λ (t : Task). t.own.items) c.in_ok-push-3.ensures.stays ∙ c.in_ok-push-2.ensures.items;
-      place = (let e = c.len-at.ensures in let f = c.args.self.now.froms.ok in cc);
-      froms =
-          ap (λ (t : Task). t.froms.items) c.in_ok-push-4.ensures.stays ∙ ap (λ (t : Task). t.froms.items) c.in_ok-push-3.ensures.stays
+      index = (let e = c.len-at.ensures in let f = c.args.self.now.cancelled_from.ok in cc);
+      cancelled_from =
+          ap (λ (t : Task). t.cancelled_from.items) c.in_ok-push-4.ensures.stays ∙ ap (λ (t : Task). t.cancelled_from.items) c.in_ok-push-3.ensures.stays
           ∙ c.in_ok-push.ensures.items
-          ∙ ap (λ (l : Label). c.args.self.now.froms.items ++ record { label = l; seen = None } ∷ [])
+          ∙ ap (λ (l : Label). c.args.self.now.cancelled_from.items ++ record { label = l; seen = None } ∷ [])
           (c.in_ok-kept.ensures ∙ c.in_ok-label.ensures);
       fresh = entered.fresh;
       level = record { label = c.in_ok-id.id; shield = false; from = None };

@@ -5,7 +5,7 @@ use Rattle.cancel_scopes.specs.Tree.{outer_of}
 use Rattle.job_meaning.specs.Moments.{due}
 use Rattle.job_meaning.specs.declared.clock.Clock.{Clock}
 use Rattle.turn_semantics.specs.Midway.{Place}
-use Rattle.turn_semantics.specs.Steps.{froms_after_entry}
+use Rattle.turn_semantics.specs.Steps.{cancelled_from_after_entry}
 use Rattle.task_machine.specs.Stacked.{AreAt}
 use Rattle.task_machine.specs.Worlds.{label_at, event_at}
 use Rattle.nursery_book.specs.Nursery.{new_nursery as opens}
@@ -52,7 +52,7 @@ returns-clause-at c =
     let labels = label_at c.enter.new.world in
     let label : Label = label_in c.args.self.now c.args.name in
     let events = event_at c.enter.new.world in
-    let place : Place = a_scope_at label c.args.shield in
+    let index : Place = a_scope_at label c.args.shield in
     let scope : scope_of c.push-2.new.self ≡ scope_of c.enter.new.self =
     ap scope_of c.in_ok-push-2.ensures.stays ∙ ap scope_of c.in_ok-push.ensures.stays in
     let world = c.args.world.now in
@@ -62,8 +62,8 @@ returns-clause-at c =
     let entered =
     subst (λ (l : Label). EntersAt (state_of c.args.self.now c.args.world.now) (state_of c.enter.new.self c.enter.new.world)
     (a_scope_at l c.args.shield) c.due-until.result) (c.in_ok-kept.ensures ∙ c.in_ok-label.ensures) c.in_ok-scope.ensures.at in
-    λ froms ps new at.
-    subst (λ (s : Option ℕ). AreAt labels events (froms_after_entry froms label (due world.clock c.args.deadline world.tick)) (outer_of scopes s)
-    (place ∷ ps)) (sym scope)
-    (subst (λ (d : Tick). AreAt labels events (froms_after_entry froms label d) (outer_of scopes (scope_of c.enter.new.self)) (place ∷ ps)) deadline
-    (entered froms ps new at))
+    λ cancelled_from ps new at.
+    subst (λ (s : Option ℕ). AreAt labels events (cancelled_from_after_entry cancelled_from label (due world.clock c.args.deadline world.tick)) (outer_of scopes s)
+    (index ∷ ps)) (sym scope)
+    (subst (λ (d : Tick). AreAt labels events (cancelled_from_after_entry cancelled_from label d) (outer_of scopes (scope_of c.enter.new.self)) (index ∷ ps)) deadline
+    (entered cancelled_from ps new at))

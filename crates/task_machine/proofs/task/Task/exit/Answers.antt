@@ -15,8 +15,8 @@ returns-clause-at c =
     let left = c.leave-label in
     let tick : tick_of left.new.world.clock left.new.world.tick ≡ tick_of world.clock world.tick =
     ap (λ (w : World). tick_of w.clock w.tick) left.ensures.world in
-    λ froms p ps scope a.
-    let at = left.ensures.at froms p ps a in
+    λ cancelled_from p ps scope a.
+    let at = left.ensures.at cancelled_from p ps a in
     record {
       exc =
           exc_goes_on (kind_of c.args.kind) left.result.label p.label c.tick.result (tick_of world.clock world.tick) left.result.catches _

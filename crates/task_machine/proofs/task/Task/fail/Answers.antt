@@ -34,7 +34,7 @@ returns-in_default-clause-at c =
     ∙ sym c.home.ensures ∙ c.in_default.is in (
       subst (λ (o : Option ℕ). Signed world.tick world.scopes world.scopes o)
           (sym (failed_key (event_at world) _ None c.args.exc.now c.is_none.result c.is_none.ensures c.if-is_none.false none)) refl,
-      λ froms ps own a. fails_none (label_at world) (event_at world) _ world.tick (option_map exc_of c.args.exc.now) none froms ps a,
+      λ cancelled_from ps own a. fails_none (label_at world) (event_at world) _ world.tick (option_map exc_of c.args.exc.now) none cancelled_from ps a,
     )
 
 pub returns-in-Some-clause-keys : goal.returns-in-Some-clause-keys

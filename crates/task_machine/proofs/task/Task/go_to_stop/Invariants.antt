@@ -11,15 +11,15 @@ use Rattle.task_machine.specs.Standing.{Stands}
 use Rattle.task_machine.specs.States.{state_of}
 use Rattle.task_machine.specs.Stops.{Numbers}
 use Rattle.task_machine.specs.Waiters.{KeepsRest}
-use Rattle.task_machine.proofs.TurnGoes.{GoneOn}
+use Rattle.task_machine.proofs.TurnGoes.{WentOn}
 use Rattle.task_machine.proofs.task.Task.go_to_stop.Given as goal
 
 abbrev pub invariant-steps : goal.invariant-steps
 invariant-steps l =
     Fits (state_of l.self l.world) None × KeepsRest l.initial.me l.initial.self l.self l.initial.world l.world
-    × ((froms : Table) (numbers : Numbers) (ps : List Place) (count : ℕ) →
-    Stands (state_of l.initial.self l.initial.world) froms numbers None ps →
-    GoneOn (state_of l.initial.self l.initial.world) (state_of l.self l.world) (option_map exc_of l.initial.exc) l.exc froms numbers ps count)
+    × ((cancelled_from : Table) (numbers : Numbers) (ps : List Place) (count : ℕ) →
+    Stands (state_of l.initial.self l.initial.world) cancelled_from numbers None ps →
+    WentOn (state_of l.initial.self l.initial.world) (state_of l.self l.world) (option_map exc_of l.initial.exc) l.exc cancelled_from numbers ps count)
 
 abbrev pub decreases-steps : goal.decreases-steps
 decreases-steps l = frames_length (frames_of (λ id. []) l.self.frames.items)

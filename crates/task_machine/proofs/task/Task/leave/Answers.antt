@@ -26,10 +26,10 @@ leave-label-requires-clause-label c = c.requires.labelled c.in-Some.own.id (last
 
 pub returns-clause-left : goal.returns-clause-left
 returns-clause-left c =
-    let froms = c.args.self.now.froms.items in
+    let cancelled_from = c.args.self.now.cancelled_from.items in
     let at = c.in-Some.own.at in
-    let below = last_below (length froms) c.pop.new.self.items c.in-Some.own
-    (subst (λ (own : List Own). All (λ (o : Own). o.at < length froms) own) c.in-Some.ensures.items c.requires.froms) in
+    let below = last_below (length cancelled_from) c.pop.new.self.items c.in-Some.own
+    (subst (λ (own : List Own). All (λ (o : Own). o.at < length cancelled_from) own) c.in-Some.ensures.items c.requires.cancelled_from) in
     record {
       scope = c.in-Some.own;
       taken = c.in-Some.ensures.items;
@@ -37,8 +37,8 @@ returns-clause-left c =
       from = c.leave-label.result.1;
       seen = c.leave-label.ensures.from;
       entry = c.index_mut.result.now;
-      was = slice_get-get_or froms at c.index_mut.result.now below ∙ ap (λ (f : ScopeFrom). Some f) (sym c.index_mut.ensures.value);
-      froms = refl;
+      was = slice_get-get_or cancelled_from at c.index_mut.result.now below ∙ ap (λ (f : ScopeFrom). Some f) (sym c.index_mut.ensures.value);
+      cancelled_from = refl;
       closed = c.leave-label.ensures.closed;
       others = c.leave-label.ensures.others;
       marks = c.leave-label.ensures.marks;
@@ -66,18 +66,18 @@ returns-clause-at c =
     top_of world.scopes c.stacks_are_chains.ensures.chain c.stacks_are_chains.ensures.own (home_scope self) self.own.items
     c.pop.new.self.items c.in-Some.own
     c.in-Some.ensures.items (c.requires.«open» c.in-Some.own.id last) c.requires.own last in
-    λ froms p ps a.
-    let at : AreAt (label_at world) (event_at world) froms (top.level ∷ top.following) (p ∷ ps) =
-    left_from (label_at world) (event_at world) froms world.scopes (home_scope self) _ c.pop.new.self.items c.in-Some.own p ps top last a in
+    λ cancelled_from p ps a.
+    let at : AreAt (label_at world) (event_at world) cancelled_from (top.level ∷ top.following) (p ∷ ps) =
+    left_from (label_at world) (event_at world) cancelled_from world.scopes (home_scope self) _ c.pop.new.self.items c.in-Some.own p ps top last a in
     let named : top.level.label ≡ c.in-Some.own.id =
     one_of _ _ (c.stacks_are_chains.ensures.own c.in-Some.own.id (top.level ∷ top.following) top.at) in
     record {
       label = one_of _ _ (sym c.leave-label.ensures.label ∙ ap (label_at world) (sym named) ∙ at.0);
       caught = λ scope.
           c.catches-catches.ensures (top.level ∷ top.following) top.at
-          ∙ catches_for (label_at world) (event_at world) self.cancelled.items froms top.level top.following p ps world.tick scope at;
+          ∙ catches_for (label_at world) (event_at world) self.cancelled.items cancelled_from top.level top.following p ps world.tick scope at;
       around =
           places_after (label_at world) (label_at c.leave-label.new.self) (event_at world) (event_at c.leave-label.new.self) world.scopes
           c.leave-label.new.self.scopes (home_scope self) c.pop.new.self.items c.in-Some.own c.stacks_are_chains.ensures.chain
-          c.leave-label.ensures.others c.leave-label.ensures.taken c.leave-label.ensures.no_event top froms ps at.3;
+          c.leave-label.ensures.others c.leave-label.ensures.taken c.leave-label.ensures.no_event top cancelled_from ps at.3;
     }

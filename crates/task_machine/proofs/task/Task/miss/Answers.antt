@@ -20,7 +20,7 @@ returns-in-Shows-clause-wakes c =
     let self = c.args.self.now in
     λ kernel asked.
     wakes_answered (state_of self c.args.world.now) kernel c.args.purpose asked ask.missing
-    (λ froms fs ps. ap (λ (p : Purpose). goes_on_with froms c.args.world.now.tick (here_of c.args.world.now.clock self) ask.missing
+    (λ cancelled_from fs ps. ap (λ (p : Purpose). goes_on_with cancelled_from c.args.world.now.tick (here_of c.args.world.now.clock self) ask.missing
     (purpose_in p) fs ps)
     c.in-Shows.is)
 
@@ -29,6 +29,6 @@ returns-in-Paces-clause-wakes c =
     let self = c.args.self.now in
     λ kernel asked.
     wakes_answered (state_of self c.args.world.now) kernel c.args.purpose asked ask.missing
-    (λ froms fs ps. ap (λ (p : Purpose). goes_on_with froms c.args.world.now.tick (here_of c.args.world.now.clock self) ask.missing
+    (λ cancelled_from fs ps. ap (λ (p : Purpose). goes_on_with cancelled_from c.args.world.now.tick (here_of c.args.world.now.clock self) ask.missing
     (purpose_in p) fs ps)
     c.in-Paces.is)

@@ -26,7 +26,7 @@ returns-in-Shows-clause-wakes c =
     let self = c.args.self.now in
     λ kernel asked.
     wakes_answered (state_of self c.args.world.now) kernel c.args.purpose asked (ask.counted c.args.count)
-    (λ froms fs ps. ap (λ (p : Purpose). goes_on_with froms c.args.world.now.tick (here_of c.args.world.now.clock self)
+    (λ cancelled_from fs ps. ap (λ (p : Purpose). goes_on_with cancelled_from c.args.world.now.tick (here_of c.args.world.now.clock self)
     (ask.counted c.args.count) (purpose_in p)
     fs ps) c.in-Shows.is)
 
@@ -35,6 +35,6 @@ returns-in-Needs-clause-wakes c =
     let self = c.args.self.now in
     λ kernel asked.
     wakes_answered (state_of self c.args.world.now) kernel c.args.purpose asked (ask.counted c.args.count)
-    (λ froms fs ps. ap (λ (p : Purpose). goes_on_with froms c.args.world.now.tick (here_of c.args.world.now.clock self)
+    (λ cancelled_from fs ps. ap (λ (p : Purpose). goes_on_with cancelled_from c.args.world.now.tick (here_of c.args.world.now.clock self)
     (ask.counted c.args.count) (purpose_in p)
     fs ps) c.in-Needs.is)

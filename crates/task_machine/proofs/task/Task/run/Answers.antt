@@ -17,53 +17,53 @@ use Rattle.task_machine.proofs.task.Task.run.Goals as goal
 pub returns-in-Sleep-clause-step : goal.returns-in-Sleep-clause-step
 returns-in-Sleep-clause-step c = λ a.
     takes_sleeps (state_of c.args.self.now c.args.world.now) c.args.step.now a (code.Sleep c.in-Sleep.ticks) (state_of c.sleep.new.self c.args.world.now) c.sleep.result c.in-Sleep.ticks c.in-Sleep.is
-    (λ froms ss fs ps count. refl) (ap (λ (t : Task). state_of t c.args.world.now) c.sleep.ensures.stays) c.sleep.ensures.sleeps
+    (λ cancelled_from ss fs ps count. refl) (ap (λ (t : Task). state_of t c.args.world.now) c.sleep.ensures.stays) c.sleep.ensures.sleeps
 
 pub returns-in-Checkpoint-clause-step : goal.returns-in-Checkpoint-clause-step
 returns-in-Checkpoint-clause-step c = λ a.
     takes_sleeps (state_of c.args.self.now c.args.world.now) c.args.step.now a (code.Checkpoint) (state_of c.sleep-in-Checkpoint.new.self c.args.world.now) c.sleep-in-Checkpoint.result 0 c.in-Checkpoint.is
-    (λ froms ss fs ps count. refl)
+    (λ cancelled_from ss fs ps count. refl)
     (ap (λ (t : Task). state_of t c.args.world.now) c.sleep-in-Checkpoint.ensures.stays) c.sleep-in-Checkpoint.ensures.sleeps
 
 pub returns-in-Forever-clause-step : goal.returns-in-Forever-clause-step
 returns-in-Forever-clause-step c = λ a.
     takes_sleeps (state_of c.args.self.now c.args.world.now) c.args.step.now a (code.Forever) (state_of c.sleep-in-Forever.new.self c.args.world.now) c.sleep-in-Forever.result c.saturating_sub.result c.in-Forever.is
-    (λ froms ss fs ps count. ap (λ (n : ℕ). sleeps c.args.world.now.clock froms false n c.args.world.now.tick (rest.steps_left ss ∷ fs) ps)
+    (λ cancelled_from ss fs ps count. ap (λ (n : ℕ). sleeps c.args.world.now.clock cancelled_from false n c.args.world.now.tick (rest.steps_left ss ∷ fs) ps)
     (sym (c.saturating_sub.ensures ∙ ap (λ (t : ℕ). far - t) c.tick.ensures)))
     (ap (λ (t : Task). state_of t c.args.world.now) c.sleep-in-Forever.ensures.stays) c.sleep-in-Forever.ensures.sleeps
 
 pub returns-in-Pace-clause-step : goal.returns-in-Pace-clause-step
 returns-in-Pace-clause-step c = λ a.
     takes_alone (state_of c.args.self.now c.args.world.now) c.args.step.now a (code.Pace c.in-Pace.per_tick) (state_of c.ask.new.self c.args.world.now) c.ask.result
-    (λ fs ps. blocks_on (asking ask.count (ask.paces c.in-Pace.per_tick)) fs ps) c.in-Pace.is (λ froms ss fs ps count. refl)
+    (λ fs ps. blocks_on (asking ask.count (ask.paces c.in-Pace.per_tick)) fs ps) c.in-Pace.is (λ cancelled_from ss fs ps count. refl)
     (λ fs ps. record { frames = refl; places = refl; made = refl; begun = refl; waits = tt }) (λ fs ps. tt)
     (ap (λ (t : Task). state_of t c.args.world.now) c.ask.ensures.stays) (c.ask.ensures.asks c.args.world.now.clock)
 
 pub returns-in-Find-clause-step : goal.returns-in-Find-clause-step
 returns-in-Find-clause-step c = λ a.
     takes_alone (state_of c.args.self.now c.args.world.now) c.args.step.now a (code.Find c.in-Find.text) (state_of c.ask-in-Find.new.self c.args.world.now) c.ask-in-Find.result
-    (λ fs ps. blocks_on (asking (ask.find c.bytes.result.now) ask.shows) fs ps) c.in-Find.is (λ froms ss fs ps count. ap (λ (bytes : List ℕ). blocks_on (asking (ask.find bytes) ask.shows) (rest.steps_left ss ∷ fs) ps) (sym c.bytes.ensures))
+    (λ fs ps. blocks_on (asking (ask.find c.bytes.result.now) ask.shows) fs ps) c.in-Find.is (λ cancelled_from ss fs ps count. ap (λ (bytes : List ℕ). blocks_on (asking (ask.find bytes) ask.shows) (rest.steps_left ss ∷ fs) ps) (sym c.bytes.ensures))
     (λ fs ps. record { frames = refl; places = refl; made = refl; begun = refl; waits = tt }) (λ fs ps. tt)
     (ap (λ (t : Task). state_of t c.args.world.now) c.ask-in-Find.ensures.stays) (c.ask-in-Find.ensures.asks c.args.world.now.clock)
 
 pub returns-in-Head-clause-step : goal.returns-in-Head-clause-step
 returns-in-Head-clause-step c = λ a.
     takes_alone (state_of c.args.self.now c.args.world.now) c.args.step.now a (code.Head c.in-Head.count) (state_of c.ask-in-Head.new.self c.args.world.now) c.ask-in-Head.result
-    (λ fs ps. blocks_on (asking (ask.head c.in-Head.count) ask.shows) fs ps) c.in-Head.is (λ froms ss fs ps count. refl)
+    (λ fs ps. blocks_on (asking (ask.head c.in-Head.count) ask.shows) fs ps) c.in-Head.is (λ cancelled_from ss fs ps count. refl)
     (λ fs ps. record { frames = refl; places = refl; made = refl; begun = refl; waits = tt }) (λ fs ps. tt)
     (ap (λ (t : Task). state_of t c.args.world.now) c.ask-in-Head.ensures.stays) (c.ask-in-Head.ensures.asks c.args.world.now.clock)
 
 pub returns-in-Longest-clause-step : goal.returns-in-Longest-clause-step
 returns-in-Longest-clause-step c = λ a.
     takes_alone (state_of c.args.self.now c.args.world.now) c.args.step.now a (code.Longest) (state_of c.ask-in-Longest.new.self c.args.world.now) c.ask-in-Longest.result
-    (λ fs ps. blocks_on (asking ask.longest ask.shows) fs ps) c.in-Longest.is (λ froms ss fs ps count. refl)
+    (λ fs ps. blocks_on (asking ask.longest ask.shows) fs ps) c.in-Longest.is (λ cancelled_from ss fs ps count. refl)
     (λ fs ps. record { frames = refl; places = refl; made = refl; begun = refl; waits = tt }) (λ fs ps. tt)
     (ap (λ (t : Task). state_of t c.args.world.now) c.ask-in-Longest.ensures.stays) (c.ask-in-Longest.ensures.asks c.args.world.now.clock)
 
 pub returns-in-Need-clause-step : goal.returns-in-Need-clause-step
 returns-in-Need-clause-step c = λ a.
     takes_alone (state_of c.args.self.now c.args.world.now) c.args.step.now a (code.Need c.in-Need.text c.in-Need.name) (state_of c.ask-in-Need.new.self c.args.world.now) c.ask-in-Need.result
-    (λ fs ps. blocks_on (asking (ask.need c.bytes-in-Need.result.now) (ask.needs c.in-Need.name)) fs ps) c.in-Need.is (λ froms ss fs ps count. ap (λ (bytes : List ℕ). blocks_on (asking (ask.need bytes) (ask.needs c.in-Need.name)) (rest.steps_left ss ∷ fs) ps) (sym c.bytes-in-Need.ensures))
+    (λ fs ps. blocks_on (asking (ask.need c.bytes-in-Need.result.now) (ask.needs c.in-Need.name)) fs ps) c.in-Need.is (λ cancelled_from ss fs ps count. ap (λ (bytes : List ℕ). blocks_on (asking (ask.need bytes) (ask.needs c.in-Need.name)) (rest.steps_left ss ∷ fs) ps) (sym c.bytes-in-Need.ensures))
     (λ fs ps. record { frames = refl; places = refl; made = refl; begun = refl; waits = tt }) (λ fs ps. tt)
     (ap (λ (t : Task). state_of t c.args.world.now) c.ask-in-Need.ensures.stays) (c.ask-in-Need.ensures.asks c.args.world.now.clock)
 
@@ -72,7 +72,7 @@ returns-in_ok-moved-in-Raise-clause-step c = λ a.
     takes_alone (state_of c.args.self.now c.args.world.now) c.args.step.now a (code.Raise c.in-Raise.name) (state_of c.args.self.now c.args.world.now) c.in_ok-moved-in-Raise.moved
     (λ fs ps. onward fs ps
     (Some (raised c.in-Raise.name c.args.self.now.label (tick_of c.args.world.now.clock c.args.world.now.tick)))) c.in-Raise.is
-    (λ froms ss fs ps count. refl) (λ fs ps. record { frames = refl; places = refl; made = refl; begun = refl; waits = tt }) (λ fs ps. tt) refl
+    (λ cancelled_from ss fs ps count. refl) (λ fs ps. record { frames = refl; places = refl; made = refl; begun = refl; waits = tt }) (λ fs ps. tt) refl
     c.in_ok-moved-in-Raise.ensures.raises
 
 pub returns-in_ok-cancel-in-Cancel-clause-step : goal.returns-in_ok-cancel-in-Cancel-clause-step
@@ -122,7 +122,7 @@ returns-in-Wait-clause-keeps c = record {
     own = t.own;
     task_state = c.wait_for.new.self.task_state;
     entries = t.entries;
-    froms = t.froms;
+    cancelled_from = t.cancelled_from;
     cancelled = t.cancelled;
   }) (sym c.wait_for.ensures.stays);
   world = refl;
@@ -137,7 +137,7 @@ returns-in-Sleep-clause-keeps c = record {
     own = t.own;
     task_state = c.sleep.new.self.task_state;
     entries = t.entries;
-    froms = t.froms;
+    cancelled_from = t.cancelled_from;
     cancelled = t.cancelled;
   }) (sym c.sleep.ensures.stays);
   world = refl;
@@ -152,7 +152,7 @@ returns-in-Checkpoint-clause-keeps c = record {
     own = t.own;
     task_state = c.sleep-in-Checkpoint.new.self.task_state;
     entries = t.entries;
-    froms = t.froms;
+    cancelled_from = t.cancelled_from;
     cancelled = t.cancelled;
   }) (sym c.sleep-in-Checkpoint.ensures.stays);
   world = refl;
@@ -167,7 +167,7 @@ returns-in-Forever-clause-keeps c = record {
     own = t.own;
     task_state = c.sleep-in-Forever.new.self.task_state;
     entries = t.entries;
-    froms = t.froms;
+    cancelled_from = t.cancelled_from;
     cancelled = t.cancelled;
   }) (sym c.sleep-in-Forever.ensures.stays);
   world = refl;

@@ -9,23 +9,23 @@ use Rattle.task_machine.proofs.task.Task.sleep.Goals as goal
 pub returns-then-sees-clause-sleeps : goal.returns-then-sees-clause-sleeps
 returns-then-sees-clause-sleeps c =
     let world = c.args.world.now in
-    λ froms numbers book fs ps a.
-    sleeps_seen world.clock (label_at world) (event_at world) froms _ ps c.args.paced c.args.ticks world.tick fs (sym c.clock.ensures ∙ c.in-ByTicks.is) a
+    λ cancelled_from numbers book fs ps a.
+    sleeps_seen world.clock (label_at world) (event_at world) cancelled_from _ ps c.args.paced c.args.ticks world.tick fs (sym c.clock.ensures ∙ c.in-ByTicks.is) a
     (sym c.if-sees.true ∙ c.sees.ensures ∙ ap (λ (s : Option ℕ). seen (outer_of world.scopes s) world.tick) c.scope.ensures)
 
 pub returns-then-ticks-eq0-clause-sleeps : goal.returns-then-ticks-eq0-clause-sleeps
 returns-then-ticks-eq0-clause-sleeps c =
     let world = c.args.world.now in
-    λ froms numbers book fs ps a.
-    sleeps_on world.clock (label_at world) (event_at world) froms _ ps c.args.paced c.args.ticks world.tick fs (sym c.clock.ensures ∙ c.in-ByTicks.is) a
+    λ cancelled_from numbers book fs ps a.
+    sleeps_on world.clock (label_at world) (event_at world) cancelled_from _ ps c.args.paced c.args.ticks world.tick fs (sym c.clock.ensures ∙ c.in-ByTicks.is) a
     (sym c.if-sees.false ∙ c.sees.ensures ∙ ap (λ (s : Option ℕ). seen (outer_of world.scopes s) world.tick) c.scope.ensures)
     c.if-ticks-eq0.true
 
 pub returns-else-ticks-eq0-clause-sleeps : goal.returns-else-ticks-eq0-clause-sleeps
 returns-else-ticks-eq0-clause-sleeps c =
     let world = c.args.world.now in
-    λ froms numbers book fs ps a.
-    sleeps_off world.clock (label_at world) (event_at world) froms _ ps c.args.paced c.args.ticks world.tick fs numbers book c.args.self.now.part
+    λ cancelled_from numbers book fs ps a.
+    sleeps_off world.clock (label_at world) (event_at world) cancelled_from _ ps c.args.paced c.args.ticks world.tick fs numbers book c.args.self.now.part
     c.fall_asleep.result _ c.fall_asleep.ensures.stops (ap (λ (t : Task). t.task_state) c.fall_asleep.ensures.stays)
     (sym c.clock.ensures ∙ c.in-ByTicks.is) a
     (sym c.if-sees.false ∙ c.sees.ensures ∙ ap (λ (s : Option ℕ). seen (outer_of world.scopes s) world.tick) c.scope.ensures)

@@ -11,8 +11,8 @@ pub returns-clause-started : goal.returns-clause-started
 returns-clause-started c =
     let child = c.in_ok-child.ensures in
     starts_one (state_of c.args.self.now c.args.world.now) _ c.args.nursery c.args.label c.args.part c.args.body.now c.in_ok-child.child c.scope-scope.result
-    c.in_ok-place.place
-    c.scope-scope.ensures c.in_ok-place.ensures.place c.in_ok-place.ensures.started c.in_ok-push_back.ensures.items
+    c.in_ok-index.index
+    c.scope-scope.ensures c.in_ok-index.ensures.index c.in_ok-index.ensures.started c.in_ok-push_back.ensures.items
     (record {
       label_is = child.label;
       input_is = ap buffer_of child.part;
@@ -25,6 +25,6 @@ returns-clause-started c =
           (c.a_round_after-at.ensures ∙ ap (λ (k : Clock). a_round_after k c.now.result) c.clock.ensures
           ∙ ap (a_round_after c.args.world.now.clock) c.now.ensures);
       entries = child.entries;
-      froms = child.froms;
+      cancelled_from = child.cancelled_from;
       cancelled = child.cancelled;
     })

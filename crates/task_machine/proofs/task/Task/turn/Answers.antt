@@ -20,15 +20,15 @@ returns-in_ok-stop-in-On-clause-turn c =
     let woke = c.in_ok-exc.ensures in
     let wakens = subst (λ (x : State). Wakens x m c.in_ok-exc.field-0 (wake_in world.book x.task_state wake))
     (forgot.state world) woke.wakes in
-    λ froms numbers ps count stopped task_state stands.
-    turns_later s m (state_of c.go_to_stop.new.self c.go_to_stop.new.world) wake c.in-On.exc c.in_ok-stop-in-On.stop froms numbers ps count
+    λ cancelled_from numbers ps count stopped task_state stands.
+    turns_later s m (state_of c.go_to_stop.new.self c.go_to_stop.new.world) wake c.in-On.exc c.in_ok-stop-in-On.stop cancelled_from numbers ps count
     stopped (ap (λ (t : Task). t.part) woke.stays ∙ ap (λ (t : Task). t.part) forgot.stays)
     (ap (λ (t : Task). t.label) woke.stays ∙ ap (λ (t : Task). t.label) forgot.stays) (ap (λ (w : World). w.clock) woke.world)
     (ap (λ (w : World). w.tick) woke.world)
     (can_wake self.task_state self.part world.book numbers wake stopped c.requires.wake task_state) stands
-    (subst (λ (x : Moved). Took (woken_at wake s) m x froms numbers
-    (wake_at (woken_at wake s) (wake_in world.book self.task_state wake) stopped froms numbers ps)) c.in-On.is
-    (wakens froms numbers stopped ps (woken_stands wake s froms numbers (Some stopped) ps stands) task_state))
+    (subst (λ (x : Moved). Took (woken_at wake s) m x cancelled_from numbers
+    (wake_at (woken_at wake s) (wake_in world.book self.task_state wake) stopped cancelled_from numbers ps)) c.in-On.is
+    (wakens cancelled_from numbers stopped ps (woken_stands wake s cancelled_from numbers (Some stopped) ps stands) task_state))
     c.in_ok-stop-in-On.ensures.steps
 
 pub returns-in-Stops-clause-turn : goal.returns-in-Stops-clause-turn
@@ -41,11 +41,11 @@ returns-in-Stops-clause-turn c =
     let wakens =
     subst (λ (x : State). Wakens x m c.in_ok-exc.field-0 (wake_in world.book x.task_state wake)) (c.forget_cancelled.ensures.state world)
     c.in_ok-exc.ensures.wakes in
-    λ froms numbers ps count stopped task_state stands.
-    turns_at_once s m wake c.in-Stops.stop froms numbers ps count stopped
-    (subst (λ (x : Moved). Took (woken_at wake s) m x froms numbers
-    (wake_at (woken_at wake s) (wake_in world.book self.task_state wake) stopped froms numbers ps)) c.in-Stops.is
-    (wakens froms numbers stopped ps (woken_stands wake s froms numbers (Some stopped) ps stands) task_state))
+    λ cancelled_from numbers ps count stopped task_state stands.
+    turns_at_once s m wake c.in-Stops.stop cancelled_from numbers ps count stopped
+    (subst (λ (x : Moved). Took (woken_at wake s) m x cancelled_from numbers
+    (wake_at (woken_at wake s) (wake_in world.book self.task_state wake) stopped cancelled_from numbers ps)) c.in-Stops.is
+    (wakens cancelled_from numbers stopped ps (woken_stands wake s cancelled_from numbers (Some stopped) ps stands) task_state))
 
 pub returns-in_ok-stop-in-On-clause-keeps : goal.returns-in_ok-stop-in-On-clause-keeps
 returns-in_ok-stop-in-On-clause-keeps c =

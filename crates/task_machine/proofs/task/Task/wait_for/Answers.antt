@@ -10,8 +10,8 @@ returns-in_default-clause-moves c =
     let world = c.args.world.now in
     let none = ap (λ (s : Option ℕ). scope_named true (label_at world) (event_at world) c.args.name (outer_of world.scopes s))
     (sym c.scope.ensures) ∙ sym c.find.ensures ∙ c.in_default.is in
-    λ froms numbers book fs ps a.
-    waits_none world.clock (label_at world) (event_at world) c.args.name _ world.tick numbers book c.args.self.now.part froms fs ps a
+    λ cancelled_from numbers book fs ps a.
+    waits_none world.clock (label_at world) (event_at world) c.args.name _ world.tick numbers book c.args.self.now.part cancelled_from fs ps a
     c.args.self.now.task_state none
 
 pub returns-clause-moves : goal.returns-clause-moves
@@ -19,6 +19,6 @@ returns-clause-moves c =
     let world = c.args.world.now in
     let found = ap (λ (s : Option ℕ). scope_named true (label_at world) (event_at world) c.args.name (outer_of world.scopes s))
     (sym c.scope.ensures) ∙ sym c.find.ensures ∙ c.in-Some.is in
-    λ froms numbers book fs ps a.
-    waits_some world.clock (label_at world) (event_at world) c.args.name _ world.tick numbers book c.args.self.now.part froms fs ps a
+    λ cancelled_from numbers book fs ps a.
+    waits_some world.clock (label_at world) (event_at world) c.args.name _ world.tick numbers book c.args.self.now.part cancelled_from fs ps a
     c.in-Some.event _ _ found c.now.ensures refl

@@ -20,7 +20,7 @@ its_end c = record {
   tick = c.args.tick;
   exc = c.in_ok-in_box.in_box;
   entries = c.into_parts-label.result.1;
-  froms = c.into_parts-label.result.2;
+  cancelled_from = c.into_parts-label.result.2;
 }
 
 abbrev after_end : goal.Joined-index_mut → TaskTable
@@ -47,7 +47,7 @@ closes c =
       tick_is = refl;
       exc_is = c.in_ok-in_box.ensures;
       entries = c.into_parts-label.ensures.entries;
-      froms = c.into_parts-label.ensures.froms;
+      cancelled_from = c.into_parts-label.ensures.cancelled_from;
     }
 
 pub returns-clause-ended : goal.returns-clause-ended

@@ -7,7 +7,7 @@ pub fetch_add-found-requires : goal.fetch_add-found-requires
 fetch_add-found-requires c =
     let claims = c.args.self.now in
     let nones = c.args.pass.now.seat.me.0.nones in
-    let at_most_none : nones ≤ 0 = ltb-false 0 nones c.requires.untold in
+    let at_most_none : nones ≤ 0 = ltb-false 0 nones c.requires.unspent in
     let requests = claims.word.shared.key.requests in
     let known : requests ≡ claims.requests = claims.known in
     let few = claims.few.0 in

@@ -35,17 +35,17 @@ free-requires c =
 pub returns-clause-count : goal.returns-clause-count
 returns-clause-count c =
     let all = settled _ _ _ _ _ _ _ _ c.close_with-closed.ensures.values.2 c.word-claimed.ensures (search rules) c.joins.invariant.3
-    (search rules) c.requires.told in
+    (search rules) c.requires.spent in
     c.min.ensures ∙ (subst (λ n. Settled n c.word-claimed.result c.args.passes.items) c.args.self.known all).count
 
 pub returns-clause-each_once : goal.returns-clause-each_once
 returns-clause-each_once c =
     let all = settled _ _ _ _ _ _ _ _ c.close_with-closed.ensures.values.2 c.word-claimed.ensures (search rules) c.joins.invariant.3
-    (search rules) c.requires.told in
+    (search rules) c.requires.spent in
     (subst (λ n. Settled n c.word-claimed.result c.args.passes.items) c.args.self.known all).each_once
 
 pub returns-clause-no_other : goal.returns-clause-no_other
 returns-clause-no_other c =
     let all = settled _ _ _ _ _ _ _ _ c.close_with-closed.ensures.values.2 c.word-claimed.ensures (search rules) c.joins.invariant.3
-    (search rules) c.requires.told in
+    (search rules) c.requires.spent in
     (subst (λ n. Settled n c.word-claimed.result c.args.passes.items) c.args.self.known all).no_other

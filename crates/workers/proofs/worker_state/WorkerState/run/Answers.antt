@@ -1,5 +1,5 @@
 use Rattle.std.proofs.Common.{rules, arith, ◌≡◌, ◌∙◌, ap, false}
-use Rattle.workers.specs.Claims.{drawn_by, was_told, IsPassOf}
+use Rattle.workers.specs.Claims.{drawn_by, is_spent, IsPassOf}
 use Rattle.std.proofs.Common.{sym, subst}
 use Rattle.workers.proofs.WorkerStateLemmas.{top, top-at_most, top-push, drawn-one_more}
 use Rattle.workers.proofs.worker_state.WorkerState.run.Goals as goal
@@ -20,10 +20,10 @@ draws-preserved g c =
     let i = c.in-Some.number in
     let inside = c.in-Some.ensures.number.0 in
     let count = c.requires.count in
-    let untold : was_told c.claim.new.pass ≡ false = search rules in
+    let unspent : is_spent c.claim.new.pass ≡ false = search rules in
     record {
       pass = subst (IsPassOf c.args.claims.now) (sym c.note.ensures.pass) c.in-Some.ensures.same;
-      untold = ap was_told c.note.ensures.pass ∙ untold;
+      unspent = ap is_spent c.note.ensures.pass ∙ unspent;
       answered =
           λ fits.
           let more = c.note.ensures.more fits in

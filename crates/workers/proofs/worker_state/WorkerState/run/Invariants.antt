@@ -1,5 +1,5 @@
 use Rattle.std.proofs.Common.{◌≡◌, ◌-◌, length, false}
-use Rattle.workers.specs.Claims.{IsPassOf, drawn_by, was_told}
+use Rattle.workers.specs.Claims.{IsPassOf, drawn_by, is_spent}
 use Rattle.workers.specs.WorkerStates.{AreDrawn}
 use Rattle.workers.proofs.WorkerStateLemmas.{top}
 use Rattle.workers.proofs.worker_state.WorkerState.run.Given as goal
@@ -7,7 +7,7 @@ use Rattle.workers.proofs.worker_state.WorkerState.run.Given as goal
 abbrev pub invariant-draws : goal.invariant-draws
 invariant-draws g l = record {
   pass : IsPassOf l.claims l.self.pass;
-  untold : was_told l.self.pass ≡ false;
+  unspent : is_spent l.self.pass ≡ false;
   answered : l.self.refused ≡ false → AreDrawn l.requests (drawn_by l.self.pass) l.self.answered.items;
 }
 

@@ -1,6 +1,0 @@
-use Rattle.std.proofs.Common.{refl}
-use Rattle.job_story.proofs.Teller.{is_failed}
-use Rattle.job_story.proofs.told.Told.failure.Goals as goal
-
-pub returns : goal.returns
-returns c = λ own story. is_failed _ _ _ own story refl refl refl c.new.ensures.items
