@@ -6,12 +6,10 @@ use Rattle.exceptions.specs.Exceptions.{Label}
 use Rattle.cancel_scopes.specs.Sight.{Tick}
 use Rattle.job_meaning.specs.Log.{Table}
 use Rattle.job_meaning.specs.Meaning.{meaning_end, meaning_table}
-use Rattle.job_reader.specs.Refusals.{Spells}
 use Rattle.job_story.specs.Events.{Event}
 use Rattle.job_story.specs.Focus.{task_named}
 use Rattle.story_index.specs.Nearest.{nearest_in}
 use Rattle.job_answers.specs.declared.meaning.Ending.{Ending}
-use Rattle.job_answers.specs.declared.meaning.Ending.TheVariants.{Done, Raised, Late}
 use Rattle.job_answers.specs.declared.story_verdict.StoryVerdict.{StoryVerdict}
 use Rattle.job_answers.specs.declared.story_verdict.StoryVerdict.TheVariants as story
 use Rattle.job_answers.specs.Stories.{story_events, until_if, label_or_nothing, IsAbout}
@@ -21,7 +19,10 @@ use Rattle.job_meaning.specs.Moments.{clock_of}
 use Rattle.job_meaning.specs.declared.clock.Clock.{Clock}
 use Rattle.json_story.specs.Values.{document}
 use Rattle.json_story.specs.Stories.{story_json}
-use Rattle.commands.specs.Explaining.{meaning_story, IsStoryVerdict, IsStory, IsStoryAbout}
+use Rattle.job_answers.specs.Views.{IsStoryVerdict}
+use Rattle.job_answers.proofs.Views.{story_verdict_is}
+use Rattle.commands.specs.Explaining.{IsStoryAbout}
+use Rattle.commands.specs.Serving.{json_view}
 
 -- ---- which task was asked for
 
@@ -51,42 +52,25 @@ story_about_some clock name table until ending asked text walked given bytes is 
 
 -- ---- the verdict on a job
 
-verdict_is : (job : Tree) (input : List ℕ) (limit : ℕ) (asked : Option (List ℕ)) (ending : Ending) (task : Option Label)
-    (bytes : List ℕ) → IsEnding job input limit ending → IsAbout asked (story_events limit job input) task →
-    bytes ≡ meaning_story limit job input task → IsStoryVerdict job input limit asked (verdict_of ending) bytes
-verdict_is job input limit asked Done task bytes h about is = (record { task = task; about = about; story = is }, h)
-verdict_is job input limit asked Raised task bytes h about is = (record { task = task; about = about; story = is }, h)
-verdict_is job input limit asked Late task bytes h about is = (record { task = task; about = about; story = is }, h)
-
 by_about : (job : Tree) (input : List ℕ) (limit : ℕ) (asked : Option (List ℕ)) (ending : Ending) (given : StoryVerdict)
     (bytes : List ℕ) → IsEnding job input limit ending →
     IsStoryAbout (clock_of job.format) job.name (meaning_table job input) (until_if (nat_le (meaning_end job input) limit) limit) ending asked (story_events limit job input) given bytes →
-    IsStoryVerdict job input limit asked given bytes
+    IsStoryVerdict json_view job input limit asked given bytes
 by_about job input limit asked ending given bytes h (inl t) =
-    subst (λ (v : StoryVerdict). IsStoryVerdict job input limit asked v bytes) (sym t.2)
-    (verdict_is job input limit asked ending t.0 bytes h t.1 t.3)
+    subst (λ (v : StoryVerdict). IsStoryVerdict json_view job input limit asked v bytes) (sym t.2)
+    (story_verdict_is json_view job input limit asked ending t.0 bytes h t.1 t.3)
 by_about job input limit asked ending given bytes h (inr t) =
-    subst (λ (v : StoryVerdict). IsStoryVerdict job input limit asked v bytes) (sym t.2) (t.1, t.3)
+    subst (λ (v : StoryVerdict). IsStoryVerdict json_view job input limit asked v bytes) (sym t.2) (t.1, t.3)
 
 -- the verdict and the document for a job that was read: that of the story of its meaning
 pub job_explained : (job : Tree) (input : List ℕ) (limit : ℕ) (asked : Option (List ℕ)) (ending : Ending) (clock : Clock) (table : Table)
     (until : Tick) (walked : List Event) (given : StoryVerdict) (bytes : List ℕ) → IsEnding job input limit ending →
     clock ≡ clock_of job.format → table ≡ meaning_table job input → until ≡ until_if (nat_le (meaning_end job input) limit) limit →
     walked ≡ story_events limit job input →
-    IsStoryAbout clock job.name table until ending asked walked given bytes → IsStoryVerdict job input limit asked given bytes
+    IsStoryAbout clock job.name table until ending asked walked given bytes → IsStoryVerdict json_view job input limit asked given bytes
 job_explained job input limit asked ending clock table until walked given bytes h counts same until_is walked_is t =
     by_about job input limit asked ending given bytes h
     (subst (λ (es : List Event). IsStoryAbout (clock_of job.format) job.name (meaning_table job input) (until_if (nat_le (meaning_end job input) limit) limit) ending asked es given bytes) walked_is
     (subst (λ (u : Tick). IsStoryAbout (clock_of job.format) job.name (meaning_table job input) u ending asked walked given bytes) until_is
     (subst (λ (k : Table). IsStoryAbout (clock_of job.format) job.name k until ending asked walked given bytes) same
     (subst (λ (c : Clock). IsStoryAbout c job.name table until ending asked walked given bytes) counts t))))
-
--- ---- the verdict on a text
-
-pub of_spelt : (text input : List ℕ) (limit : ℕ) (asked : Option (List ℕ)) (verdict : StoryVerdict) (bytes : List ℕ) (job : Tree) →
-    Spells text job → IsStoryVerdict job input limit asked verdict bytes → IsStory text input limit asked verdict bytes
-of_spelt text input limit asked story.Done bytes job spelt h = (job, spelt, h)
-of_spelt text input limit asked story.Raised bytes job spelt h = (job, spelt, h)
-of_spelt text input limit asked (story.JobRefused fault) bytes job spelt h = absurd h
-of_spelt text input limit asked story.Limit bytes job spelt h = (job, spelt, h)
-of_spelt text input limit asked (story.NoTask nearest) bytes job spelt h = (job, spelt, h)

@@ -1,17 +1,17 @@
 -- What `chart` writes: the chart of a job's meaning over an input, or the refusal that the meaning names.
-use Rattle.std.specs.Prelude.{◌≡◌, ℕ, nat_le, List}
+use Rattle.std.specs.Prelude.{◌≡◌, ℕ, List}
 use Rattle.job_tree.specs.Tree.{Tree}
 use Rattle.cancel_scopes.specs.Sight.{Tick}
 use Rattle.job_reader.specs.Refusals.{Spells, IsRefused}
 use Rattle.job_meaning.specs.Log.{Table}
 use Rattle.job_meaning.specs.Moments.{clock_of}
 use Rattle.job_meaning.specs.declared.clock.Clock.{Clock}
-use Rattle.job_meaning.specs.Meaning.{meaning_end, meaning_table}
+use Rattle.job_meaning.specs.Meaning.{meaning_table}
 use Rattle.job_story.specs.Events.{Event}
 use Rattle.job_answers.specs.Verdict.{refusal_line}
 use Rattle.job_answers.specs.declared.verdict.Verdict.{Verdict}
 use Rattle.job_answers.specs.declared.verdict.Verdict.TheVariants.{Done, Raised, JobRefused, Limit}
-use Rattle.job_answers.specs.Stories.{story_events, until_if}
+use Rattle.job_answers.specs.Stories.{story_events, shown_until}
 use Rattle.job_answers.specs.Endings.{IsEnding}
 use Rattle.job_answers.specs.declared.meaning.Ending.{Ending}
 use Rattle.job_answers.specs.declared.meaning.Ending.TheVariants as ending
@@ -30,7 +30,7 @@ chart_of clock (Svg width) table until walked = chart_svg clock width table unti
 -- the chart of a meaning: whole where it ends by the limit, and up to the limit otherwise
 abbrev pub meaning_chart : ChartForm → ℕ → Tree → List ℕ → List ℕ
 meaning_chart form limit job input =
-    chart_of (clock_of job.format) form (meaning_table job input) (until_if (nat_le (meaning_end job input) limit) limit)
+    chart_of (clock_of job.format) form (meaning_table job input) (shown_until limit job input)
     (story_events limit job input)
 
 -- an SVG document is well formed

@@ -2,8 +2,8 @@ pub mod Formats
 pub mod Scaled
 pub mod FormatStatuses
 pub mod Answers
-pub mod Serving
 pub mod Explaining
+pub mod Serving
 pub mod Charts
 pub mod Forms
 pub mod Faults

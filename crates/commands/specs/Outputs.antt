@@ -3,7 +3,6 @@ use Rattle.std.specs.Prelude.{◌⊎◌, ℕ, false, Option, Some, None, List, [
 use Rattle.job_reader.specs.declared.fault.JobFault.{JobFault}
 use Rattle.job_answers.specs.Verdict as reports
 use Rattle.job_answers.specs.declared.verdict.Verdict.{Verdict}
-use Rattle.job_answers.specs.Stories as stories
 use Rattle.job_answers.specs.declared.story_verdict.StoryVerdict.{StoryVerdict}
 use Rattle.commands.specs.Charts as charts
 use Rattle.commands.specs.declared.chart_form.ChartForm.TheVariants as drawn
@@ -34,7 +33,7 @@ IsReport text input limit bytes = (verdict : Verdict) × reports.IsVerdict text 
 
 -- the story of all tasks
 abbrev pub IsStory : (text input : List ℕ) → (limit : ℕ) → (bytes : List ℕ) → Type 0
-IsStory text input limit bytes = (verdict : StoryVerdict) × stories.IsVerdict text input limit None verdict bytes
+IsStory text input limit bytes = (verdict : StoryVerdict) × reports.IsStoryText text input limit None verdict bytes
 
 -- the chart as a text of 80 columns
 abbrev pub IsChart : (text input : List ℕ) → (limit : ℕ) → (bytes : List ℕ) → Type 0

@@ -1,29 +1,33 @@
--- What `report_document` returns: the report of a job's meaning over an input as JSON, or the refusal that the meaning names.
-use Rattle.std.specs.Prelude.{◌≡◌, ℕ, ◌≤◌, ◌<◌, List, IsSome, IsNone}
+-- What `report_document` and `story_document` return: the report or the story of a job's meaning over an input as JSON, or the refusal
+-- that the meaning names.
+use Rattle.std.specs.Prelude.{ℕ, Option, List}
 use Rattle.job_tree.specs.Tree.{Tree}
-use Rattle.job_reader.specs.Refusals.{Spells, IsRefused}
-use Rattle.job_meaning.specs.Meaning.{meaning, meaning_end}
+use Rattle.job_reader.specs.declared.fault.JobFault.{JobFault}
 use Rattle.job_meaning.specs.Shown.{meaning_rows}
+use Rattle.job_answers.specs.Views.{View, IsReport, IsStory}
 use Rattle.job_answers.specs.declared.verdict.Verdict.{Verdict}
-use Rattle.job_answers.specs.declared.verdict.Verdict.TheVariants.{Done, Raised, JobRefused, Limit}
+use Rattle.job_answers.specs.declared.story_verdict.StoryVerdict.{StoryVerdict}
 use Rattle.json_story.specs.Values.{report_json, document}
 use Rattle.commands.specs.Answers.{refusal_json, limit_json}
+use Rattle.commands.specs.Explaining.{meaning_story}
 
 -- the report of a job's meaning over an input, as a JSON document
 abbrev pub meaning_report : Tree → List ℕ → List ℕ
 meaning_report job input = document (report_json job.name (meaning_rows job input))
 
--- The verdict on a job that was read, and its bytes: the report if the job ends by the limit, or else the limit.
-abbrev pub IsJobVerdict : Tree → List ℕ → ℕ → Verdict → List ℕ → Type 0
-IsJobVerdict job input limit Done bytes = (meaning_end job input ≤ limit) × (bytes ≡ meaning_report job input)
-    × IsNone (meaning job input).exc
-IsJobVerdict job input limit Raised bytes = (meaning_end job input ≤ limit) × (bytes ≡ meaning_report job input)
-    × IsSome (meaning job input).exc
-IsJobVerdict job input limit (JobRefused fault) bytes = ⊥
-IsJobVerdict job input limit Limit bytes = (limit < meaning_end job input) × (bytes ≡ document (limit_json limit))
+-- as JSON documents
+abbrev pub json_view : View
+json_view = record {
+  refusal = λ (text : List ℕ) (fault : JobFault). document (refusal_json text fault);
+  late = λ (limit : ℕ). document (limit_json limit);
+  report = meaning_report;
+  story = meaning_story;
+}
 
--- A verdict and its bytes: that on the job which the text spells, or the refusal that the meaning names.
+-- a verdict and its bytes: the report, or the limit, or the refusal
 abbrev pub IsVerdict : List ℕ → List ℕ → ℕ → Verdict → List ℕ → Type 0
-IsVerdict text input limit (JobRefused fault) bytes =
-    IsRefused text fault.kind fault.at × (bytes ≡ document (refusal_json text fault))
-IsVerdict text input limit verdict bytes = (job : Tree) × Spells text job × IsJobVerdict job input limit verdict bytes
+IsVerdict text input limit verdict bytes = IsReport json_view text input limit verdict bytes
+
+-- a verdict and its bytes: the story, or nothing if no task has the label that was asked for, or the refusal
+abbrev pub IsStoryDocument : List ℕ → List ℕ → ℕ → Option (List ℕ) → StoryVerdict → List ℕ → Type 0
+IsStoryDocument text input limit asked verdict bytes = IsStory json_view text input limit asked verdict bytes

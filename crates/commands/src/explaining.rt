@@ -1,7 +1,8 @@
 ghost use Rattle.std.specs.Prelude.{◌≤◌, length, IfOk};
 ghost use Rattle.std.specs.Option.{option_copied};
 ghost use Rattle.job_meaning.specs.declared.limits.TheConstants.{MAX_INPUT};
-ghost use Rattle.commands.specs.Explaining.{IsStoryVerdict, IsStory};
+ghost use Rattle.job_answers.specs.Views.{IsStoryVerdict};
+ghost use Rattle.commands.specs.Serving.{IsStoryDocument, json_view};
 
 use crate::about::story_about;
 use crate::answers::refusal;
@@ -20,7 +21,7 @@ use std::thread::Threads;
 ///
 /// The number of workers, the picker and the gate do not change any byte. The caller must ensure that the input has at most
 /// 16,777,216 bytes (`MAX_INPUT`). The only error is that memory runs out.
-#[tactic(auto, using(crate::proofs::Explained::of_spelt))]
+#[tactic(auto, using(crate::proofs::Served::story_of_spelt))]
 pub fn story_document<R: Threads + Sync, P: Pick, G: Gate + Sync>(
     rt: &R,
     alloc: Global,
@@ -32,7 +33,7 @@ pub fn story_document<R: Threads + Sync, P: Pick, G: Gate + Sync>(
     requires { length question.now.input.now ≤ MAX_INPUT }
 
     // The bytes are the story of the meaning as JSON, or the refusal that it names.
-    ensures { IfOk result (λ answer. IsStory question.now.text.now question.now.input.now question.now.settings.limit
+    ensures { IfOk result (λ answer. IsStoryDocument question.now.text.now question.now.input.now question.now.settings.limit
         (option_copied task.entry) answer.verdict answer.bytes.items) }
 {
     let job_text = question.text;
@@ -62,7 +63,7 @@ fn job_story<R: Threads + Sync, P: Pick, G: Gate + Sync>(
     gate: &G,
 ) -> Result<Answer<StoryVerdict>, AllocError>
     requires { length question.now.input.now ≤ MAX_INPUT }
-    ensures { IfOk result (λ answer. IsStoryVerdict job.now question.now.input.now question.now.settings.limit (option_copied task.entry)
+    ensures { IfOk result (λ answer. IsStoryVerdict json_view job.now question.now.input.now question.now.settings.limit (option_copied task.entry)
         answer.verdict answer.bytes.items) }
 {
     let story = story_of(rt, alloc, job, question, picker, gate)?;

@@ -1,6 +1,7 @@
 ghost use Rattle.std.specs.Prelude.{◌≤◌, length, IfOk};
 ghost use Rattle.job_meaning.specs.declared.limits.TheConstants.{MAX_INPUT};
-ghost use Rattle.commands.specs.Serving.{IsJobVerdict, IsVerdict};
+ghost use Rattle.job_answers.specs.Views.{IsReportVerdict};
+ghost use Rattle.commands.specs.Serving.{IsVerdict, json_view};
 
 use crate::answers::{past_limit, refusal};
 use job_answers::Verdict;
@@ -16,7 +17,7 @@ use std::thread::Threads;
 ///
 /// The number of workers, the picker and the gate do not change any byte. The caller must ensure that the input has at most
 /// 16,777,216 bytes (`MAX_INPUT`). The only error is that memory runs out.
-#[tactic(auto, using(crate::proofs::Served::of_spelt))]
+#[tactic(auto, using(crate::proofs::Served::report_of_spelt))]
 pub fn report_document<R: Threads + Sync, P: Pick, G: Gate + Sync>(
     rt: &R,
     alloc: Global,
@@ -56,7 +57,7 @@ fn job_answer<R: Threads + Sync, P: Pick, G: Gate + Sync>(
     gate: &G,
 ) -> Result<Answer<Verdict>, AllocError>
     requires { length question.now.input.now ≤ MAX_INPUT }
-    ensures { IfOk result (λ answer. IsJobVerdict job.now question.now.input.now question.now.settings.limit answer.verdict answer.bytes.items) }
+    ensures { IfOk result (λ answer. IsReportVerdict json_view job.now question.now.input.now question.now.settings.limit answer.verdict answer.bytes.items) }
 {
     match run(
         rt,

@@ -24,7 +24,10 @@ use Rattle.job_answers.specs.declared.story_verdict.StoryVerdict.{StoryVerdict}
 use Rattle.job_answers.specs.declared.story_verdict.StoryVerdict.TheVariants as verdict
 use Rattle.job_answers.specs.declared.meaning.Ending.{Ending}
 use Rattle.job_answers.specs.declared.meaning.Ending.TheVariants.{Done, Raised, Late}
-use Rattle.job_answers.specs.Stories.{story_events, story_events_if, story_if, until_if, meaning_story, label_or_nothing, IsAbout, IsAboutNone, IsJobVerdict}
+use Rattle.job_answers.specs.Stories.{story_events, story_events_if, story_if, until_if, meaning_story, label_or_nothing, IsAbout, IsAboutNone}
+use Rattle.job_answers.specs.Views.{IsStoryVerdict}
+use Rattle.job_answers.specs.Verdict.{text_view}
+use Rattle.job_answers.proofs.Views.{story_verdict_is}
 use Rattle.job_answers.specs.Running.{running_lines, IsJobRunning}
 use Rattle.job_answers.specs.Endings.{IsEnding, ending_by, until_of}
 use Rattle.job_answers.specs.Tellings.{IsAsked, IsStoryAbout, verdict_of, story_shown}
@@ -168,29 +171,22 @@ story_about_none clock table until ending asked walked about nearest given bytes
 
 -- ---- the verdict on a job
 
-verdict_is : (job : Tree) (input : List ℕ) (limit : ℕ) (asked : Option (List ℕ)) (ending : Ending) (task : Option Label)
-    (bytes : List ℕ) → IsEnding job input limit ending → IsAbout asked (story_events limit job input) task →
-    bytes ≡ meaning_story limit job input task → IsJobVerdict job input limit asked (verdict_of ending) bytes
-verdict_is job input limit asked Done task bytes h about is = (record { task = task; about = about; story = is }, h)
-verdict_is job input limit asked Raised task bytes h about is = (record { task = task; about = about; story = is }, h)
-verdict_is job input limit asked Late task bytes h about is = (record { task = task; about = about; story = is }, h)
-
 by_about : (job : Tree) (input : List ℕ) (limit : ℕ) (asked : Option (List ℕ)) (ending : Ending) (given : StoryVerdict) (bytes : List ℕ) →
     IsEnding job input limit ending →
     IsStoryAbout (clock_of job.format) (meaning_table job input) (until_if (nat_le (meaning_end job input) limit) limit) ending asked (story_events limit job input) given bytes →
-    IsJobVerdict job input limit asked given bytes
+    IsStoryVerdict text_view job input limit asked given bytes
 by_about job input limit asked ending given bytes h (inl t) =
-    subst (λ (v : StoryVerdict). IsJobVerdict job input limit asked v bytes) (sym t.2)
-    (verdict_is job input limit asked ending t.0 bytes h t.1 (t.3 ∙ story_if_is (nat_le (meaning_end job input) limit) job input limit t.0))
+    subst (λ (v : StoryVerdict). IsStoryVerdict text_view job input limit asked v bytes) (sym t.2)
+    (story_verdict_is text_view job input limit asked ending t.0 bytes h t.1 (t.3 ∙ story_if_is (nat_le (meaning_end job input) limit) job input limit t.0))
 by_about job input limit asked ending given bytes h (inr t) =
-    subst (λ (v : StoryVerdict). IsJobVerdict job input limit asked v bytes) (sym t.2) (t.1, t.3)
+    subst (λ (v : StoryVerdict). IsStoryVerdict text_view job input limit asked v bytes) (sym t.2) (t.1, t.3)
 
 -- the verdict and the bytes for a job that was read: those of the story of its meaning
 pub job_explained : (job : Tree) (input : List ℕ) (limit : ℕ) (asked : Option (List ℕ)) (ending : Ending) (clock : Clock) (table : Table)
     (until : Option ℕ) (walked : List Event) (given : StoryVerdict) (bytes : List ℕ) → IsEnding job input limit ending →
     clock ≡ clock_of job.format → table ≡ meaning_table job input → until ≡ until_if (nat_le (meaning_end job input) limit) limit →
     walked ≡ story_events limit job input →
-    IsStoryAbout clock table until ending asked walked given bytes → IsJobVerdict job input limit asked given bytes
+    IsStoryAbout clock table until ending asked walked given bytes → IsStoryVerdict text_view job input limit asked given bytes
 job_explained job input limit asked ending clock table until walked given bytes h counts same until_is walked_is t =
     by_about job input limit asked ending given bytes h
     (subst (λ (es : List Event). IsStoryAbout (clock_of job.format) (meaning_table job input) (until_if (nat_le (meaning_end job input) limit) limit) ending asked es given bytes) walked_is

@@ -1,10 +1,11 @@
 pub mod Reads
-pub mod Verdict
 pub mod Sending
 pub mod Checking
 pub mod Statuses
 pub mod StoryStatuses
 pub mod Endings
 pub mod Stories
+pub mod Views
+pub mod Verdict
 pub mod Tellings
 pub mod Running

@@ -1,8 +1,7 @@
--- What `explain` writes: the story of a job's meaning over an input, or the refusal that the meaning names.
+-- The story of a job's meaning over an input, and the task that was requested.
 use Rattle.std.specs.Prelude.{◌≡◌, ℕ, Bool, true, false, nat_le, Option, Some, None, List, [], IsSome}
 use Rattle.job_tree.specs.Tree.{Tree}
 use Rattle.exceptions.specs.Exceptions.{Label}
-use Rattle.job_reader.specs.Refusals.{Spells, IsRefused}
 use Rattle.job_meaning.specs.Meaning.{root_label, meaning_end, meaning_table}
 use Rattle.job_story.specs.Tell.{story_by}
 use Rattle.job_story.specs.Events.{Event, events_of}
@@ -10,12 +9,7 @@ use Rattle.job_story.specs.Sentences.{story_text}
 use Rattle.exceptions.specs.Texts.{label_text}
 use Rattle.job_story.specs.Limit.{walked_to, story_to}
 use Rattle.job_story.specs.Focus.{story_of_task, story_of_task_to, task_named}
-use Rattle.job_answers.specs.Verdict.{refusal_line}
 use Rattle.story_index.specs.Nearest.{nearest_in}
-use Rattle.job_answers.specs.Endings.{IsEnding}
-use Rattle.job_answers.specs.declared.meaning.Ending.TheVariants as ending
-use Rattle.job_answers.specs.declared.story_verdict.StoryVerdict.{StoryVerdict}
-use Rattle.job_answers.specs.declared.story_verdict.StoryVerdict.TheVariants.{Done, Raised, JobRefused, Limit, NoTask}
 
 -- ---- the story of a meaning
 
@@ -38,6 +32,10 @@ story_if false limit job input task = front_story limit job input task
 abbrev pub until_if : Bool → ℕ → Option ℕ
 until_if true limit = None
 until_if false limit = Some limit
+
+-- the limit, where the meaning ends later
+abbrev pub shown_until : ℕ → Tree → List ℕ → Option ℕ
+shown_until limit job input = until_if (nat_le (meaning_end job input) limit) limit
 
 -- the story of a meaning: whole where it ends by the limit, and up to the limit otherwise
 abbrev pub meaning_story : ℕ → Tree → List ℕ → Option Label → List ℕ
@@ -67,27 +65,3 @@ IsAbout (Some text) es task = IsSome task × (task ≡ task_named text es)
 abbrev pub IsAboutNone : Option (List ℕ) → List Event → List ℕ → Type 0
 IsAboutNone None es nearest = ⊥
 IsAboutNone (Some text) es nearest = (task_named text es ≡ None) × (nearest ≡ label_or_nothing (nearest_in text es))
-
--- ---- verdicts
-
--- these bytes are the story of the job's meaning, or of the task that was asked for
-pub record IsJobStory (job : Tree) (input : List ℕ) (limit : ℕ) (asked : Option (List ℕ)) (bytes : List ℕ) : Type 0 where
-  pub task : Option Label
-  pub about : IsAbout asked (story_events limit job input) task
-  pub story : bytes ≡ meaning_story limit job input task
-
--- The verdict on a job that was read, and its bytes: the story of the meaning, or nothing where no task has the label.
-abbrev pub IsJobVerdict : Tree → List ℕ → ℕ → Option (List ℕ) → StoryVerdict → List ℕ → Type 0
-IsJobVerdict job input limit asked Done bytes =
-    IsJobStory job input limit asked bytes × IsEnding job input limit ending.Done
-IsJobVerdict job input limit asked Raised bytes =
-    IsJobStory job input limit asked bytes × IsEnding job input limit ending.Raised
-IsJobVerdict job input limit asked (JobRefused fault) bytes = ⊥
-IsJobVerdict job input limit asked Limit bytes = IsJobStory job input limit asked bytes × IsEnding job input limit ending.Late
-IsJobVerdict job input limit asked (NoTask nearest) bytes =
-    IsAboutNone asked (story_events limit job input) nearest.items × (bytes ≡ [])
-
--- A verdict and its bytes: that on the job that the text spells, or the refusal that the meaning names.
-abbrev pub IsVerdict : List ℕ → List ℕ → ℕ → Option (List ℕ) → StoryVerdict → List ℕ → Type 0
-IsVerdict text input limit asked (JobRefused fault) bytes = IsRefused text fault.kind fault.at × (bytes ≡ refusal_line fault)
-IsVerdict text input limit asked verdict bytes = (job : Tree) × Spells text job × IsJobVerdict job input limit asked verdict bytes

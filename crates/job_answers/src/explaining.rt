@@ -1,7 +1,7 @@
 ghost use Rattle.std.specs.Prelude.{◌≤◌, length, IfOk};
 ghost use Rattle.std.specs.Option.{option_copied};
 ghost use Rattle.job_meaning.specs.declared.limits.TheConstants.{MAX_INPUT};
-ghost use Rattle.job_answers.specs.Stories.{IsVerdict};
+ghost use Rattle.job_answers.specs.Verdict.{IsStoryText};
 
 use crate::refusal;
 use crate::story_verdict::StoryVerdict;
@@ -20,6 +20,7 @@ use std::thread::Threads;
 ///
 /// The number of workers, the picker and the gate change no byte. The caller must ensure that the input has at most 16,777,216
 /// bytes (`MAX_INPUT`). The only error is that memory runs out.
+#[tactic(auto, using(crate::proofs::Views::story_of_text))]
 pub fn explain<R: Threads + Sync, P: Pick, G: Gate + Sync>(
     rt: &R,
     alloc: Global,
@@ -31,7 +32,7 @@ pub fn explain<R: Threads + Sync, P: Pick, G: Gate + Sync>(
     requires { length question.now.input.now ≤ MAX_INPUT }
 
     // The bytes are the story of the meaning, or the refusal that the meaning names.
-    ensures { IfOk result (λ answer. IsVerdict question.now.text.now question.now.input.now question.now.settings.limit
+    ensures { IfOk result (λ answer. IsStoryText question.now.text.now question.now.input.now question.now.settings.limit
         (option_copied task.entry) answer.verdict answer.bytes.items) }
 {
     match read_job(alloc, question.text) {

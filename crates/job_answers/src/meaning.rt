@@ -1,12 +1,12 @@
-ghost use Rattle.std.specs.Prelude.{◌≡◌, ◌≤◌, nat_le, length, map, IfOk};
+ghost use Rattle.std.specs.Prelude.{◌≡◌, ◌≤◌, length, map, IfOk};
 ghost use Rattle.job_meaning.specs.declared.limits.TheConstants.{MAX_INPUT};
-ghost use Rattle.job_meaning.specs.Meaning.{meaning_end, meaning_table};
+ghost use Rattle.job_meaning.specs.Meaning.{meaning_table};
 ghost use Rattle.job_runner.specs.Runs.{rows_of};
 ghost use Rattle.job_story.specs.CancelledFrom.{table_in};
 ghost use Rattle.job_meaning.specs.Clocks.{clock_of};
 ghost use Rattle.job_story.specs.Held.{event_of};
 ghost use Rattle.story_index.specs.Seen.{event_in};
-ghost use Rattle.job_answers.specs.Stories.{story_events, until_if};
+ghost use Rattle.job_answers.specs.Stories.{story_events, shown_until};
 ghost use Rattle.job_answers.specs.Endings.{IsEnding, ending_by, until_of};
 ghost use Rattle.job_answers.specs.Tellings.{verdict_of, events_shown};
 
@@ -84,8 +84,7 @@ pub fn story_of<R: Threads + Sync, P: Pick, G: Gate + Sync>(
     ensures clock { IfOk result (λ story. story.clock ≡ clock_of job.now.format) }
     ensures ending { IfOk result (λ story. IsEnding job.now question.now.input.now question.now.settings.limit story.ending) }
     ensures table { IfOk result (λ story. table_in story.table ≡ meaning_table job.now question.now.input.now) }
-    ensures until { IfOk result (λ story. story.until ≡ until_if (nat_le (meaning_end job.now question.now.input.now) question.now.settings.limit)
-        question.now.settings.limit) }
+    ensures until { IfOk result (λ story. story.until ≡ shown_until question.now.settings.limit job.now question.now.input.now) }
     ensures events { IfOk result (λ story. events_shown story ≡ story_events question.now.settings.limit job.now question.now.input.now) }
 {
     let (ending, table) = meaning_of(rt, alloc, job, question, picker, gate)?;

@@ -1,6 +1,7 @@
 ghost use Rattle.std.specs.Prelude.{◌≡◌, ◌<◌, ◌≤◌, length, IfOk, IfErr, OnOk};
 ghost use Rattle.job_meaning.specs.declared.limits.TheConstants.{MAX_INPUT};
-ghost use Rattle.job_answers.specs.Verdict.{IsVerdict, IsRunVerdict};
+ghost use Rattle.job_answers.specs.Views.{IsReportVerdict};
+ghost use Rattle.job_answers.specs.Verdict.{IsVerdict, text_view};
 ghost use Rattle.job_answers.specs.Sending.{IsSent, IsServeFault, CountsFailure};
 ghost use Rattle.job_report.specs.declared.limits.TheConstants.{MAX_FAILURES};
 
@@ -50,6 +51,7 @@ pub fn serve<R: Threads + Sync, P: Pick, G: Gate + Sync, W: Out>(
 
 /// Returns what `serve` writes, and its verdict. The only error is that memory runs out. The caller must ensure that the input
 /// has at most `MAX_INPUT` bytes.
+#[tactic(auto, using(crate::proofs::Views::report_of_text))]
 pub fn report_answer<R: Threads + Sync, P: Pick, G: Gate + Sync>(
     rt: &R,
     alloc: Global,
@@ -85,7 +87,7 @@ fn run_answer<R: Threads + Sync, P: Pick, G: Gate + Sync>(
     gate: &G,
 ) -> Result<Answer<Verdict>, AllocError>
     requires { length question.now.input.now ≤ MAX_INPUT }
-    ensures { IfOk result (λ answer. IsRunVerdict job.now question.now.input.now question.now.settings.limit answer.verdict answer.bytes.items) }
+    ensures { IfOk result (λ answer. IsReportVerdict text_view job.now question.now.input.now question.now.settings.limit answer.verdict answer.bytes.items) }
 {
     match run(
         rt,

@@ -3,7 +3,8 @@ ghost use Rattle.std.specs.Option.{option_copied};
 ghost use Rattle.job_meaning.specs.declared.limits.TheConstants.{MAX_INPUT};
 ghost use Rattle.job_story.specs.CancelledFrom.{table_in};
 ghost use Rattle.story_index.specs.Seen.{event_in};
-ghost use Rattle.job_answers.specs.Stories.{IsJobVerdict};
+ghost use Rattle.job_answers.specs.Views.{IsStoryVerdict};
+ghost use Rattle.job_answers.specs.Verdict.{text_view};
 ghost use Rattle.job_answers.specs.Tellings.{IsStoryAbout};
 
 use crate::about::{About, about_of};
@@ -28,7 +29,7 @@ pub(crate) fn job_verdict<R: Threads + Sync, P: Pick, G: Gate + Sync>(
     gate: &G,
 ) -> Result<Answer<StoryVerdict>, AllocError>
     requires { length question.now.input.now ≤ MAX_INPUT }
-    ensures { IfOk result (λ answer. IsJobVerdict job.now question.now.input.now question.now.settings.limit (option_copied task.entry)
+    ensures { IfOk result (λ answer. IsStoryVerdict text_view job.now question.now.input.now question.now.settings.limit (option_copied task.entry)
         answer.verdict answer.bytes.items) }
 {
     let story = story_of(rt, alloc, job, question, picker, gate)?;

@@ -3,8 +3,7 @@ ghost use Rattle.std.specs.Option.{option_copied};
 ghost use Rattle.job_meaning.specs.declared.limits.TheConstants.{MAX_INPUT};
 ghost use Rattle.job_answers.specs.Statuses.{status_of};
 ghost use Rattle.job_answers.specs.StoryStatuses.{story_status_of};
-ghost use Rattle.job_answers.specs.Verdict.{IsVerdict};
-ghost use Rattle.job_answers.specs.Stories as stories;
+ghost use Rattle.job_answers.specs.Verdict.{IsVerdict, IsStoryText};
 ghost use Rattle.nursery.specs.Statuses.{Tells};
 
 use crate::documents::{explain_as_json, run_as_json};
@@ -98,7 +97,7 @@ fn explain_text<R: Print + Eprint + Threads + Sync + AllocGlobal>(
     task: Option<&str>,
 ) -> Result<u8, Stop>
     requires { length question.now.input.now ≤ MAX_INPUT }
-    ensures { IfOk result (Tells story_status_of (stories.IsVerdict question.now.text.now question.now.input.now question.now.settings.limit
+    ensures { IfOk result (Tells story_status_of (IsStoryText question.now.text.now question.now.input.now question.now.settings.limit
         (option_copied task.entry))) }
 {
     let asked = bytes_of(task);

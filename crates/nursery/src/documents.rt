@@ -3,8 +3,7 @@ ghost use Rattle.std.specs.Option.{option_copied};
 ghost use Rattle.job_meaning.specs.declared.limits.TheConstants.{MAX_INPUT};
 ghost use Rattle.job_answers.specs.Statuses.{status_of};
 ghost use Rattle.job_answers.specs.StoryStatuses.{story_status_of};
-ghost use Rattle.commands.specs.Serving.{IsVerdict};
-ghost use Rattle.commands.specs.Explaining.{IsStory};
+ghost use Rattle.commands.specs.Serving.{IsVerdict, IsStoryDocument};
 ghost use Rattle.nursery.specs.Statuses.{Tells, table_form};
 
 use crate::answers::{bytes_of, conclude_run, conclude_story};
@@ -43,7 +42,7 @@ pub(crate) fn explain_as_json<R: Print + Eprint + Threads + Sync + AllocGlobal>(
     task: Option<&str>,
 ) -> Result<u8, Stop>
     requires { length question.now.input.now ≤ MAX_INPUT }
-    ensures { IfOk result (Tells story_status_of (IsStory question.now.text.now question.now.input.now question.now.settings.limit
+    ensures { IfOk result (Tells story_status_of (IsStoryDocument question.now.text.now question.now.input.now question.now.settings.limit
         (option_copied task.entry))) }
 {
     let asked = bytes_of(task);

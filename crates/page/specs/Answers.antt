@@ -1,18 +1,17 @@
 -- What `page` returns: a page about a job, made of what the other commands say of it, or the refusal of its text.
-use Rattle.std.specs.Prelude.{◌≡◌, ◌⊎◌, ℕ, false, true, nat_le, None, List, [], ◌∷◌, ◌++◌, codes, map, take}
+use Rattle.std.specs.Prelude.{◌≡◌, ◌⊎◌, ℕ, false, true, None, List, [], ◌∷◌, ◌++◌, codes, map, take}
 use Rattle.job_tree.specs.Tree.{Tree}
 use Rattle.job_tokens.specs.declared.token.Token.{Token}
 use Rattle.job_reader.specs.Refusals.{Spells, HasTokens, IsRefused}
 use Rattle.job_lint.specs.Linted.{AreWarnings}
 use Rattle.job_lint.specs.Sentences.{sentence_of}
 use Rattle.job_lint.specs.declared.warning.Warning.{Warning}
-use Rattle.job_meaning.specs.Meaning.{meaning_end, meaning_table}
+use Rattle.job_meaning.specs.Meaning.{meaning_table}
 use Rattle.job_meaning.specs.Moments.{clock_of}
 use Rattle.basics.specs.Places.{line_of}
 use Rattle.job_answers.specs.Verdict as reports
 use Rattle.job_answers.specs.Verdict.{refusal_line}
-use Rattle.job_answers.specs.Stories as stories
-use Rattle.job_answers.specs.Stories.{until_if, story_events}
+use Rattle.job_answers.specs.Stories.{shown_until, story_events}
 use Rattle.job_answers.specs.declared.verdict.Verdict.{Verdict}
 use Rattle.job_answers.specs.declared.verdict.Verdict.TheVariants.{JobRefused}
 use Rattle.job_answers.specs.declared.story_verdict.StoryVerdict.{StoryVerdict}
@@ -65,14 +64,14 @@ abbrev pub job_rows : ℕ → Tree → List ℕ → List Row
 job_rows limit job input =
     rows_from 0
     (take MAX_ROWS
-    (bars_of (clock_of job.format) (meaning_table job input) (until_if (nat_le (meaning_end job input) limit) limit)
+    (bars_of (clock_of job.format) (meaning_table job input) (shown_until limit job input)
     (story_events limit job input)))
 
 -- what `run`, `explain` and `chart` write for a text
 pub record AreViews (text input : List ℕ) (limit : ℕ) (verdict : Verdict) (report story chart : List ℕ) : Type 0 where
   pub report_is : reports.IsVerdict text input limit verdict report
   pub ending : StoryVerdict
-  pub story_is : stories.IsVerdict text input limit None ending story
+  pub story_is : reports.IsStoryText text input limit None ending story
   pub drawn : Verdict
   pub chart_is : charts.IsVerdict (Svg WIDTH) text input limit drawn chart
 

@@ -1,11 +1,13 @@
 -- The result of moving the places of a text by a hair.
-use Rattle.std.specs.Prelude.{◌≡◌, ℕ, ◌*◌, ◌<◌, ◌≤◌, Some, None, List, length, map}
+use Rattle.std.specs.Prelude.{◌≡◌, ℕ, ◌*◌, ◌≤◌, Some, None, List, length, map}
 use Rattle.std.specs.Io.Iter.{u64_saturate}
 use Rattle.job_tree.specs.Tree.{Tree}
 use Rattle.job_tokens.specs.declared.token.Token.{Token}
 use Rattle.job_reader.specs.Refusals.{Spells, HasTokens}
 use Rattle.job_meaning.specs.Moments.{clock_of}
 use Rattle.job_meaning.specs.Meaning.{meaning_end}
+use Rattle.job_answers.specs.Endings.{IsEnding}
+use Rattle.job_answers.specs.declared.meaning.Ending.TheVariants as ending
 use Rattle.job_edits.specs.Sites.{sites_in}
 use Rattle.job_edits.specs.Copied.{copied_in}
 use Rattle.job_edits.specs.FinerTicks.{finer_ticks_for, hair_scope, shifts_of}
@@ -35,7 +37,7 @@ pub record AreRaceLines (text input : List ℕ) (limit : ℕ) (hairs : ℕ) (lin
 pub record IsLate (text input : List ℕ) (limit : ℕ) : Type 0 where
   pub job : Tree
   pub spells : Spells text job
-  pub late : limit < meaning_end job input
+  pub late : IsEnding job input limit ending.Late
 
 -- the job that the text spells ends by the limit, and some number of its ticks is too large to be made finer
 pub record HasNoFinerTicks (text input : List ℕ) (limit : ℕ) : Type 0 where
