@@ -17,6 +17,7 @@ use crate::finished::Run;
 use crate::limits::last_tick;
 use crate::runner::{Phase, Runner};
 use crate::settings::Settings;
+use input_lines::Request;
 use job_meaning::Clock;
 use job_reader::{Job, spelled_jobs_are_sound};
 use std::alloc::{AllocError, Global};
@@ -28,6 +29,7 @@ use workers::{Gate, work};
 /// the job's one-thread meaning, whatever the number of workers, the order of picks and the gate: its records, or `Limit` exactly
 /// if the meaning ends later than the limit. Instead of either it may return that memory runs out. The picker picks each turn.
 /// The workers compute the answers to the requests of all tasks that are ready together, and call the gate before and after each.
+/// A worker is a thread of its own only where it has 262,144 bytes to search.
 pub fn run<'a, R: Threads + Sync, P: Pick, G: Gate + Sync>(
     rt: &R,
     alloc: Global,
@@ -123,6 +125,21 @@ fn run_until<'a, R: Threads + Sync, P: Pick, G: Gate + Sync>(
     }
 }
 
+/// The number of bytes that each worker thread has to search at least: to start one takes about as long as to search as many.
+const BYTES_FOR_THREAD: usize = 262_144;
+
+// Returns how many of the workers compute a batch of requests. Of a batch with few bytes one does, in the calling thread.
+fn threads_for(workers: usize, requests: &[Request<'_>]) -> usize
+    requires { 1 ≤ workers }
+    ensures { (1 ≤ result) × (result ≤ workers) }
+{
+    let mut bytes: usize = 0;
+    for request in requests {
+        bytes = bytes.saturating_add(request.part.text().len());
+    }
+    (bytes / BYTES_FOR_THREAD).max(1).min(workers)
+}
+
 // Executes the turns of the ready tasks, each with the answer to its request, which the workers compute.
 fn run_batch<'a, R: Threads + Sync, P: Pick, G: Gate + Sync>(
     rt: &R,
@@ -141,7 +158,8 @@ fn run_batch<'a, R: Threads + Sync, P: Pick, G: Gate + Sync>(
     ensures turns { IfOk result (λ r. runner.entry.turns < r.turns) }
 {
     let requests = runner.requests()?;
-    let answers = work(rt, alloc, workers, requests.as_slice(), gate)?;
+    let threads = threads_for(workers, requests.as_slice());
+    let answers = work(rt, alloc, threads, requests.as_slice(), gate)?;
     let runner = runner.commit(answers, picker)?;
     Ok(runner)
 }

@@ -220,15 +220,15 @@ const LOOKS: u32 = 100_000_000;
 const TWO_TASKS: &[u8] =
     b"trio-job 1\njob main { nursery n { start p over 2 { longest; head 1; } } }";
 
+// Two tasks, each with a request over its half, in which it finds nothing.
+const TWO_SEARCHES: &[u8] =
+    b"trio-job 1\njob main { nursery n { start p over 2 { find \"x\"; } } }";
+
 const TWO_REPORTS: &[u8] = b"job main 0
 task main 0 0 done
   nursery n 0 passed
 task p.0 0 0 done
-  line 0+2 aa
-  line 0+2 aa
 task p.1 0 0 done
-  line 5+4 cccc
-  line 5+4 cccc
 ";
 
 // A gate at which the first two requests of a batch wait for one another, though not forever.
@@ -283,11 +283,13 @@ impl Both {
 fn two_workers_serve_at_once(rt: HostRuntime) -> Result<(), Fail> {
     let gate = Both::new();
     let settings = Settings::new(2, LIMIT).ok_or("settings")?;
+    // each half pays for a thread
+    let lines = vec![in rt.alloc(); b'\n'; 524_288]?;
     let mut out = MemOut::new(rt.alloc(), 65_536, 4_096, None)?;
     serve_into(
         &rt,
-        TWO_TASKS,
-        HALVES,
+        TWO_SEARCHES,
+        lines.as_slice(),
         settings,
         &mut Forward,
         &gate,
