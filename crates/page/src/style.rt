@@ -14,7 +14,7 @@ th{text-align:left;opacity:.7;font-weight:400;padding:0}
 td{white-space:pre;padding:0}
 .line:target,.chart span:target{background:#fd06}
 .number{display:inline-block;width:5ch;margin-right:1ch;white-space:pre;text-align:right;opacity:.6;user-select:none}
-.warning{margin-left:6ch;font-weight:600}
+.warning{display:inline-block;box-sizing:border-box;max-width:100%;padding-left:6ch;font-weight:600;white-space:pre-wrap}
 .chart{position:relative;overflow-x:auto}
 .chart span{position:absolute;left:0;width:100%;height:24px}
 p.hidden{opacity:.7}
