@@ -39,18 +39,18 @@ pub fn faults<R: Threads + Sync, G: Gate + Sync>(
     ensures { IfOk result (λ answer. IsVerdict form question.now.text.now question.now.input.now question.now.settings.limit
         (options_held options.now) answer.verdict answer.bytes.items) }
 {
-    let (job_text, input, settings) = (question.text, question.input, question.settings);
     let (names, each) = (options.names.as_slice(), options.each);
-    match fault_lines(rt, alloc, job_text, input, settings, names, each, gate) {
+    match fault_lines(rt, alloc, question, names, each, gate) {
         Ok(found) => {
-            let (denied, bytes) = table_and_denied(alloc, settings.limit(), options, form, &found)?;
+            let limit = question.settings.limit();
+            let (denied, bytes) = table_and_denied(alloc, limit, options, form, &found)?;
             Ok(Answer {
                 verdict: FaultsVerdict::Lines { denied },
                 bytes,
             })
         }
         Err(fault) => {
-            let bytes = refusal_in(alloc, form, job_text, fault)?;
+            let bytes = refusal_in(alloc, form, question.text, fault)?;
             Ok(Answer {
                 verdict: FaultsVerdict::JobRefused(fault),
                 bytes,

@@ -56,19 +56,18 @@ fn verdict_and_bytes<R: Threads + Sync, G: Gate + Sync>(
     requires { length question.now.input.now ≤ MAX_INPUT }
     ensures { IfOk result (λ r. IsVerdict form question.now.text.now question.now.input.now question.now.settings.limit deny r.0 r.1.items) }
 {
-    let (job_text, input, settings) = (question.text, question.input, question.settings);
-    match race_lines(rt, alloc, job_text, input, settings, gate) {
+    match race_lines(rt, alloc, question, gate) {
         Ok(RaceAnswer::Lines(found)) => {
             let (denied, bytes) = table_and_denied(alloc, deny, form, &found)?;
             Ok((RacesVerdict::Lines { denied }, bytes))
         }
         Ok(RaceAnswer::Limit) => {
-            let bytes = limit_in(alloc, form, settings.limit())?;
+            let bytes = limit_in(alloc, form, question.settings.limit())?;
             Ok((RacesVerdict::Limit, bytes))
         }
         Ok(RaceAnswer::NoFinerTicks) => Ok((RacesVerdict::NoFinerTicks, Vec::new(alloc))),
         Err(fault) => {
-            let bytes = refusal_in(alloc, form, job_text, fault)?;
+            let bytes = refusal_in(alloc, form, question.text, fault)?;
             Ok((RacesVerdict::JobRefused(fault), bytes))
         }
     }

@@ -43,10 +43,9 @@ pub fn sweep<R: Threads + Sync, G: Gate + Sync>(
     ensures { IfOk result (λ answer. IsVerdict form question.now.text.now question.now.input.now question.now.settings.limit target values.now
         answer.verdict answer.bytes.items) }
 {
-    let (job_text, input, settings) = (question.text, question.input, question.settings);
-    match sweep_values(rt, alloc, job_text, input, settings, target, values, gate) {
+    match sweep_values(rt, alloc, question, target, values, gate) {
         Ok(SweepAnswer::Values(found)) => {
-            let (limit, values) = (settings.limit(), found.values.as_slice());
+            let (limit, values) = (question.settings.limit(), found.values.as_slice());
             let bytes = table_in(alloc, form, limit, &found.first, values)?;
             Ok(Answer {
                 verdict: SweepVerdict::Lines,
@@ -58,7 +57,7 @@ pub fn sweep<R: Threads + Sync, G: Gate + Sync>(
             bytes: Vec::new(alloc),
         }),
         Err(fault) => {
-            let bytes = refusal_in(alloc, form, job_text, fault)?;
+            let bytes = refusal_in(alloc, form, question.text, fault)?;
             Ok(Answer {
                 verdict: SweepVerdict::JobRefused(fault),
                 bytes,

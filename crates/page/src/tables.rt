@@ -65,8 +65,7 @@ fn tried_lines<R: Threads + Sync, G: Gate + Sync>(
     let Some(name) = Name::new(b"Fault") else {
         unreachable!()
     };
-    let (text, input, settings) = (question.text, question.input, question.settings);
-    match fault_lines(rt, alloc, text, input, settings, &[name], false, gate) {
+    match fault_lines(rt, alloc, question, &[name], false, gate) {
         Ok(tried) => Ok(tried),
         Err(_) => Err(AllocError),
     }

@@ -34,7 +34,7 @@ text_run_by limit run = ran (nat_le (root_end (rows_of run)) limit) (rows_of run
 
 -- the input is not longer than the maximum
 abbrev pub HasRoom : Moves → Type 0
-HasRoom moves = length moves.input.now ≤ MAX_INPUT
+HasRoom moves = length moves.original.input.now ≤ MAX_INPUT
 
 -- the line of a place that is moved by a hair is right
 abbrev pub IsMovedBy : Original → List ℕ → TextRun → Shift → race_lines.Line → Type 0
@@ -42,7 +42,7 @@ IsMovedBy original input before shift line =
     IsMoved original.clock original.text.now input original.limit original.finer_ticks original.scope.now original.sites.now before shift line
 
 abbrev pub IsMovedOf : Moves → Shift → Line → Type 0
-IsMovedOf moves shift line = IsMovedBy moves.original moves.input.now (text_run_held moves.before) shift (line_held line)
+IsMovedOf moves shift line = IsMovedBy moves.original moves.original.input.now (text_run_held moves.before) shift (line_held line)
 
 -- all lines of a text
 abbrev pub AreLinesOf : Original → List ℕ → TextRun → List race_lines.Line → Type 0

@@ -4,6 +4,7 @@ ghost use Rattle.race_text.specs.LineViews.{found_held};
 ghost use Rattle.trials.specs.TextRuns.{refused, text_run_of, found_between, IsComparison};
 ghost use Rattle.trials.specs.Views.{text_run_by, text_run_held, text_run_seen};
 
+use crate::original::Original;
 use job_reader::{Job, JobFault, JobKind, read_job};
 use job_runner::{Forward, NoGate, Run, run_to_end};
 use job_tree::Name;
@@ -11,24 +12,23 @@ use race_text::{ComparedRun, Found, run_differences};
 use std::alloc::{AllocError, Global};
 use std::thread::Threads;
 
-// Returns what the job that a text spells shows by a limit that another run does not show, apart from the exits of scopes with
-// the name `scope`. If this text or the text of the other run is refused, nothing is compared, and the result is that refusal.
-// The job runs in the calling thread.
+// Returns what the job that a text spells shows by the limit that another run does not show, over the input of the original
+// job, apart from the exits of scopes with the name of the scope of hairs. If this text or the text of the other run is
+// refused, nothing is compared, and the result is that refusal. The job runs in the calling thread.
 pub(crate) fn found_in_text<R: Threads + Sync>(
     rt: &R,
     alloc: Global,
-    scope: Name,
+    original: &Original<'_>,
     before: Result<&ComparedRun<'_>, JobFault>,
     text: &[u8],
-    input: &[u8],
-    limit: u64,
 ) -> Result<Found, AllocError>
-    requires { length input.now ≤ MAX_INPUT }
-    ensures { IfOk result (λ found. IsComparison scope text.now input.now limit (text_run_held before.entry) (found_held found)) }
+    requires { length original.now.input.now ≤ MAX_INPUT }
+    ensures { IfOk result (λ found. IsComparison original.now.scope.now text.now original.now.input.now original.now.limit
+        (text_run_held before.entry) (found_held found)) }
 {
     match read_job(alloc, text) {
         Ok(job) => {
-            let found = found_in_job(rt, alloc, scope, before, &job, input, limit)?;
+            let found = found_in_job(rt, alloc, original, before, &job)?;
             Ok(found)
         }
         Err(fault) => match fault.kind {
@@ -38,24 +38,23 @@ pub(crate) fn found_in_text<R: Threads + Sync>(
     }
 }
 
-// Returns what a job shows by a limit that another run does not show.
+// Returns what a job shows by the limit that another run does not show.
 #[tactic(auto, using(crate::proofs::Compared::in_job))]
 fn found_in_job<R: Threads + Sync>(
     rt: &R,
     alloc: Global,
-    scope: Name,
+    original: &Original<'_>,
     before: Result<&ComparedRun<'_>, JobFault>,
     job: &Job,
-    input: &[u8],
-    limit: u64,
 ) -> Result<Found, AllocError>
-    requires { length input.now ≤ MAX_INPUT }
-    ensures { IfOk result (λ found. found_held found ≡ found_between scope (text_run_held before.entry) (text_run_of limit job.now input.now)) }
+    requires { length original.now.input.now ≤ MAX_INPUT }
+    ensures { IfOk result (λ found. found_held found ≡ found_between original.now.scope.now (text_run_held before.entry)
+        (text_run_of original.now.limit job.now original.now.input.now)) }
 {
     match before {
         Ok(before) => {
-            let run = run_to_end(rt, alloc, job, input, 1, &mut Forward, &NoGate)?;
-            found_in_run(alloc, scope, before, &run, limit)
+            let run = run_to_end(rt, alloc, job, original.input, 1, &mut Forward, &NoGate)?;
+            found_in_run(alloc, *original.scope, before, &run, original.limit)
         }
         Err(fault) => Ok(Found::NotTried(fault)),
     }

@@ -8,11 +8,12 @@ use crate::fault_work::Original;
 use crate::job_outcome::outcome_of_job;
 use crate::parts::token_roles;
 use crate::trial::Trial;
+use job_answers::Question;
 use job_edits::{
     Plan, Variant, each_variants, has_divided, repeated_blocks, variants, waiting_steps,
 };
 use job_reader::{Job, JobFault, Name, read_job, spelled_tokens};
-use job_runner::{Gate, Settings};
+use job_runner::Gate;
 use job_tokens::Token;
 use outcomes::{JobOutcome, Line, Untried};
 use std::alloc::{AllocError, Global};
@@ -34,34 +35,30 @@ pub struct FaultLines {
     pub untried: Untried,
 }
 
-/// Returns the outcome of the job that a text spells over an input: without a fault, and with each fault of each of its waiting
-/// steps, each kind once. A step fails once with each of the exceptions with these names. With `each` there is also a line for
-/// each of these faults in each copy of a `start .. over` and each pass of a `repeat` that the step is in, up to `MAX_EACH`; but
-/// not in copies that depend on their parts of the input (`RepeatedBlock::is_divided`), unless the input is empty. If the text is
-/// refused, the error is the refusal, as `read_job` returns it. If memory runs out, the error has the kind `NoMemory`. The caller
-/// must ensure that the input has at most 16,777,216 bytes.
+/// Returns the outcome of the job that the text of a question spells over its input: without a fault, and with each fault of
+/// each of its waiting steps, each kind once. A step fails once with each of the exceptions with these names. With `each` there
+/// is also a line for each of these faults in each copy of a `start .. over` and each pass of a `repeat` that the step is in,
+/// up to `MAX_EACH`; but not in copies that depend on their parts of the input (`RepeatedBlock::is_divided`), unless the input
+/// is empty. If the text is refused, the error is the refusal, as `read_job` returns it. If memory runs out, the error has the
+/// kind `NoMemory`. The caller must ensure that the input has at most 16,777,216 bytes.
 ///
-/// The number of workers in `settings` is the number of threads that run the faults. The gate is called before and after each
+/// The number of workers in the settings is the number of threads that run the faults. The gate is called before and after each
 /// fault, with the place of the fault among the lines, by the thread that runs it. Neither changes a line.
 pub fn fault_lines<R: Threads + Sync, G: Gate + Sync>(
     rt: &R,
     alloc: Global,
-    job_text: &[u8],
-    input: &[u8],
-    settings: Settings,
+    question: &Question<'_>,
     names: &[Name],
     each: bool,
     gate: &G,
 ) -> Result<FaultLines, JobFault>
-    requires { length input.now ≤ MAX_INPUT }
-    ensures lines { IfOk result (λ found. AreFaultLines job_text.now input.now settings.limit names.now each (job_outcome_held found.first)
-        (map line_held found.lines.items) found.untried) }
-    ensures refused { IfErr result (IsFair job_text.now) }
+    requires { length question.now.input.now ≤ MAX_INPUT }
+    ensures lines { IfOk result (λ found. AreFaultLines question.now.text.now question.now.input.now question.now.settings.limit names.now each
+        (job_outcome_held found.first) (map line_held found.lines.items) found.untried) }
+    ensures refused { IfErr result (IsFair question.now.text.now) }
 {
-    let job = read_job(alloc, job_text)?;
-    let found = lines_of_job(
-        rt, alloc, job_text, &job, input, settings, names, each, gate,
-    )?;
+    let job = read_job(alloc, question.text)?;
+    let found = lines_of_job(rt, alloc, &job, question, names, each, gate)?;
     Ok(found)
 }
 
@@ -69,22 +66,21 @@ pub fn fault_lines<R: Threads + Sync, G: Gate + Sync>(
 fn lines_of_job<R: Threads + Sync, G: Gate + Sync>(
     rt: &R,
     alloc: Global,
-    job_text: &[u8],
     job: &Job,
-    input: &[u8],
-    settings: Settings,
+    question: &Question<'_>,
     names: &[Name],
     each: bool,
     gate: &G,
 ) -> Result<FaultLines, AllocError>
-    requires input { length input.now ≤ MAX_INPUT }
-    requires spells { Spells job_text.now job.now }
-    ensures { IfOk result (λ found. AreFaultLines job_text.now input.now settings.limit names.now each (job_outcome_held found.first)
-        (map line_held found.lines.items) found.untried) }
+    requires input { length question.now.input.now ≤ MAX_INPUT }
+    requires spells { Spells question.now.text.now job.now }
+    ensures { IfOk result (λ found. AreFaultLines question.now.text.now question.now.input.now question.now.settings.limit names.now each
+        (job_outcome_held found.first) (map line_held found.lines.items) found.untried) }
 {
-    let tokens = spelled_tokens(alloc, job_text, job)?;
+    let (text, input, settings) = (question.text, question.input, question.settings);
+    let tokens = spelled_tokens(alloc, text, job)?;
     let read = tokens.as_slice();
-    let roles = token_roles(alloc, job.text_format(), job_text, read)?;
+    let roles = token_roles(alloc, job.text_format(), text, read)?;
     let blocks = repeated_blocks(alloc, read)?;
     let steps = waiting_steps(alloc, read)?;
     let plan = Plan::of(alloc, read)?;
@@ -94,7 +90,7 @@ fn lines_of_job<R: Threads + Sync, G: Gate + Sync>(
     let first = outcome_of_job(rt, alloc, job, input, limit, None)?;
     let original = Original {
         trial: Trial {
-            text: job_text,
+            text,
             input,
             limit,
             plan,

@@ -19,10 +19,8 @@ use workers::Work;
 /// The places of a text that are moved by a hair, and the run of the text in finer ticks to compare with.
 #[derive(Clone, Copy)]
 pub(crate) struct Moves<'a> {
-    /// The text.
+    /// The text, and its input.
     pub original: Original<'a>,
-    /// The input.
-    pub input: &'a [u8],
     /// The run of the text in finer ticks, or the refusal of that text.
     pub before: Result<&'a ComparedRun<'a>, JobFault>,
 }
@@ -55,7 +53,7 @@ fn line_with<R: Threads + Sync>(
     moves: &Moves<'_>,
     shift: &Shift,
 ) -> Result<Line, AllocError>
-    requires { length moves.now.input.now ≤ MAX_INPUT }
+    requires { length moves.now.original.input.now ≤ MAX_INPUT }
     ensures { IfOk result (IsMovedOf moves.now shift.now) }
 {
     let found = found_with(rt, alloc, moves, shift)?;
@@ -79,28 +77,19 @@ fn found_with<R: Threads + Sync>(
     moves: &Moves<'_>,
     shift: &Shift,
 ) -> Result<Found, AllocError>
-    requires { length moves.now.input.now ≤ MAX_INPUT }
+    requires { length moves.now.original.input.now ≤ MAX_INPUT }
     ensures { IfOk result (λ found. IsComparison moves.now.original.scope.now (changed_text moves.now.original.text.now
-        (shifted_changes moves.now.original.clock moves.now.original.finer_ticks moves.now.original.scope.now shift.now moves.now.original.sites.now)) moves.now.input.now moves.now.original.limit (text_run_held moves.now.before) (found_held found)) }
+        (shifted_changes moves.now.original.clock moves.now.original.finer_ticks moves.now.original.scope.now shift.now moves.now.original.sites.now)) moves.now.original.input.now moves.now.original.limit (text_run_held moves.now.before) (found_held found)) }
 {
-    let original = moves.original;
-    let scope = *original.scope;
+    let original = &moves.original;
     let changes = shifted_changes(
         alloc,
         original.clock,
         original.finer_ticks,
-        scope,
+        *original.scope,
         shift,
         original.sites,
     )?;
     let text = changed_text(alloc, original.text, changes.as_slice())?;
-    found_in_text(
-        rt,
-        alloc,
-        scope,
-        moves.before,
-        text.as_slice(),
-        moves.input,
-        original.limit,
-    )
+    found_in_text(rt, alloc, original, moves.before, text.as_slice())
 }

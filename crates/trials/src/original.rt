@@ -2,11 +2,13 @@ use job_edits::{CopiedStart, FinerTicks, Site};
 use job_meaning::Clock;
 use job_tree::Name;
 
-/// What all lines have in common.
+/// What all lines have in common, and how many threads find those of the hairs.
 #[derive(Clone, Copy)]
 pub(crate) struct Original<'a> {
     /// The original job text.
     pub text: &'a [u8],
+    /// The input.
+    pub input: &'a [u8],
     /// How the time of the original job is counted.
     pub clock: Clock,
     /// The last tick at which a job may end, in finer ticks.
@@ -19,4 +21,6 @@ pub(crate) struct Original<'a> {
     pub sites: &'a [Site],
     /// Each `start` of several copies of a task.
     pub starts: &'a [CopiedStart],
+    /// The maximum number of threads that run the hairs.
+    pub workers: usize,
 }

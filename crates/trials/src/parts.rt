@@ -15,6 +15,15 @@ use outcomes::JobOutcome;
 use std::alloc::{AllocError, Global};
 use std::thread::Threads;
 
+// The text in which a copy or pass is written out.
+#[derive(Clone, Copy)]
+struct PartText<'a> {
+    // Its bytes.
+    text: &'a [u8],
+    // Which of its waiting steps has the fault.
+    number: usize,
+}
+
 // Returns the roles of the tokens of a text, or none if they are not in the grammar.
 pub(crate) fn token_roles(
     alloc: Global,
@@ -49,10 +58,13 @@ pub(crate) fn try_in_part<R: Threads + Sync>(
         (job_outcome_held t.job_outcome) t.reached t.differs t.cuts) }
 {
     let text = text_apart(alloc, original, part)?;
-    let number = number_apart(original, part, variant.step.from);
-    match read_job(alloc, text.as_slice()) {
+    let apart = PartText {
+        text: text.as_slice(),
+        number: number_apart(original, part, variant.step.from),
+    };
+    match read_job(alloc, apart.text) {
         Ok(job) => {
-            let tried = try_in_job(rt, alloc, original, text.as_slice(), &job, number, variant)?;
+            let tried = try_in_job(rt, alloc, original, &apart, &job, variant)?;
             Ok(tried)
         }
         Err(fault) => match fault.kind {
@@ -67,29 +79,28 @@ pub(crate) fn try_in_part<R: Threads + Sync>(
     }
 }
 
-// Returns what becomes of a job, in whose text a copy or pass is written out, with a fault of the step that has this number.
+// Returns what becomes of the job that the text with a copy or pass written out spells, with a fault of its step.
 fn try_in_job<R: Threads + Sync>(
     rt: &R,
     alloc: Global,
     original: &Original<'_>,
-    text: &[u8],
+    apart: &PartText<'_>,
     job: &Job,
-    number: usize,
     variant: &Variant,
 ) -> Result<Tried, AllocError>
     requires room { length original.now.trial.input.now ≤ MAX_INPUT }
-    requires spells { Spells text.now job.now }
-    ensures { IfOk result (λ t. IsTriedJob text.now original.now.trial.input.now original.now.trial.limit number variant.now.step variant.now.fault
-        (job_outcome_held t.job_outcome) t.reached t.differs t.cuts) }
+    requires spells { Spells apart.now.text.now job.now }
+    ensures { IfOk result (λ t. IsTriedJob apart.now.text.now original.now.trial.input.now original.now.trial.limit apart.now.number
+        variant.now.step variant.now.fault (job_outcome_held t.job_outcome) t.reached t.differs t.cuts) }
 {
     let (input, limit) = (original.trial.input, original.trial.limit);
-    let tokens = spelled_tokens(alloc, text, job)?;
+    let tokens = spelled_tokens(alloc, apart.text, job)?;
     let steps = waiting_steps(alloc, tokens.as_slice())?;
-    let step = step_at(steps.as_slice(), number, &variant.step);
+    let step = step_at(steps.as_slice(), apart.number, &variant.step);
     let plan = Plan::of(alloc, tokens.as_slice())?;
     let before = outcome_of_job(rt, alloc, job, input, limit, None)?;
     let trial = Trial {
-        text,
+        text: apart.text,
         input,
         limit,
         plan,

@@ -30,15 +30,13 @@ pub(crate) fn lines_for<R: Threads + Sync, G: Gate + Sync>(
     rt: &R,
     alloc: Global,
     original: &Original<'_>,
-    input: &[u8],
     own: &Run<'_>,
-    workers: usize,
     gate: &G,
 ) -> Result<Vec<Line>, AllocError>
-    requires input { length input.now ≤ MAX_INPUT }
+    requires input { length original.now.input.now ≤ MAX_INPUT }
     requires ticks { 0 < original.now.finer_ticks.factor }
-    requires some_workers { 1 ≤ workers }
-    ensures { IfOk result (λ lines. AreLinesOf original.now input.now (ran true (rows_of own.now)) (map line_held lines.items)) }
+    requires some_workers { 1 ≤ original.now.workers }
+    ensures { IfOk result (λ lines. AreLinesOf original.now original.now.input.now (ran true (rows_of own.now)) (map line_held lines.items)) }
 {
     let changes = finer_changes(alloc, original.clock, original.finer_ticks, original.sites)?;
     let text = changed_text(alloc, original.text, changes.as_slice())?;
@@ -48,12 +46,12 @@ pub(crate) fn lines_for<R: Threads + Sync, G: Gate + Sync>(
     };
     match read_job(alloc, text.as_slice()) {
         Ok(job) => {
-            let lines = lines_of_job(rt, alloc, original, input, &first, &job, workers, gate)?;
+            let lines = lines_of_job(rt, alloc, original, &first, &job, gate)?;
             Ok(lines)
         }
         Err(fault) => match fault.kind {
             JobKind::NoMemory => Err(AllocError),
-            _ => lines_of_refused(rt, alloc, original, input, fault, workers, gate),
+            _ => lines_of_refused(rt, alloc, original, fault, gate),
         },
     }
 }
@@ -63,16 +61,14 @@ fn lines_of_refused<R: Threads + Sync, G: Gate + Sync>(
     rt: &R,
     alloc: Global,
     original: &Original<'_>,
-    input: &[u8],
     fault: JobFault,
-    workers: usize,
     gate: &G,
 ) -> Result<Vec<Line>, AllocError>
-    requires input { length input.now ≤ MAX_INPUT }
-    requires some_workers { 1 ≤ workers }
-    ensures { IfOk result (λ lines. AreLinesOfRefused original.now input.now fault (map line_held lines.items)) }
+    requires input { length original.now.input.now ≤ MAX_INPUT }
+    requires some_workers { 1 ≤ original.now.workers }
+    ensures { IfOk result (λ lines. AreLinesOfRefused original.now original.now.input.now fault (map line_held lines.items)) }
 {
-    let moves = moves_for(rt, alloc, original, input, Err(fault), workers, gate)?;
+    let moves = moves_for(rt, alloc, original, Err(fault), gate)?;
     after_first(alloc, Found::NotTried(fault), moves)
 }
 
@@ -81,20 +77,18 @@ fn lines_of_job<R: Threads + Sync, G: Gate + Sync>(
     rt: &R,
     alloc: Global,
     original: &Original<'_>,
-    input: &[u8],
     first: &ComparedRun<'_>,
     job: &Job,
-    workers: usize,
     gate: &G,
 ) -> Result<Vec<Line>, AllocError>
-    requires input { length input.now ≤ MAX_INPUT }
+    requires input { length original.now.input.now ≤ MAX_INPUT }
     requires ticks { 0 < original.now.finer_ticks.factor }
-    requires some_workers { 1 ≤ workers }
-    ensures { IfOk result (λ lines. AreLinesFor original.now input.now (text_run_seen first.now) job.now (map line_held lines.items)) }
+    requires some_workers { 1 ≤ original.now.workers }
+    ensures { IfOk result (λ lines. AreLinesFor original.now original.now.input.now (text_run_seen first.now) job.now (map line_held lines.items)) }
 {
-    let run = run_to_end(rt, alloc, job, input, 1, &mut Forward, &NoGate)?;
-    let mut lines = lines_of_run(rt, alloc, original, input, first, &run, workers, gate)?;
-    push_copies_of(rt, alloc, &mut lines, original, input, job)?;
+    let run = run_to_end(rt, alloc, job, original.input, 1, &mut Forward, &NoGate)?;
+    let mut lines = lines_of_run(rt, alloc, original, first, &run, gate)?;
+    push_copies_of(rt, alloc, &mut lines, original, job)?;
     Ok(lines)
 }
 
@@ -103,15 +97,13 @@ fn lines_of_run<R: Threads + Sync, G: Gate + Sync>(
     rt: &R,
     alloc: Global,
     original: &Original<'_>,
-    input: &[u8],
     first: &ComparedRun<'_>,
     run: &Run<'_>,
-    workers: usize,
     gate: &G,
 ) -> Result<Vec<Line>, AllocError>
-    requires input { length input.now ≤ MAX_INPUT }
-    requires some_workers { 1 ≤ workers }
-    ensures { IfOk result (λ lines. AreLinesOfRun original.now input.now (text_run_seen first.now) (text_run_by original.now.limit run.now)
+    requires input { length original.now.input.now ≤ MAX_INPUT }
+    requires some_workers { 1 ≤ original.now.workers }
+    ensures { IfOk result (λ lines. AreLinesOfRun original.now original.now.input.now (text_run_seen first.now) (text_run_by original.now.limit run.now)
         (map line_held lines.items)) }
 {
     let before = ComparedRun {
@@ -119,32 +111,29 @@ fn lines_of_run<R: Threads + Sync, G: Gate + Sync>(
         in_time: run.end() <= original.limit,
     };
     let found = found_in_run(alloc, *original.scope, first, run, original.limit)?;
-    let moves = moves_for(rt, alloc, original, input, Ok(&before), workers, gate)?;
+    let moves = moves_for(rt, alloc, original, Ok(&before), gate)?;
     after_first(alloc, found, moves)
 }
 
-// Returns the lines of all hairs. At most `workers` threads run them.
+// Returns the lines of all hairs.
 fn moves_for<R: Threads + Sync, G: Gate + Sync>(
     rt: &R,
     alloc: Global,
     original: &Original<'_>,
-    input: &[u8],
     before: Result<&ComparedRun<'_>, JobFault>,
-    workers: usize,
     gate: &G,
 ) -> Result<Vec<Line>, AllocError>
-    requires input { length input.now ≤ MAX_INPUT }
-    requires some_workers { 1 ≤ workers }
-    ensures { IfOk result (λ lines. AreAnswers (IsMovedBy original.now input.now (text_run_held before.entry)) (shifts_of original.now.sites.now)
+    requires input { length original.now.input.now ≤ MAX_INPUT }
+    requires some_workers { 1 ≤ original.now.workers }
+    ensures { IfOk result (λ lines. AreAnswers (IsMovedBy original.now original.now.input.now (text_run_held before.entry)) (shifts_of original.now.sites.now)
         (map line_held lines.items)) }
 {
     let shifts = shifts(alloc, original.sites)?;
     let moves = Moves {
         original: *original,
-        input,
         before,
     };
-    answers_for(rt, alloc, &moves, shifts.as_slice(), workers, gate)
+    answers_for(rt, alloc, &moves, shifts.as_slice(), original.workers, gate)
 }
 
 // Returns the line of the text in finer ticks, followed by these lines.
@@ -164,18 +153,17 @@ fn push_copies_of<R: Threads + Sync>(
     alloc: Global,
     lines: &mut Vec<Line>,
     original: &Original<'_>,
-    input: &[u8],
     job: &Job,
 ) -> Result<(), AllocError>
-    requires input { length input.now ≤ MAX_INPUT }
+    requires input { length original.now.input.now ≤ MAX_INPUT }
     requires ticks { 0 < original.now.finer_ticks.factor }
     ensures { OnOk result (map line_held lines.new.items ≡ map line_held lines.old.items ++ copies_lines original.now.clock
-        original.now.text.now original.now.limit original.now.finer_ticks (walked_events job.now input.now) original.now.starts.now) }
+        original.now.text.now original.now.limit original.now.finer_ticks (walked_events job.now original.now.input.now) original.now.starts.now) }
 {
     if original.starts.is_empty() {
         return Ok(());
     }
-    let summary = summary_of(rt, alloc, job, input)?;
+    let summary = summary_of(rt, alloc, job, original.input)?;
     let walked = events_until(alloc, summary.clock, summary.events.as_slice(), None)?;
     push_copies(alloc, lines, original, walked.as_slice())
 }

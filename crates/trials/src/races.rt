@@ -6,10 +6,11 @@ ghost use Rattle.trials.specs.Races.{IsRaceAnswer};
 
 use crate::original::Original;
 use crate::race_work::lines_for;
+use job_answers::Question;
 use job_edits::{FinerTicks, Site, copied_starts, hair_scope, shifts, sites};
 use job_meaning::Clock;
 use job_reader::{Job, JobFault, read_job, spelled_tokens};
-use job_runner::{Forward, Gate, NoGate, Settings, run_to_end};
+use job_runner::{Forward, Gate, NoGate, run_to_end};
 use race_text::Line;
 use std::alloc::{AllocError, Global};
 use std::thread::Threads;
@@ -35,28 +36,26 @@ pub enum RaceAnswer {
     NoFinerTicks,
 }
 
-/// Returns how the outcome of the job that a text spells over an input changes if a single place of the text takes a hair more or
-/// less time: the text in finer ticks compared with the original text, then each hair of each place compared with the text in
-/// finer ticks, and the copies of one `start` with `over` or in a `repeat` that meet. If the text is refused, the error is the
-/// refusal, as `read_job` returns it. If memory runs out, the error has the kind `NoMemory`. The caller must ensure that the
-/// input has at most 16,777,216 bytes.
+/// Returns how the outcome of the job that the text of a question spells over its input changes if a single place of the text
+/// takes a hair more or less time: the text in finer ticks compared with the original text, then each hair of each place
+/// compared with the text in finer ticks, and the copies of one `start` with `over` or in a `repeat` that meet. If the text is
+/// refused, the error is the refusal, as `read_job` returns it. If memory runs out, the error has the kind `NoMemory`. The
+/// caller must ensure that the input has at most 16,777,216 bytes.
 ///
-/// The number of workers in `settings` is the number of threads that run the hairs. The gate is called before and after each
+/// The number of workers in the settings is the number of threads that run the hairs. The gate is called before and after each
 /// hair, with the place of the hair among them, by the thread that runs it. Neither changes a line.
 pub fn race_lines<R: Threads + Sync, G: Gate + Sync>(
     rt: &R,
     alloc: Global,
-    job_text: &[u8],
-    input: &[u8],
-    settings: Settings,
+    question: &Question<'_>,
     gate: &G,
 ) -> Result<RaceAnswer, JobFault>
-    requires { length input.now ≤ MAX_INPUT }
-    ensures lines { IfOk result (IsRaceAnswer job_text.now input.now settings.limit) }
-    ensures refused { IfErr result (IsFair job_text.now) }
+    requires { length question.now.input.now ≤ MAX_INPUT }
+    ensures lines { IfOk result (IsRaceAnswer question.now.text.now question.now.input.now question.now.settings.limit) }
+    ensures refused { IfErr result (IsFair question.now.text.now) }
 {
-    let job = read_job(alloc, job_text)?;
-    let answer = answer_for_job(rt, alloc, job_text, &job, input, settings, gate)?;
+    let job = read_job(alloc, question.text)?;
+    let answer = answer_for_job(rt, alloc, &job, question, gate)?;
     Ok(answer)
 }
 
@@ -65,22 +64,20 @@ pub fn race_lines<R: Threads + Sync, G: Gate + Sync>(
 fn answer_for_job<R: Threads + Sync, G: Gate + Sync>(
     rt: &R,
     alloc: Global,
-    job_text: &[u8],
     job: &Job,
-    input: &[u8],
-    settings: Settings,
+    question: &Question<'_>,
     gate: &G,
 ) -> Result<RaceAnswer, AllocError>
-    requires input { length input.now ≤ MAX_INPUT }
-    requires spells { Spells job_text.now job.now }
-    ensures { IfOk result (IsRaceAnswer job_text.now input.now settings.limit) }
+    requires input { length question.now.input.now ≤ MAX_INPUT }
+    requires spells { Spells question.now.text.now job.now }
+    ensures { IfOk result (IsRaceAnswer question.now.text.now question.now.input.now question.now.settings.limit) }
 {
-    let limit = settings.limit();
-    let run = run_to_end(rt, alloc, job, input, 1, &mut Forward, &NoGate)?;
+    let limit = question.settings.limit();
+    let run = run_to_end(rt, alloc, job, question.input, 1, &mut Forward, &NoGate)?;
     if run.end() > limit {
         return Ok(RaceAnswer::Limit);
     }
-    let tokens = spelled_tokens(alloc, job_text, job)?;
+    let tokens = spelled_tokens(alloc, question.text, job)?;
     let sites = sites(alloc, tokens.as_slice())?;
     let clock = Clock::of(job.text_format());
     let Some(finer_ticks) = FinerTicks::of(clock, sites.as_slice(), limit) else {
@@ -89,15 +86,17 @@ fn answer_for_job<R: Threads + Sync, G: Gate + Sync>(
     let scope = hair_scope(alloc, tokens.as_slice())?;
     let starts = copied_starts(alloc, tokens.as_slice())?;
     let original = Original {
-        text: job_text,
+        text: question.text,
+        input: question.input,
         clock,
         limit: limit.saturating_mul(finer_ticks.factor),
         finer_ticks,
         scope: &scope,
         sites: sites.as_slice(),
         starts: starts.as_slice(),
+        workers: question.settings.workers(),
     };
-    let lines = lines_for(rt, alloc, &original, input, &run, settings.workers(), gate)?;
+    let lines = lines_for(rt, alloc, &original, &run, gate)?;
     let hairs = hairs_of(alloc, original.sites)?;
     Ok(RaceAnswer::Lines(RaceLines { hairs, lines }))
 }

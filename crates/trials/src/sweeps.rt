@@ -7,9 +7,10 @@ use crate::missing::Missing;
 use crate::number::{Found, number_for};
 use crate::outcome_of_job;
 use crate::values::Swept;
+use job_answers::Question;
 use job_edits::Target;
 use job_reader::{Job, JobFault, read_job, spelled_tokens};
-use job_runner::{Gate, Settings};
+use job_runner::Gate;
 use outcomes::{JobOutcome, Value};
 use std::alloc::{AllocError, Global};
 use std::thread::Threads;
@@ -33,31 +34,27 @@ pub enum SweepAnswer {
     NoTarget(Missing),
 }
 
-/// Returns the outcome of the job that a text spells over an input, with its own value and with each of these values of one of
-/// its numbers, in their order; or why the text does not have the number that is meant. A value that the text cannot have there
-/// counts as refused. If the text is refused, the error is the refusal, as `read_job` returns it. If memory runs out, the error
-/// has the kind `NoMemory`. The caller must ensure that the input has at most 16,777,216 bytes.
+/// Returns the outcome of the job that the text of a question spells over its input, with its own value and with each of these
+/// values of one of its numbers, in their order; or why the text does not have the number that is meant. A value that the text
+/// cannot have there counts as refused. If the text is refused, the error is the refusal, as `read_job` returns it. If memory
+/// runs out, the error has the kind `NoMemory`. The caller must ensure that the input has at most 16,777,216 bytes.
 ///
-/// The number of workers in `settings` is the number of threads that run the values. The gate is called before and after each
+/// The number of workers in the settings is the number of threads that run the values. The gate is called before and after each
 /// value, with the place of the value among them, by the thread that runs it. Neither changes a result.
 pub fn sweep_values<R: Threads + Sync, G: Gate + Sync>(
     rt: &R,
     alloc: Global,
-    job_text: &[u8],
-    input: &[u8],
-    settings: Settings,
+    question: &Question<'_>,
     target: Target,
     values: &[u64],
     gate: &G,
 ) -> Result<SweepAnswer, JobFault>
-    requires { length input.now ≤ MAX_INPUT }
-    ensures values { IfOk result (IsSweepAnswer job_text.now input.now settings.limit target values.now) }
-    ensures refused { IfErr result (IsFair job_text.now) }
+    requires { length question.now.input.now ≤ MAX_INPUT }
+    ensures values { IfOk result (IsSweepAnswer question.now.text.now question.now.input.now question.now.settings.limit target values.now) }
+    ensures refused { IfErr result (IsFair question.now.text.now) }
 {
-    let job = read_job(alloc, job_text)?;
-    let answer = answer_for_job(
-        rt, alloc, job_text, &job, input, settings, target, values, gate,
-    )?;
+    let job = read_job(alloc, question.text)?;
+    let answer = answer_for_job(rt, alloc, &job, question, target, values, gate)?;
     Ok(answer)
 }
 
@@ -66,24 +63,23 @@ pub fn sweep_values<R: Threads + Sync, G: Gate + Sync>(
 fn answer_for_job<R: Threads + Sync, G: Gate + Sync>(
     rt: &R,
     alloc: Global,
-    job_text: &[u8],
     job: &Job,
-    input: &[u8],
-    settings: Settings,
+    question: &Question<'_>,
     target: Target,
     values: &[u64],
     gate: &G,
 ) -> Result<SweepAnswer, AllocError>
-    requires input { length input.now ≤ MAX_INPUT }
-    requires spells { Spells job_text.now job.now }
-    ensures { IfOk result (IsSweepAnswer job_text.now input.now settings.limit target values.now) }
+    requires input { length question.now.input.now ≤ MAX_INPUT }
+    requires spells { Spells question.now.text.now job.now }
+    ensures { IfOk result (IsSweepAnswer question.now.text.now question.now.input.now question.now.settings.limit target values.now) }
 {
-    let tokens = spelled_tokens(alloc, job_text, job)?;
-    match number_for(alloc, job_text, tokens.as_slice(), target)? {
+    let (text, settings) = (question.text, question.settings);
+    let tokens = spelled_tokens(alloc, text, job)?;
+    match number_for(alloc, text, tokens.as_slice(), target)? {
         Found::Number(number) => {
             let swept = Swept {
-                text: job_text,
-                input,
+                text,
+                input: question.input,
                 limit: settings.limit(),
                 number,
             };

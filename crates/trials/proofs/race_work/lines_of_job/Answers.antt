@@ -7,6 +7,6 @@ use Rattle.trials.proofs.race_work.lines_of_job.Goals as goal
 
 pub returns : goal.returns
 returns g c =
-    with_copies c.args.original.now c.args.input.now (text_run_seen c.args.first.now) c.args.job.now (rows_of c.in_ok-run.run')
+    with_copies c.args.original.now c.args.original.now.input.now (text_run_seen c.args.first.now) c.args.job.now (rows_of c.in_ok-run.run')
     (map line_held c.in_ok-lines.lines.items) (map line_held c.push_copies_of.new.lines.items) c.in_ok-run.ensures.records
     c.in_ok-lines.ensures c.in_ok-push_copies_of.ensures

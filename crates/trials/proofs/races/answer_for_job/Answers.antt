@@ -13,14 +13,15 @@ use Rattle.trials.proofs.races.answer_for_job.Goals as goal
 pub returns : goal.returns
 returns g c =
     let job = c.args.job.now in
-    let input = c.args.input.now in
-    let limit = c.args.settings.limit in
+    let question = c.args.question.now in
+    let input = question.input.now in
+    let limit = question.settings.limit in
     let rows = rows_of c.in_ok-run.run' in
     let lines = c.in_ok-lines.lines.items in
     let soon : meaning_end job input ≤ limit =
     in_time c.end.result (meaning_end job input) c.limit-limit.result limit (c.end.ensures ∙ ap root_end c.in_ok-run.ensures.records)
     c.limit-limit.ensures.value c.if-end-limit.false in
-    are_lines c.args.job_text.now input limit c.saturating_mul.result job c.in_ok-tokens.tokens.items
+    are_lines question.text.now input limit c.saturating_mul.result job c.in_ok-tokens.tokens.items
     c.text_format.result c.of-clock.result c.in-Some.finer_ticks c.in_ok-scope.scope
     c.as_slice-5.result.now c.as_slice-6.result.now (ran true rows) (map line_held lines) c.in_ok-hairs.hairs c.requires.spells soon
     c.in_ok-tokens.ensures c.text_format.ensures c.of-clock.ensures
