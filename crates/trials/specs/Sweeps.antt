@@ -45,7 +45,8 @@ pub record IsWithoutTarget (text : List ℕ) (target : Target) (missing : Missin
 
 abbrev pub AreValuesOf : Tree → Swept → List ℕ → SweepValues → Type 0
 AreValuesOf job swept values found =
-    AreValues swept.text.now swept.input.now swept.limit swept.number job values (job_outcome_held found.first) (map value_held found.values.items)
+    let question = swept.question.now in
+    AreValues question.text.now question.input.now question.settings.limit swept.number job values (job_outcome_held found.first) (map value_held found.values.items)
 
 abbrev pub IsSweepAnswer : List ℕ → List ℕ → ℕ → Target → List ℕ → SweepAnswer → Type 0
 IsSweepAnswer text input limit target values (Values found) =

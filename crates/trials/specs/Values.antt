@@ -19,7 +19,9 @@ pub record IsValue (text input : List ℕ) (limit : ℕ) (number : Number) (n : 
 
 -- the input is not longer than the maximum
 abbrev pub HasRoom : Swept → Type 0
-HasRoom swept = length swept.input.now ≤ MAX_INPUT
+HasRoom swept = length swept.question.now.input.now ≤ MAX_INPUT
 
 abbrev pub IsValueOf : Swept → ℕ → Value → Type 0
-IsValueOf swept n v = IsValue swept.text.now swept.input.now swept.limit swept.number n (value_held v)
+IsValueOf swept n v =
+    let question = swept.question.now in
+    IsValue question.text.now question.input.now question.settings.limit swept.number n (value_held v)

@@ -73,17 +73,11 @@ fn answer_for_job<R: Threads + Sync, G: Gate + Sync>(
     requires spells { Spells question.now.text.now job.now }
     ensures { IfOk result (IsSweepAnswer question.now.text.now question.now.input.now question.now.settings.limit target values.now) }
 {
-    let (text, settings) = (question.text, question.settings);
-    let tokens = spelled_tokens(alloc, text, job)?;
-    match number_for(alloc, text, tokens.as_slice(), target)? {
+    let tokens = spelled_tokens(alloc, question.text, job)?;
+    match number_for(alloc, question.text, tokens.as_slice(), target)? {
         Found::Number(number) => {
-            let swept = Swept {
-                text,
-                input: question.input,
-                limit: settings.limit(),
-                number,
-            };
-            let found = values_of(rt, alloc, job, &swept, values, settings.workers(), gate)?;
+            let swept = Swept { question, number };
+            let found = values_of(rt, alloc, job, &swept, values, gate)?;
             Ok(SweepAnswer::Values(found))
         }
         Found::Missing(missing) => Ok(SweepAnswer::NoTarget(missing)),
@@ -97,14 +91,14 @@ fn values_of<R: Threads + Sync, G: Gate + Sync>(
     job: &Job,
     swept: &Swept<'_>,
     values: &[u64],
-    workers: usize,
     gate: &G,
 ) -> Result<SweepValues, AllocError>
-    requires input { length swept.now.input.now ≤ MAX_INPUT }
-    requires some_workers { 1 ≤ workers }
+    requires { length swept.now.question.now.input.now ≤ MAX_INPUT }
     ensures { IfOk result (AreValuesOf job.now swept.now values.now) }
 {
-    let first = outcome_of_job(rt, alloc, job, swept.input, swept.limit, None)?;
+    let question = swept.question;
+    let (limit, workers) = (question.settings.limit(), question.settings.workers());
+    let first = outcome_of_job(rt, alloc, job, question.input, limit, None)?;
     let of_values = answers_for(rt, alloc, swept, values, workers, gate)?;
     Ok(SweepValues {
         first,

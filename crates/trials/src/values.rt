@@ -3,6 +3,7 @@ ghost use Rattle.job_meaning.specs.declared.limits.TheConstants.{MAX_INPUT};
 ghost use Rattle.trials.specs.Values.{IsValueOf};
 
 use crate::job_outcome_of_text;
+use job_answers::Question;
 use job_edits::{Number, changed_text};
 use outcomes::Value;
 use std::alloc::{AllocError, Global};
@@ -12,13 +13,9 @@ use workers::Work;
 /// What all values have in common.
 #[derive(Clone, Copy)]
 pub(crate) struct Swept<'a> {
-    /// The original job text.
-    pub text: &'a [u8],
-    /// The input.
-    pub input: &'a [u8],
-    /// The last tick at which a job may end.
-    pub limit: u64,
-    /// The number that takes the values.
+    /// The original job text, the input, and how each job is run.
+    pub question: &'a Question<'a>,
+    /// The number of the text that takes the values.
     pub number: Number,
 }
 
@@ -50,16 +47,17 @@ fn value_with<R: Threads + Sync>(
     swept: &Swept<'_>,
     value: u64,
 ) -> Result<Value, AllocError>
-    requires { length swept.now.input.now ≤ MAX_INPUT }
+    requires { length swept.now.question.now.input.now ≤ MAX_INPUT }
     ensures { IfOk result (IsValueOf swept.now value) }
 {
-    let text = changed_text(alloc, swept.text, &[swept.number.set_to(value)])?;
+    let question = swept.question;
+    let text = changed_text(alloc, question.text, &[swept.number.set_to(value)])?;
     let job_outcome = job_outcome_of_text(
         rt,
         alloc,
         text.as_slice(),
-        swept.input,
-        swept.limit,
+        question.input,
+        question.settings.limit(),
         None,
     )?;
     Ok(Value { value, job_outcome })

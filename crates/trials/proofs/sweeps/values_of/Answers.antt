@@ -5,5 +5,7 @@ use Rattle.trials.proofs.sweeps.values_of.Goals as goal
 pub returns : goal.returns
 returns g c =
     let swept = c.args.swept.now in
-    are_seen swept.text.now swept.input.now swept.limit swept.number c.args.job.now c.args.values.now (job_outcome_held c.in_ok-first.first)
-    c.in_ok-of_values.of_values.items c.in_ok-first.ensures c.in_ok-of_values.ensures
+    let question = swept.question.now in
+    are_seen question.text.now question.input.now question.settings.limit c.limit-limit.result swept.number c.args.job.now c.args.values.now
+    (job_outcome_held c.in_ok-first.first) c.in_ok-of_values.of_values.items c.limit-limit.ensures.value c.in_ok-first.ensures
+    c.in_ok-of_values.ensures
