@@ -2,19 +2,17 @@ ghost use Rattle.std.specs.Prelude.{◌≡◌, None, map, if◌then◌else◌, n
 ghost use Rattle.std.specs.Option.{option_map};
 ghost use Rattle.job_story.specs.Held.{what_of, event_of};
 ghost use Rattle.story_index.specs.Found.{cause_in_code};
-ghost use Rattle.story_index.specs.Knows.{Knows};
 ghost use Rattle.story_index.specs.Seen.{event_in};
-ghost use Rattle.story_text.specs.Known.{events_in, cancelled_from_in};
 ghost use Rattle.chart.specs.HeldBars.{bar_of};
 ghost use Rattle.svg.specs.Arrows.{canceller_by, canceller, own_of, cause_of_label, cause_behind, culprit};
 ghost use Rattle.svg.specs.Held.{label_seen, sheet_held, source_held};
 
 use crate::arrows::{Source, is_of_task, source_of};
-use crate::sheet::Sheet;
+use crate::scene::Scene;
 use chart::Bar;
 use exceptions::Label;
 use job_story::{Event, Happening, What};
-use story_index::{Cause, Causes};
+use story_index::Cause;
 
 /// The maximum number of tasks that may have been merely cancelled by one another: blocks are nested at most so deep.
 pub const MAX_DEPTH: u64 = 32;
@@ -22,20 +20,17 @@ pub const MAX_DEPTH: u64 = 32;
 // Returns the task that cancelled something, from the cause of that. A task that was itself merely cancelled is not the one: what
 // cancelled it is looked for, in so many steps at most.
 pub(crate) fn culprit<'e>(
-    sheet: &Sheet<'_, '_, '_>,
-    causes: &Causes<'e>,
-    bars: &[Bar<'_, '_>],
+    scene: &Scene<'e>,
     steps: u64,
     cause: Option<Cause<'e>>,
 ) -> Option<Source<'e>>
-    requires { Knows causes.now (cancelled_from_in sheet.now.known.now) (events_in sheet.now.known.now) }
     ensures { option_map source_held result
-        ≡ culprit (sheet_held sheet.now) (map bar_of bars.now) steps (option_map cause_in_code cause.entry) }
+        ≡ culprit (sheet_held scene.now.sheet.now) (map bar_of scene.now.bars.now) steps (option_map cause_in_code cause.entry) }
 {
     let mut behind = cause;
     let mut left = steps;
     'steps: while left > 0 {
-        behind = cause_behind(sheet, causes, bars, behind);
+        behind = cause_behind(scene, behind);
         left -= 1;
     }
     source_of(behind)
@@ -43,15 +38,9 @@ pub(crate) fn culprit<'e>(
 
 // Returns a cause, or, if that is a task that was merely cancelled, why the scope or nursery is cancelled that cancelled the
 // task.
-fn cause_behind<'e>(
-    sheet: &Sheet<'_, '_, '_>,
-    causes: &Causes<'e>,
-    bars: &[Bar<'_, '_>],
-    cause: Option<Cause<'e>>,
-) -> Option<Cause<'e>>
-    requires { Knows causes.now (cancelled_from_in sheet.now.known.now) (events_in sheet.now.known.now) }
+fn cause_behind<'e>(scene: &Scene<'e>, cause: Option<Cause<'e>>) -> Option<Cause<'e>>
     ensures { option_map cause_in_code result
-        ≡ cause_behind (sheet_held sheet.now) (map bar_of bars.now) (option_map cause_in_code cause.entry) }
+        ≡ cause_behind (sheet_held scene.now.sheet.now) (map bar_of scene.now.bars.now) (option_map cause_in_code cause.entry) }
 {
     let Some(cause) = cause else {
         return None;
@@ -62,24 +51,19 @@ fn cause_behind<'e>(
         Cause::Set { task, tick } => Some(Cause::Set { task, tick }),
         Cause::Failure { task, tick } => Some(Cause::Failure { task, tick }),
         Cause::Cancellation { task, tick } => {
-            cause_of_label(sheet, causes, canceller_of(bars, task, tick))
+            cause_of_label(scene, canceller_of(scene.bars, task, tick))
         }
     }
 }
 
 // Returns why a scope or nursery is cancelled, if there is one.
-fn cause_of_label<'e>(
-    sheet: &Sheet<'_, '_, '_>,
-    causes: &Causes<'e>,
-    label: Option<&Label>,
-) -> Option<Cause<'e>>
-    requires { Knows causes.now (cancelled_from_in sheet.now.known.now) (events_in sheet.now.known.now) }
-    ensures { option_map cause_in_code result ≡ cause_of_label (sheet_held sheet.now) (label_seen label.entry) }
+fn cause_of_label<'e>(scene: &Scene<'e>, label: Option<&Label>) -> Option<Cause<'e>>
+    ensures { option_map cause_in_code result ≡ cause_of_label (sheet_held scene.now.sheet.now) (label_seen label.entry) }
 {
     let Some(label) = label else {
         return None;
     };
-    causes.cause(label)
+    scene.causes.cause(label)
 }
 
 // Returns the scope or nursery whose cancellation a task saw last by this moment, by the first of these bars that is the task's.

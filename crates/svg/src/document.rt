@@ -22,6 +22,7 @@ use crate::layout::{LEFT, LEGEND, LETTER, MAX_ROWS, MAX_SHOWN, ROW};
 use crate::legend::push_legend;
 use crate::notes::{Noted, push_notes};
 use crate::rows::push_rows;
+use crate::scene::Scene;
 use crate::sheet::{Sheet, y_of};
 use crate::ticks::push_tick_lines;
 use crate::{Attr, Tag, attribute, begin, end, inside, number, text};
@@ -169,7 +170,12 @@ fn push_shown(
         (arrows (sheet_held sheet.now) (map bar_of shown.now) 0 (map bar_of shown.now) rest))) }
 {
     push_rows(alloc, out, sheet, shown)?;
-    push_arrows(alloc, out, sheet, causes, shown)
+    let scene = Scene {
+        sheet,
+        causes,
+        bars: shown,
+    };
+    push_arrows(alloc, out, &scene)
 }
 
 // Appends the notes.

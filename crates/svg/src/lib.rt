@@ -30,6 +30,7 @@ mod names;
 mod notes;
 mod pieces;
 mod rows;
+mod scene;
 mod shapes;
 mod sheet;
 mod style;

@@ -10,6 +10,6 @@ invariant-bars l = record {
   counted : l.from ≡ l.bar-index;
   kept : l.out.items ≡ l.fn.out.items;
   ahead : (rest : Content) →
-      arrow_from (sheet_held l.sheet) l.row l.x (source_held l.source) l.from (map bar_of (drop l.bar-index l.bars)) rest
-      ≡ arrow_from (sheet_held l.sheet) l.row l.x (source_held l.source) 0 (map bar_of l.bars) rest;
+      arrow_from (sheet_held l.scene.sheet.now) l.row l.x (source_held l.source) l.from (map bar_of (drop l.bar-index l.scene.bars.now)) rest
+      ≡ arrow_from (sheet_held l.scene.sheet.now) l.row l.x (source_held l.source) 0 (map bar_of l.scene.bars.now) rest;
 }

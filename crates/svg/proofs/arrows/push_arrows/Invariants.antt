@@ -9,6 +9,6 @@ abbrev pub invariant-bars : goal.invariant-bars
 invariant-bars l = record {
   counted : l.row ≡ l.bar-index;
   appended : (rest : Content) → l.out.items
-      ++ content_text (arrows (sheet_held l.sheet) (map bar_of l.bars) l.row (map bar_of (drop l.bar-index l.bars)) rest)
-      ≡ l.fn.out.items ++ content_text (arrows (sheet_held l.sheet) (map bar_of l.bars) 0 (map bar_of l.bars) rest);
+      ++ content_text (arrows (sheet_held l.scene.sheet.now) (map bar_of l.scene.bars.now) l.row (map bar_of (drop l.bar-index l.scene.bars.now)) rest)
+      ≡ l.fn.out.items ++ content_text (arrows (sheet_held l.scene.sheet.now) (map bar_of l.scene.bars.now) 0 (map bar_of l.scene.bars.now) rest);
 }

@@ -8,8 +8,8 @@ use Rattle.svg.proofs.culprits.culprit.Given as goal
 
 abbrev pub invariant-steps : goal.invariant-steps
 invariant-steps l =
-    culprit (sheet_held l.sheet) (map bar_of l.bars) l.left (option_map cause_in_code l.behind)
-    ≡ culprit (sheet_held l.sheet) (map bar_of l.bars) l.steps (option_map cause_in_code l.fn.cause)
+    culprit (sheet_held l.scene.sheet.now) (map bar_of l.scene.bars.now) l.left (option_map cause_in_code l.behind)
+    ≡ culprit (sheet_held l.scene.sheet.now) (map bar_of l.scene.bars.now) l.steps (option_map cause_in_code l.fn.cause)
 
 abbrev pub decreases-steps : goal.decreases-steps
 decreases-steps l = l.left

@@ -9,5 +9,5 @@ use Rattle.svg.proofs.waits.push_wait_arrows.Given as goal
 abbrev pub invariant-events : goal.invariant-events
 invariant-events l = (rest : Content) →
     l.out.items
-    ++ content_text (wait_arrows (sheet_held l.sheet) (map bar_of l.bars) l.row (map event_in (drop l.event-index l.events)) rest)
-    ≡ l.fn.out.items ++ content_text (wait_arrows (sheet_held l.sheet) (map bar_of l.bars) l.row (map event_in l.events) rest)
+    ++ content_text (wait_arrows (sheet_held l.scene.sheet.now) (map bar_of l.scene.bars.now) l.row (map event_in (drop l.event-index l.events)) rest)
+    ≡ l.fn.out.items ++ content_text (wait_arrows (sheet_held l.scene.sheet.now) (map bar_of l.scene.bars.now) l.row (map event_in l.events) rest)
