@@ -413,7 +413,7 @@ wants 0 '               as it is                   2 done\n4:29  sleep 5  fails 
 words='faults tries.job --each --brief --json'; holds 0 out '"part":"pass 2 of 2"' '"exception":"Fault"' '"more":false}'
 printf 'trio-job 3\njob parts {\n  nursery all {\n    start shard over 2 { pace 1; }\n    start other { find "a"; sleep 1; }\n  }\n}\n' > parts.job
 printf 'a\nb\nc\n' > parts.txt
-untried='copies that pace or need lines were not tried singly: each has its own part of the input\n'
+untried='copies or passes that pace or need lines were not tried singly: each has its own part of the input\n'
 wants 0 "               as it is    2 done\n4:26  pace 1   fails       0 raised all[Fault(shard.0@0), Fault(shard.1@0)]; cancelled: other\n4:26  pace 1   fails late  1 raised all[Fault(shard.1@1)]; cancelled: shard.0\n4:26  pace 1   hangs       stuck at 1000000; sleeping forever: shard.0, shard.1\n4:26  pace 1   cancelled   0 done; cancelled: shard.0, shard.1, other\n5:29  sleep 1  fails       0 raised all[Fault(other@0)]; cancelled: shard.0, shard.1\n5:29  sleep 1  fails late  1 raised all[Fault(other@1)]; cancelled: shard.0\n5:29  sleep 1  hangs       stuck at 1000000; sleeping forever: other\n5:29  sleep 1  cancelled   0 done; cancelled: shard.0, shard.1, other\n8 faults: 2 stuck, 0 cut a cleanup, 0 lost, 0 not reached\n$untried" '' faults parts.job parts.txt --each
 words='faults parts.job parts.txt --each --json'; holds 0 out '"divided":true'
 words='faults parts.job --each'; holds 0 out 'fails in shard.0' 'hangs in shard.1' '16 faults: '

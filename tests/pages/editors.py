@@ -57,7 +57,7 @@ job event { # a "name"; sleep 5; }
       after 5 shield{
       start over_2 over 2{find "a \"sleep\" # } \\ \x00";need "#"  # the exception
         set;}
-      repeat 3{start After{checkpoint;raise Sleep;}}
+      repeat 3{start After{checkpoint;raise Sleep;}}repeat over 2{longest;}
       set # what
       wait;
       wait wait;

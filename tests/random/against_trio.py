@@ -157,6 +157,8 @@ class Task:
                 await self.nursery(name, after, shield, items, scopes)
             case ("repeat", count, body):
                 await self.repeat(count, body, scopes)
+            case ("repeat over", count, body):
+                await self.repeat_over(count, body, scopes)
             case ("try", body, handler, cleanup):
                 await self.handled(body, handler, cleanup, scopes)
 
@@ -187,6 +189,18 @@ class Task:
                 await (run or self.block)(body, scopes)
         finally:
             self.indices = around
+
+    async def repeat_over(self, count, body, scopes):
+        part, cuts = self.part, iter(cuts_of(self.part, count))
+
+        async def on_its_cut(body, scopes):
+            self.part = next(cuts)
+            await self.block(body, scopes)
+
+        try:
+            await self.repeat(count, body, scopes, on_its_cut)
+        finally:
+            self.part = part
 
     async def nursery(self, name, after, shield, items, scopes):
         label = self.label_of(name)

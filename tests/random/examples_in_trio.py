@@ -65,7 +65,8 @@ class Reader:
         if kind == "start":
             return kind, self.word(), int(self.word()) if self.has("over") else None, self.block()
         if kind == "repeat":
-            return kind, int(self.word()), self.block()
+            over = self.has("over")
+            return "repeat over" if over else kind, int(self.word()), self.block()
         if kind == "event":
             return kind, self.word(), self.block()
         if kind == "try":

@@ -38,6 +38,8 @@ class Jobs:
         if depth == 0 or pick < 0.3:
             return self.leaf(around)
         if self.format >= 2 and pick < 0.4:
+            if self.format >= 3 and self.random.random() < 0.3:
+                return ("repeat over", self.random.randint(1, 3), self.block(depth - 1, around, 3))
             return ("repeat", self.random.randint(0, 3), self.block(depth - 1, around, 3))
         if pick < 0.5:
             return self.scope(depth, around)
@@ -148,8 +150,8 @@ def text_of(step):
             return " ".join(words) + " " + text_of_block(body)
         case ("nursery", name, after, shield, items):
             return f"nursery {name} " + (f"after {after} " if after is not None else "") + "shield " * shield + text_of_block(items)
-        case ("repeat", count, body):
-            return f"repeat {count} " + text_of_block(body)
+        case ("repeat" | "repeat over" as head, count, body):
+            return f"{head} {count} " + text_of_block(body)
         case ("event", name, body):
             return f"event {name} " + text_of_block(body)
         case ("start", name, over, body):

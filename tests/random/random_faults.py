@@ -34,7 +34,7 @@ KINDS = {
 }
 
 
-UNTRIED = "copies that pace or need lines were not tried singly: each has its own part of the input\n"
+UNTRIED = "copies or passes that pace or need lines were not tried singly: each has its own part of the input\n"
 
 
 class Wrong(Exception):
@@ -230,7 +230,7 @@ def blocks_of(tokens):
         if tokens[n - 1][0] not in "{};":
             continue
         if token == "repeat":
-            head, name = n + 1, None
+            head, name = n + 1 + (tokens[n + 1][0] == "over"), None
         elif token == "start" and tokens[n + 2][0] == "over":
             head, name = n + 3, tokens[n + 1][0]
         else:
@@ -265,10 +265,10 @@ def written_out(text, tokens, block, index):
 
 
 def is_divided(tokens, block):
-    """Whether the copies of a block have different parts of an input, and a `pace` or `need` is in it."""
-    _, number, close, name = block
+    """Whether the copies or passes of a block have different parts of an input, and a `pace` or `need` is in it."""
+    _, number, close, _ = block
     inside = any(token in ("pace", "need") and tokens[n - 1][0] in "{};" for n, (token, _) in enumerate(tokens) if number < n < close)
-    return name is not None and int(tokens[number][0]) > 1 and inside
+    return tokens[number - 1][0] == "over" and int(tokens[number][0]) > 1 and inside
 
 
 def rows_in_parts(runs, text, raising):

@@ -211,6 +211,7 @@ def deep_jobs():
     forms = {
         "scopes": lambda n, inner: f"scope s{n} after 9 {{ {inner} }}",
         "passes": lambda n, inner: f"repeat 1 {{ {inner} }}",
+        "passes over cuts": lambda n, inner: f"repeat over 1 {{ {inner} }}",
         "bodies": lambda n, inner: f"try {{ {inner} }} except A {{ }} finally {{ }}",
         "handlers": lambda n, inner: f"try {{ raise A; }} except A {{ {inner} }} finally {{ }}",
         "cleanups": lambda n, inner: f"try {{ raise A; }} except A {{ }} finally {{ {inner} }}",
@@ -224,7 +225,7 @@ def deep_jobs():
         inner = 'sleep 1; find "ok"; need "absent" B;'
         for n in range(31):
             inner = form(n, inner)
-        yield f"deep {name}", f"trio-job 2\njob main {{ {inner} }}".encode(), INPUT
+        yield f"deep {name}", f"trio-job {3 if 'over' in name else 2}\njob main {{ {inner} }}".encode(), INPUT
 
 
 KEYWORDS = (
@@ -246,7 +247,7 @@ def names_of(tree):
             yield node.name.split(".")[0]
 
 
-ALL_STEPS = b"""trio-job 2
+ALL_STEPS = b"""trio-job 3
 job main {
   nursery n after 9 shield {
     start t over 2 { pace 1; find "e"; head 1; longest; }
@@ -254,13 +255,13 @@ job main {
   }
   scope s at 99 shield { checkpoint; }
   scope f fail { } scope g after 1 fail { } scope h shield { }
-  try { need "absent" E; } except E { repeat 2 { sleep 1; } } finally { }
+  try { need "absent" E; } except E { repeat 2 { sleep 1; } repeat over 2 { longest; } } finally { }
 }"""
 
 
 def named_jobs(exporter):
     """Jobs whose names are those that a program uses, and words of Python."""
-    words = {*names_of(Exported(exporter, ALL_STEPS).tree), *keyword.kwlist, "nested_block", "nested_cleanup", "A", "A_", "A__", "print_", "print__"}
+    words = {*names_of(Exported(exporter, ALL_STEPS).tree), *keyword.kwlist, "each_part", "nested_block", "nested_cleanup", "A", "A_", "A__", "print_", "print__"}
     words = sorted(word for word in words if re.fullmatch("[A-Za-z][A-Za-z0-9_]{0,31}", word) and word not in KEYWORDS)
     handled = "".join(f"try {{ raise {word}; }} except {word} {{ sleep 1; }} " for word in words)
     for start in range(0, len(words), 20):

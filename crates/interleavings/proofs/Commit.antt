@@ -8,7 +8,7 @@ use Rattle.job_meaning.specs.Log.{Log, nil, entry, sign, entered, task, followed
 use Rattle.job_meaning.specs.Moments.{a_round_after, Now, only_at}
 use Rattle.job_meaning.specs.Walk.{by_table}
 use Rattle.job_meaning.specs.Before.{upto}
-use Rattle.job_meaning.specs.Rest.{Event, noted, signs, enters, starts, ChildOutcomes, fill, Stopped, rest_comes_to, rest_at_start}
+use Rattle.job_meaning.specs.Rest.{Event, noted, signs, enters, starts, ChildOutcomes, fill, Stopped, rest_comes_to, rest_at_start, inside}
 use Rattle.job_meaning.proofs.Clips.{upto_most, upto_earlier}
 use Rattle.job_meaning.proofs.Finish.{followed_assoc, fill_append, finish_begin}
 use Rattle.turn_semantics.specs.Midway.{stack_at, Begun, Move, now_after, no_outcomes, begun_comes_to}
@@ -141,7 +141,7 @@ module _ (k : Table) (t : ℕ) (outcomes : ChildOutcomes) where
 module _ (k f : Table) (now : Now) (m : ℕ) (wake : Wake) (q : Started) (o : Move) (s : Stopped)
     (w : TurnsOver q.stop now q.here f wake q.rest q.places q.count o) (stopped : o.stopped ≡ Some s) (fit : Fits k q)
     (near : AgreesOn now.at k f q.places) (deadlines : AgreesIn now.at k q.left)
-    (come : (outcomes : ChildOutcomes) → Tells q outcomes → WakesBy k outcomes q.here q.stop now wake q.rest.stopped q.places) where
+    (come : (outcomes : ChildOutcomes) → Tells q outcomes → WakesBy k outcomes (inside q.rest.frames q.here) q.stop now wake q.rest.stopped q.places) where
   -- the moment in which the new children begin
   abbrev next : ℕ
   next = a_round_after q.here.clock now.at

@@ -9,7 +9,7 @@ use Rattle.job_meaning.specs.Moments.{a_round_after, Now}
 use Rattle.job_meaning.specs.declared.clock.Clock.{Clock}
 use Rattle.job_meaning.specs.Walk.{by_table}
 use Rattle.job_meaning.specs.Before.{upto, Near}
-use Rattle.job_meaning.specs.Rest.{Event, noted, signs, enters, starts, ChildOutcomes, Stopped, Rest, rest_comes_to, rest_weight, stop_weight, frames_weight}
+use Rattle.job_meaning.specs.Rest.{Event, noted, signs, enters, starts, ChildOutcomes, Stopped, Rest, rest_comes_to, rest_weight, stop_weight, frames_weight, inside}
 use Rattle.turn_semantics.specs.Midway.{Place, level_on, stack_at, Begun, Move, now_after, after_events, stop_comes_to}
 use Rattle.turn_semantics.specs.Steps.{cancelled_from_after}
 use Rattle.turn_semantics.specs.Placed.{PlacedStop, PlacedAfter}
@@ -112,7 +112,7 @@ module _ (now : Now) (f : Table) (wake : Wake) (q : Started) (o : Move) (s : Sto
   -- what was left before the turn results in what it did, followed by the result of what is left after it
   pub keeps_to : (k : Table) (outcomes : ChildOutcomes) → AgreesOn now.at k f q.places →
       AgreesIn now.at k (rest_comes_to (by_table k) outcomes q.rest q.here (stack_at k q.places) q.stop).log → AreOutcomes (a_round_after q.here.clock now.at) k outcomes o.begun →
-      WakesBy k outcomes q.here q.stop now wake q.rest.stopped q.places →
+      WakesBy k outcomes (inside q.rest.frames q.here) q.stop now wake q.rest.stopped q.places →
       rest_comes_to (by_table k) outcomes q.rest q.here (stack_at k q.places) q.stop
       ≡ after_events outcomes o.made (rest_comes_to (by_table k) outcomes rest_after q.here (stack_at k o.places) (now_after q.here.clock now o.made))
   keeps_to k outcomes near inside all come =

@@ -212,7 +212,7 @@ mutual
       each_child _ _ _ t (each_signed st _ (each_walked m body _ c st (only_at (a_round_after here.clock t.at))))
   each_step m (start name (Some k) body) here c st t =
       each_each k _ t (λ i. each_child _ _ _ t (each_signed st _ (each_walked m body _ c st (only_at (a_round_after here.clock t.at)))))
-  each_step m (repeat count body) here c st t = each_passes count 0 _ t (λ i u. each_walked m body _ c st u)
+  each_step m (repeat count over body) here c st t = each_passes count 0 _ t (λ i u. each_walked m body _ c st u)
   each_step m (attempt body handler cleanup) here c st t =
       each_cleanup m cleanup here c st _ (each_handler m handler here c st _ (each_walked m body here c st t))
 

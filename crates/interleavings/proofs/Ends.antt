@@ -282,8 +282,10 @@ mutual
       ends_each k _ t (λ i. child_ends _ (a_round_after here.clock t.at) _ t)
       (λ i. ends_child _ (a_round_after here.clock t.at) _ t (ends_signed false st _ (ends m false b _ st (only_at (a_round_after here.clock t.at)) p.1)))
   ends_step m false (start name over b) here st t p = cc
-  ends_step m body (repeat count b) here st t p =
+  ends_step m body (repeat count false b) here st t p =
       ends_passes body count 0 _ t (λ i u. ends m body b _ st u p) (λ i u. late m b _ st u)
+  ends_step m body (repeat count true b) here st t p =
+      ends_in body _ (ends_passes false count 0 _ t (λ i u. ends m false b _ st u p) (λ i u. late m b _ st u))
   ends_step m body (attempt b handler cleanup) here st t p =
       ends_cleanup m body cleanup here st _ p.2 (ends_handler m body handler here st _ p.1 (ends_in body _ (ends m false b here st t p.0)))
 

@@ -13,7 +13,7 @@ use Rattle.job_meaning.specs.declared.clock.Clock.TheVariants.{ByTicks as by_tic
 use Rattle.job_meaning.specs.Walk.{Levels, Stack, by_table, Here, done_at, raised_at, pace_ticks, wait_by_sight, sleep_result, pace_result, wait_until, set_moment, wait_by, with_line_if, with_line, event_wait, label_if, level_if, event_on, a_nursery, nursery_result, latest}
 use Rattle.job_meaning.specs.Before.{upto}
 use Rattle.job_meaning.specs.Asking.{Answer, lines, missing, counted, answer_of, Purpose, shows, needs, paces, answer_result}
-use Rattle.job_meaning.specs.Rest.{ChildOutcomes, outcome_members, Frame, Stopped, to_begin, asking, asleep, waiting_for, giving_up, awaiting, at_end, wait_result, rest_comes_to}
+use Rattle.job_meaning.specs.Rest.{ChildOutcomes, outcome_members, Frame, Stopped, to_begin, asking, asleep, waiting_for, giving_up, awaiting, at_end, wait_result, rest_comes_to, inside}
 use Rattle.job_meaning.proofs.MomentLemmas.{wakes_after, gives_up_after}
 use Rattle.job_meaning.proofs.Late.{Late, Timed, timed_earlier, late_done, late_raised, late_raising, late_waited, late_pacing, late_until, late_showing, latest_ends}
 use Rattle.job_meaning.proofs.Clips.{NearEvents}
@@ -355,8 +355,8 @@ module _ (k : Table) (outcomes : ChildOutcomes) (here : Here) (t : Now) (v : ℕ
       Late v (rest_comes_to (by_table k) outcomes (record { stopped = s; frames = fs }) here (stack_at k ps) t)
   late_rest to_begin fs ps h l le = late_finish fs v (by_table k) outcomes here (stack_at k ps) (done_at t) (late_done v t le)
   late_rest (asking kernel purpose) fs ps h l le =
-      late_finish fs v (by_table k) outcomes here (stack_at k ps) (answer_result (answer_of kernel here) purpose here (stack_at k ps) t)
-      (late_earlier v t.at _ le (late_answered (answer_of kernel here) purpose here (stack_at k ps) t))
+      late_finish fs v (by_table k) outcomes here (stack_at k ps) (answer_result (answer_of kernel (inside fs here)) purpose here (stack_at k ps) t)
+      (late_earlier v t.at _ le (late_answered (answer_of kernel (inside fs here)) purpose here (stack_at k ps) t))
   late_rest (asleep false n since) fs ps h l le =
       late_finish fs v (by_table k) outcomes here (stack_at k ps) (sleep_result here.clock (stack_at k ps) n since)
       (late_slept v here.clock false (stack_at k ps) n since (omega arith))

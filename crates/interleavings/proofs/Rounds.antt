@@ -16,7 +16,7 @@ use Rattle.job_meaning.specs.Walk.{no_stack, by_table, event_on, level_if, set_m
 use Rattle.job_meaning.specs.Before.{upto}
 use Rattle.job_meaning.specs.Meaning.{root_here}
 use Rattle.job_meaning.specs.Follow.{follow, IsSettled}
-use Rattle.job_meaning.specs.Rest.{Event, noted, signs, enters, starts, Stopped, to_begin, asking, asleep, waiting_for, giving_up, awaiting, at_end}
+use Rattle.job_meaning.specs.Rest.{Event, noted, signs, enters, starts, Stopped, to_begin, asking, asleep, waiting_for, giving_up, awaiting, at_end, inside}
 use Rattle.turn_semantics.specs.Midway.{Place, level_on, stack_at, Begun, Move, OwnFits}
 use Rattle.turn_semantics.specs.Wakes.{Wake, begins, sees, gives_up, is_due, has_answer, settles, set_at, ends_at, SettlesAt, SeesAt, GoesOnWaiting, WakesBy}
 use Rattle.turn_semantics.specs.Turned.{AllBy, MadeAt, made_sign, StopsAt, TurnsOver}
@@ -356,7 +356,7 @@ module _ (k f : Table) (job : Tree) (input : List ℕ) (settled : IsSettled k jo
         some l same lt g = moment_below l.from since h (λ x. from_below l.label (sym same ∙ x)) g
 
     by_stop : (own : List Label) (wake : Wake) (s : Stopped) → StopBelow n q.stop.at s →
-        WakesBy k q.outcomes q.here q.stop (record { at = t; own = own }) wake s q.places →
+        WakesBy k q.outcomes (inside q.rest.frames q.here) q.stop (record { at = t; own = own }) wake s q.places →
         MayWake f qs (record { at = t; own = own }) q wake s → round_of t ≤ n
     by_stop own begins to_begin b w h = subst (λ (v : Now). round_of v.at ≤ n) h b
     by_stop own begins (asking kernel purpose) b w h = absurd h

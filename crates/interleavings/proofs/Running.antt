@@ -11,7 +11,7 @@ use Rattle.job_meaning.specs.declared.clock.Clock.TheVariants.{ByTicks as by_tic
 use Rattle.job_meaning.specs.Walk.{no_stack, by_table}
 use Rattle.job_meaning.specs.Meaning.{root_here, records_of, root_log, all_entered, cancelled_from_by, meaning, meaning_table}
 use Rattle.job_meaning.specs.Follow.{follow, IsSettled}
-use Rattle.job_meaning.specs.Rest.{ChildOutcomes, Stopped, to_begin, asking, asleep, waiting_for, giving_up, awaiting, at_end, rest_weight, rest_at_start}
+use Rattle.job_meaning.specs.Rest.{ChildOutcomes, Stopped, to_begin, asking, asleep, waiting_for, giving_up, awaiting, at_end, rest_weight, rest_at_start, inside}
 use Rattle.job_meaning.proofs.Settled.{following_is_meaning, table_is_settled}
 use Rattle.turn_semantics.specs.Midway.{Begun, Move, OwnFits}
 use Rattle.turn_semantics.specs.Steps.{cancelled_from_after}
@@ -153,7 +153,7 @@ kept_turn k f whole now m q qs others wake o s h owns at may w e = record {
     small : (x : Started) → IsAmong x (q ∷ others) → x.serial < m
     small x i = h.small x (same.back x i)
 
-    come : (outcomes : ChildOutcomes) → Tells q outcomes → WakesBy k outcomes q.here q.stop now wake q.rest.stopped q.places
+    come : (outcomes : ChildOutcomes) → Tells q outcomes → WakesBy k outcomes (inside q.rest.frames q.here) q.stop now wake q.rest.stopped q.places
     come = woken k f whole (q ∷ others) interleaving now.at from q (inl refl) now.own wake (owns q (same.back q (inl refl))) may
 
     small_after : (x : Started) →

@@ -9,7 +9,7 @@ use Rattle.job_meaning.specs.Log.{Log, Result, least_sign, from_by, times_entere
 use Rattle.job_meaning.specs.Moments.{a_round_after, wakes_at, Now, only_at}
 use Rattle.job_meaning.specs.Walk.{event_on, latest}
 use Rattle.job_meaning.specs.Before.{upto}
-use Rattle.job_meaning.specs.Rest.{Event, ChildOutcomes, fill, outcome_members, Stopped, to_begin, asking, asleep, waiting_for, giving_up, awaiting, at_end, noted, signs, enters, starts}
+use Rattle.job_meaning.specs.Rest.{Event, ChildOutcomes, fill, outcome_members, Stopped, to_begin, asking, asleep, waiting_for, giving_up, awaiting, at_end, noted, signs, enters, starts, inside}
 use Rattle.job_meaning.proofs.MomentLemmas.{round_after, wakes_after}
 use Rattle.job_meaning.proofs.Clips.{upto_most}
 use Rattle.job_meaning.proofs.Late.{late_awaiting, latest_ends}
@@ -149,7 +149,7 @@ module _ (k f : Table) (whole : Result) (q : Started) (ys : List Started) (inter
     (now : Now) (from : AllFrom k (q ∷ ys) now.at) (m : ℕ) (small : (x : Started) → IsAmong x (q ∷ ys) → x.serial < m)
     (wake : Wake) (o : Move) (s : Stopped)
     (w : TurnsOver q.stop now q.here f wake q.rest q.places q.count o) (stopped : o.stopped ≡ Some s)
-    (come : (outcomes : ChildOutcomes) → Tells q outcomes → WakesBy k outcomes q.here q.stop now wake q.rest.stopped q.places) where
+    (come : (outcomes : ChildOutcomes) → Tells q outcomes → WakesBy k outcomes (inside q.rest.frames q.here) q.stop now wake q.rest.stopped q.places) where
   -- the moment in which the new children begin
   abbrev next : ℕ
   next = a_round_after q.here.clock now.at

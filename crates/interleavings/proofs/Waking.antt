@@ -9,7 +9,7 @@ use Rattle.job_meaning.specs.Moments.{wakes_at, Now}
 use Rattle.job_meaning.specs.declared.clock.Clock.{Clock}
 use Rattle.job_meaning.specs.Walk.{event_on}
 use Rattle.job_meaning.specs.Before.{Near}
-use Rattle.job_meaning.specs.Rest.{ChildOutcomes, outcome_members, Stopped, to_begin, asking, asleep, waiting_for, giving_up, awaiting, at_end}
+use Rattle.job_meaning.specs.Rest.{ChildOutcomes, outcome_members, Stopped, to_begin, asking, asleep, waiting_for, giving_up, awaiting, at_end, inside}
 use Rattle.job_meaning.proofs.Clips.{seen_near, event_near}
 use Rattle.turn_semantics.specs.Midway.{label_among, stack_at, OwnFits}
 use Rattle.turn_semantics.specs.Placed.{IsSome, PlacedStop}
@@ -71,7 +71,7 @@ module _ (k f : Table) (whole : Result) (qs : List Started) (o : RunInvariant k 
   by_stop : (own : List Label) (wake : Wake) (s : Stopped) → PlacedStop s q.rest.frames q.places → (outcomes : ChildOutcomes) → Tells q outcomes →
       (live s ≡ true → t ≤ goes_on q.here.clock q.outcomes s (stack_at k q.places) q.stop.at) → OwnFits q.here.clock q.stop.own →
       MayWake f qs (record { at = t; own = own }) q wake s →
-      WakesBy k outcomes q.here q.stop (record { at = t; own = own }) wake s q.places
+      WakesBy k outcomes (inside q.rest.frames q.here) q.stop (record { at = t; own = own }) wake s q.places
   by_stop own begins to_begin place outcomes tells late fits h = (h, subst (λ (v : Now). OwnFits q.here.clock v.own) h fits)
   by_stop own begins (asking kernel purpose) place outcomes tells late fits h = absurd h
   by_stop own begins (asleep paced n since) place outcomes tells late fits h = absurd h
@@ -128,5 +128,5 @@ module _ (k f : Table) (whole : Result) (qs : List Started) (o : RunInvariant k 
   -- cancelled itself in the moment of its last stop has to fit its clock.
   pub woken : (own : List Label) (wake : Wake) → OwnFits q.here.clock q.stop.own →
       MayWake f qs (record { at = t; own = own }) q wake q.rest.stopped → (outcomes : ChildOutcomes) → Tells q outcomes →
-      WakesBy k outcomes q.here q.stop (record { at = t; own = own }) wake q.rest.stopped q.places
+      WakesBy k outcomes (inside q.rest.frames q.here) q.stop (record { at = t; own = own }) wake q.rest.stopped q.places
   woken own wake fits h outcomes tells = by_stop own wake q.rest.stopped (o.shape q i) outcomes tells (from q i) fits h

@@ -7,7 +7,7 @@ use Rattle.job_meaning.specs.Log.{Member, Table}
 use Rattle.job_meaning.specs.Moments.{a_round_after, wakes_at, Now}
 use Rattle.job_meaning.specs.declared.clock.Clock.{Clock}
 use Rattle.job_meaning.specs.Asking.{answer_of}
-use Rattle.job_meaning.specs.Rest.{Stopped, to_begin, asking, asleep, waiting_for, giving_up, awaiting, at_end}
+use Rattle.job_meaning.specs.Rest.{Stopped, to_begin, asking, asleep, waiting_for, giving_up, awaiting, at_end, inside}
 use Rattle.turn_semantics.specs.Midway.{stack_at}
 use Rattle.turn_semantics.specs.Wakes.{Wake, begins, sees, gives_up, is_due, has_answer, settles, ends_at, SettlesAt}
 pub use Rattle.interleavings.specs.Interleaving.{members_by}
@@ -37,7 +37,7 @@ IsOver clock set since t seen_now =
 -- cancelled itself in the moment counts on, if it asked.
 abbrev pub MayWake : Table → List Started → Now → Started → Wake → Stopped → Type 0
 MayWake f qs now q begins to_begin = q.stop ≡ now
-MayWake f qs now q (has_answer a) (asking kernel purpose) = (q.stop ≡ now) × (a ≡ answer_of kernel q.here)
+MayWake f qs now q (has_answer a) (asking kernel purpose) = (q.stop ≡ now) × (a ≡ answer_of kernel (inside q.rest.frames q.here))
 MayWake f qs now q is_due (asleep paced n since) =
     (wakes_at q.here.clock n since ≡ now.at) × (seen (stack_at f q.places).scopes now.at ≡ false) × (now.own ≡ [])
 MayWake f qs now q sees (asleep paced n since) = (since < now.at) × (seen (stack_at f q.places).scopes now.at ≡ true) × (now.own ≡ [])

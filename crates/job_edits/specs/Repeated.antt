@@ -1,6 +1,6 @@
 -- The blocks of a job text that run several times, found among its tokens: those of a `start NAME over N`, of which N copies run, and those
--- of a `repeat N`, which runs N passes.
-use Rattle.std.specs.Prelude.{ℕ, zero, ◌+◌, ◌-◌, Bool, true, false, ◌&&◌, ◌||◌, nat_lt, is_some, if◌then◌else◌, List, [], ◌∷◌, Option, Some, None}
+-- of a `repeat N` or `repeat over N`, which runs N passes.
+use Rattle.std.specs.Prelude.{ℕ, zero, ◌+◌, ◌-◌, Bool, true, false, ◌&&◌, ◌||◌, nat_lt, if◌then◌else◌, List, [], ◌∷◌, Option, Some, None}
 use Rattle.job_tokens.specs.declared.token.Token.{Token}
 use Rattle.job_tokens.specs.declared.token.Mark.{Mark}
 use Rattle.job_tokens.specs.declared.token.Mark.TheVariants.{Open, Close, Semicolon}
@@ -46,19 +46,22 @@ by_input_before closing begins [] = false
 by_input_before closing begins (t ∷ ts) =
     nat_lt t.at closing && (is_by_input (step_keyword begins t) || by_input_before closing (begins_after t) ts)
 
--- The copies of a block have different parts of the input, and what they do depends on it. The passes of a `repeat` have the same part.
+-- The copies or passes of a block have different parts of the input, and what they do depends on it. The passes of a `repeat` without `over`
+-- have the same part.
 abbrev pub is_divided : RepeatedBlock → Bool
-is_divided b = is_some b.name && (b.by_input && nat_lt 1 b.number.value)
+is_divided b = b.over && (b.by_input && nat_lt 1 b.number.value)
 
 -- ---- a block and its number
 
 -- given the brace that closes it, and the tokens after the one that opens it
-abbrev pub closed_block : (from : ℕ) → Option (List ℕ) → Number → (opening : ℕ) → Option ℕ → List Token → Option RepeatedBlock
-closed_block from name number opening None ts = None
-closed_block from name number opening (Some closing) ts =
+abbrev pub closed_block : (from : ℕ) → Option (List ℕ) → (over : Bool) → Number → (opening : ℕ) → Option ℕ → List Token →
+    Option RepeatedBlock
+closed_block from name over number opening None ts = None
+closed_block from name over number opening (Some closing) ts =
     Some (record {
       from = from;
       name = name;
+      over = over;
       number = number;
       opening = opening;
       closing = closing;
@@ -66,24 +69,24 @@ closed_block from name number opening (Some closing) ts =
     })
 
 -- given a brace that may open it, and the tokens after that
-abbrev pub opened_block : (from : ℕ) → Option (List ℕ) → Number → (at : ℕ) → Option Mark → List Token → Option RepeatedBlock
-opened_block from name number at (Some Open) ts = closed_block from name number at (closing_from 0 ts) ts
-opened_block from name number at _ ts = None
+abbrev pub opened_block : (from : ℕ) → Option (List ℕ) → (over : Bool) → Number → (at : ℕ) → Option Mark → List Token → Option RepeatedBlock
+opened_block from name over number at (Some Open) ts = closed_block from name over number at (closing_from 0 ts) ts
+opened_block from name over number at _ ts = None
 
 -- given the tokens after the number
-abbrev pub counted_block : (from : ℕ) → Option (List ℕ) → Option Number → List Token → Option RepeatedBlock
-counted_block from name None ts = None
-counted_block from name (Some number) [] = None
-counted_block from name (Some number) (t ∷ ts) = opened_block from name number t.at (mark_in t.shape) ts
+abbrev pub counted_block : (from : ℕ) → Option (List ℕ) → (over : Bool) → Option Number → List Token → Option RepeatedBlock
+counted_block from name over None ts = None
+counted_block from name over (Some number) [] = None
+counted_block from name over (Some number) (t ∷ ts) = opened_block from name over number t.at (mark_in t.shape) ts
 
 -- given the tokens from the number on
-abbrev pub numbered_block : (from : ℕ) → Option (List ℕ) → List Token → Option RepeatedBlock
-numbered_block from name [] = None
-numbered_block from name (t ∷ ts) = counted_block from name (number_of t) ts
+abbrev pub numbered_block : (from : ℕ) → Option (List ℕ) → (over : Bool) → List Token → Option RepeatedBlock
+numbered_block from name over [] = None
+numbered_block from name over (t ∷ ts) = counted_block from name over (number_of t) ts
 
 -- given the keyword of a token that may be `over`, and the tokens after that
 abbrev pub over_block : (from : ℕ) → List ℕ → Option Keyword → List Token → Option RepeatedBlock
-over_block from name (Some keyword.Over) ts = numbered_block from (Some name) ts
+over_block from name (Some keyword.Over) ts = numbered_block from (Some name) true ts
 over_block from name _ ts = None
 
 -- given the name of a `start`, if there is one, and the tokens after the name
@@ -97,9 +100,19 @@ abbrev pub start_block : (from : ℕ) → List Token → Option RepeatedBlock
 start_block from [] = None
 start_block from (t ∷ ts) = named_block from (word_in t.shape) ts
 
+-- given the first token after `repeat`, the keyword that it is, and the tokens after it
+abbrev pub passes_by : (from : ℕ) → Token → Option Keyword → List Token → Option RepeatedBlock
+passes_by from t (Some keyword.Over) ts = numbered_block from None true ts
+passes_by from t _ ts = numbered_block from None false (t ∷ ts)
+
+-- given the tokens after `repeat`
+abbrev pub repeat_block : (from : ℕ) → List Token → Option RepeatedBlock
+repeat_block from [] = None
+repeat_block from (t ∷ ts) = passes_by from t (keyword_in (word_in t.shape)) ts
+
 -- the block that runs several times and whose head begins with a keyword at a place, given the tokens after the keyword
 abbrev pub block_by : (from : ℕ) → Option Keyword → List Token → Option RepeatedBlock
-block_by from (Some keyword.Repeat) ts = numbered_block from None ts
+block_by from (Some keyword.Repeat) ts = repeat_block from ts
 block_by from (Some keyword.Start) ts = start_block from ts
 block_by from _ ts = None
 

@@ -1,7 +1,7 @@
 ghost use Rattle.std.specs.Prelude.{◌≡◌, ◌<◌, [], ◌++◌, Some, true, IfOk, OnOk};
 ghost use Rattle.job_tokens.specs.Shapes.{mark_in};
 ghost use Rattle.job_edits.specs.Waiting.{step_keyword};
-ghost use Rattle.job_edits.specs.Repeated.{depth_by, closes, closing_from, is_by_input, by_input_before, is_divided, opened_block, counted_block, numbered_block, over_block, named_block, start_block, block_by, with_block, repeated_in};
+ghost use Rattle.job_edits.specs.Repeated.{depth_by, closes, closing_from, is_by_input, by_input_before, is_divided, opened_block, counted_block, numbered_block, over_block, named_block, start_block, passes_by, repeat_block, block_by, with_block, repeated_in};
 
 use crate::number::{Number, number_of};
 use crate::waiting::{begins_after, keyword_in, step_keyword};
@@ -10,14 +10,16 @@ use job_tokens::{Mark, Token};
 use job_tree::Name;
 use std::alloc::{AllocError, Global};
 
-/// A block that runs several times: that of a `start NAME over N`, of which N copies run, or that of a `repeat N`, which runs N
-/// passes. Places are in bytes from the start of the text.
+/// A block that runs several times: that of a `start NAME over N`, of which N copies run, or that of a `repeat N` or
+/// `repeat over N`, which runs N passes. Places are in bytes from the start of the text.
 #[derive(Clone, Copy)]
 pub struct RepeatedBlock {
     /// The place of the keyword that begins its head.
     pub from: usize,
     /// The name of the tasks that are started, or `None` for a `repeat`.
     pub name: Option<Name>,
+    /// Whether each copy or pass has its own cut of the task's part of the input.
+    pub over: bool,
     /// How often it runs.
     pub number: Number,
     /// The place of the brace that opens it.
@@ -30,17 +32,17 @@ pub struct RepeatedBlock {
 }
 
 impl RepeatedBlock {
-    /// Returns whether what its copies do depends on their parts of the input, which are different. (All passes of a `repeat`
-    /// have the part of their task.)
+    /// Returns whether what its copies or passes do depends on their parts of the input, which are different. (All passes of a
+    /// `repeat` without `over` have the part of their task.)
     pub fn is_divided(&self) -> bool
         ensures { result ≡ is_divided self.now }
     {
-        self.name.is_some() && self.by_input && self.number.value > 1
+        self.over && self.by_input && self.number.value > 1
     }
 }
 
 /// Returns the blocks of the job text with these tokens that run several times, in the order of their places: each
-/// `start NAME over N` and each `repeat N`. A block comes before those in it. The only error is that memory runs out.
+/// `start NAME over N`, `repeat N` and `repeat over N`. A block comes before those in it. The only error is that memory runs out.
 pub fn repeated_blocks(alloc: Global, tokens: &[Token]) -> Result<Vec<RepeatedBlock>, AllocError>
     ensures { IfOk result (λ blocks. blocks.items ≡ repeated_in tokens.now) }
 {
@@ -80,9 +82,20 @@ fn block_by(from: usize, keyword: Option<Keyword>, tokens: &[Token]) -> Option<R
     ensures { result ≡ block_by from keyword tokens.now }
 {
     match keyword? {
-        Keyword::Repeat => numbered_block(from, None, tokens),
+        Keyword::Repeat => repeat_block(from, tokens),
         Keyword::Start => start_block(from, tokens),
         _ => None,
+    }
+}
+
+// Returns the block of a `repeat` at `from`. `tokens` are the tokens after the keyword.
+fn repeat_block(from: usize, tokens: &[Token]) -> Option<RepeatedBlock>
+    ensures { result ≡ repeat_block from tokens.now }
+{
+    let (token, others) = tokens.split_first()?;
+    match keyword_in(*token) {
+        Some(Keyword::Over) => numbered_block(from, None, true, others),
+        _ => numbered_block(from, None, false, tokens),
     }
 }
 
@@ -101,28 +114,34 @@ fn named_block(from: usize, name: Name, tokens: &[Token]) -> Option<RepeatedBloc
 {
     let (token, others) = tokens.split_first()?;
     match keyword_in(*token)? {
-        Keyword::Over => numbered_block(from, Some(name), others),
+        Keyword::Over => numbered_block(from, Some(name), true, others),
         _ => None,
     }
 }
 
 // Returns the block of a head at `from`, given the tokens from the number on.
-fn numbered_block(from: usize, name: Option<Name>, tokens: &[Token]) -> Option<RepeatedBlock>
-    ensures { result ≡ numbered_block from name tokens.now }
+fn numbered_block(
+    from: usize,
+    name: Option<Name>,
+    over: bool,
+    tokens: &[Token],
+) -> Option<RepeatedBlock>
+    ensures { result ≡ numbered_block from name over tokens.now }
 {
     let (token, others) = tokens.split_first()?;
     let number = number_of(*token)?;
-    counted_block(from, name, number, others)
+    counted_block(from, name, over, number, others)
 }
 
 // Returns the block of a head with this number. `tokens` are the tokens after the number.
 fn counted_block(
     from: usize,
     name: Option<Name>,
+    over: bool,
     number: Number,
     tokens: &[Token],
 ) -> Option<RepeatedBlock>
-    ensures { result ≡ counted_block from name (Some number) tokens.now }
+    ensures { result ≡ counted_block from name over (Some number) tokens.now }
 {
     let (token, others) = tokens.split_first()?;
     let opening = token.at;
@@ -133,6 +152,7 @@ fn counted_block(
             Some(RepeatedBlock {
                 from,
                 name,
+                over,
                 number,
                 opening,
                 closing,

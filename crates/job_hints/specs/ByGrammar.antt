@@ -92,6 +92,16 @@ open_advice (Some word.Shield) shape = nursery_order_advice shape
 open_advice (Some word.Fail) shape = order_advice shape
 open_advice _ shape = bound_advice block.OtherHead shape
 
+-- `over` after `repeat`, where it is not read: formats 1 and 2 have no `repeat over`
+abbrev pub newest_over : Option Keyword → Option Advice
+newest_over (Some word.Over) = Some advice.NewestFormat
+newest_over _ = None
+
+-- where a number is to be, given the keyword before it
+abbrev pub number_place_advice : Option Keyword → Shape → Option Advice
+number_place_advice (Some word.Repeat) shape = newest_over (keyword_in (Some shape))
+number_place_advice _ shape = None
+
 -- ---- steps
 
 -- a `start` where none may be, or a word of another language or library
@@ -134,6 +144,7 @@ nonterminal_advice nonterminal.StepsTail before shape = word_advice (Some shape)
 nonterminal_advice nonterminal.ItemsTail before shape = word_advice (Some shape)
 nonterminal_advice nonterminal.Handled before shape = Some (advice.Block block.UnnamedHandler)
 nonterminal_advice nonterminal.Semicolon before shape = semicolon_advice (next Three nonterminal.Items shape)
+nonterminal_advice nonterminal.Number before shape = number_place_advice (keyword_in before) shape
 nonterminal_advice _ before shape = None
 
 -- that a token is allowed in a newer format, or another sentence

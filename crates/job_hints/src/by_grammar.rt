@@ -7,7 +7,8 @@ ghost use Rattle.job_hints.specs.ByGrammar.{keyword_in, newer_advice, syntax_adv
 use crate::advice::Advice;
 use crate::block::BlockAdvice;
 use crate::heads::{
-    nursery_advice, nursery_order_advice, open_advice, order_advice, over_advice, unnamed_advice,
+    number_place_advice, nursery_advice, nursery_order_advice, open_advice, order_advice,
+    over_advice, unnamed_advice,
 };
 use crate::words::word_advice;
 use job_syntax::{Keyword, Nonterminal};
@@ -94,10 +95,12 @@ fn nonterminal_advice(
         Nonterminal::StepsTail | Nonterminal::ItemsTail => word_advice(Some(*shape)),
         Nonterminal::Handled => Some(Advice::Block(BlockAdvice::UnnamedHandler)),
         Nonterminal::Semicolon => semicolon_advice(shape),
+        Nonterminal::Number => number_place_advice(before, shape),
         Nonterminal::Job
         | Nonterminal::Raised
         | Nonterminal::Target
-        | Nonterminal::Number
+        | Nonterminal::Passes
+        | Nonterminal::ItemsPasses
         | Nonterminal::Text => None,
     }
 }

@@ -1,6 +1,6 @@
 //! The heads of blocks: what is between the word that begins a block and its `{`.
 ghost use Rattle.std.specs.Prelude.{◌≡◌};
-ghost use Rattle.job_hints.specs.ByGrammar.{is_head_word, is_head, keyword_in, unnamed_advice, order_advice, of_scope_advice, bound_advice, nursery_advice, nursery_order_advice, over_advice, open_advice};
+ghost use Rattle.job_hints.specs.ByGrammar.{is_head_word, is_head, keyword_in, unnamed_advice, order_advice, of_scope_advice, bound_advice, newest_over, number_place_advice, nursery_advice, nursery_order_advice, over_advice, open_advice};
 
 use crate::advice::Advice;
 use crate::block::BlockAdvice;
@@ -77,6 +77,26 @@ pub(crate) fn open_advice(before: Option<Shape>, shape: &Shape) -> Option<Advice
         Some(Keyword::Shield) => nursery_order_advice(shape),
         Some(Keyword::Fail) => order_advice(shape),
         _ => bound_advice(BlockAdvice::OtherHead, shape),
+    }
+}
+
+// Returns the sentence for a token where a number is to be, after another token: that format 3 has `repeat over`.
+pub(crate) fn number_place_advice(before: Option<Shape>, shape: &Shape) -> Option<Advice>
+    ensures { result ≡ number_place_advice (keyword_in before) shape.now }
+{
+    match keyword_in(before) {
+        Some(Keyword::Repeat) => newest_over(keyword_in(Some(*shape))),
+        _ => None,
+    }
+}
+
+// Returns that format 3 has `over` after `repeat`, if the word is that.
+fn newest_over(word: Option<Keyword>) -> Option<Advice>
+    ensures { result ≡ newest_over word }
+{
+    match word {
+        Some(Keyword::Over) => Some(Advice::NewestFormat),
+        _ => None,
     }
 }
 

@@ -97,6 +97,8 @@ head_front (nursery name (At n) false body) rest = refl
 head_front (nursery name (At n) true body) rest = refl
 head_front (start name None body) rest = refl
 head_front (start name (Some n) body) rest = refl
+head_front (repeat n false body) rest = refl
+head_front (repeat n true body) rest = refl
 head_front _ rest = refl
 
 plain_tail : (s : Step) (rest : List Piece) → is_plain s ≡ true → tail_onto s rest ≡ ends ∷ rest
@@ -104,7 +106,7 @@ plain_tail (scope name deadline shield fail body) rest is = absurd cc
 plain_tail (nursery name deadline shield body) rest is = absurd cc
 plain_tail (event name body) rest is = absurd cc
 plain_tail (start name over body) rest is = absurd cc
-plain_tail (repeat count body) rest is = absurd cc
+plain_tail (repeat count over body) rest is = absurd cc
 plain_tail (attempt body handler cleanup) rest is = absurd cc
 plain_tail _ rest is = refl
 
@@ -198,7 +200,7 @@ mutual
       block_lays bare level body (with_steps bare (level + 1) body) left (steps_lay bare (level + 1) body) before
   rest_lays bare level (start name over body) left before =
       block_lays bare level body (with_steps bare (level + 1) body) left (steps_lay bare (level + 1) body) before
-  rest_lays bare level (repeat count body) left before =
+  rest_lays bare level (repeat count over body) left before =
       block_lays bare level body (with_steps bare (level + 1) body) left (steps_lay bare (level + 1) body) before
   rest_lays bare level (attempt body handler cleanup) left before =
       let tried = with_block bare level body (with_steps bare (level + 1) body) before in

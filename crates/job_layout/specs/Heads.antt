@@ -15,6 +15,6 @@ is_plain (scope name deadline shield fail body) = false
 is_plain (nursery name deadline shield body) = false
 is_plain (event name body) = false
 is_plain (start name over body) = false
-is_plain (repeat count body) = false
+is_plain (repeat count over body) = false
 is_plain (attempt body handler cleanup) = false
 is_plain _ = true

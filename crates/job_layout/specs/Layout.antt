@@ -77,7 +77,7 @@ abbrev mutual
   with_rest bare level (nursery name deadline shield body) before = with_block bare level body (with_steps bare (level + 1) body) before
   with_rest bare level (event name body) before = with_block bare level body (with_steps bare (level + 1) body) before
   with_rest bare level (start name over body) before = with_block bare level body (with_steps bare (level + 1) body) before
-  with_rest bare level (repeat count body) before = with_block bare level body (with_steps bare (level + 1) body) before
+  with_rest bare level (repeat count over body) before = with_block bare level body (with_steps bare (level + 1) body) before
   with_rest bare level (attempt body handler cleanup) before =
       with_cleanup bare level cleanup (with_handler bare level handler (with_block bare level body (with_steps bare (level + 1) body) before))
   with_rest bare level _ before = before ++ semicolon_mark ∷ []

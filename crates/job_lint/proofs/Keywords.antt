@@ -9,7 +9,7 @@ use Rattle.job_tokens.specs.Shapes.{shapes_of, word_in}
 use Rattle.job_syntax.specs.declared.keyword.Keyword.{Keyword}
 use Rattle.job_syntax.specs.declared.keyword.Keyword.TheVariants as word
 use Rattle.job_syntax.specs.Keywords.{spelling_of, keyword_of}
-use Rattle.job_syntax.specs.Pieces.{Piece, shapes_in, opens, deadline_pieces, flag_pieces, over_pieces, steps_pieces, step_pieces, handler_pieces, cleanup_pieces, job_pieces}
+use Rattle.job_syntax.specs.Pieces.{Piece, shapes_in, opens, deadline_pieces, flag_pieces, over_pieces, passes_pieces, steps_pieces, step_pieces, handler_pieces, cleanup_pieces, job_pieces}
 use Rattle.job_lint.specs.Openings.{is_opening, opens_after, opens_as, opens_by, begins, with_place, places_from, opening_places}
 use Rattle.job_lint.specs.Fitting.{kept_as, kept_by, kept_if, keywords_from, opening_keywords, keywords_of, handled_keywords, cleaned_keywords}
 
@@ -89,6 +89,10 @@ past_over : (o : Option ℕ) (rest : List Piece) → along false (over_pieces o 
 past_over None rest = refl
 past_over (Some n) rest = refl
 
+past_passes : (over : Bool) (n : ℕ) (rest : List Piece) → along false (passes_pieces over n rest) ≡ along false rest
+past_passes false n rest = refl
+past_passes true n rest = refl
+
 -- a keyword before what is found
 following : {found others : List Keyword} (k : Keyword) → found ≡ others → k ∷ found ≡ k ∷ others
 following k e = ap (λ (ks : List Keyword). k ∷ ks) e
@@ -127,7 +131,9 @@ mutual
   step_along (start n o body) rest =
       let block = opens ∷ steps_pieces body rest in
       opening word.Start (along false (over_pieces o block)) ∙ following word.Start (past_over o block ∙ steps_along body rest)
-  step_along (repeat n body) rest = opening word.Repeat (along true (steps_pieces body rest)) ∙ following word.Repeat (steps_along body rest)
+  step_along (repeat n over body) rest =
+      let block = opens ∷ steps_pieces body rest in
+      opening word.Repeat (along false (passes_pieces over n block)) ∙ following word.Repeat (past_passes over n block ∙ steps_along body rest)
   step_along (attempt body h c) rest =
       let cleaned = cleanup_pieces c rest in
       let after = handler_along h cleaned ∙ ap (λ (ks : List Keyword). handled_keywords h ks) (cleanup_along c rest) in

@@ -65,7 +65,7 @@ mutual
   split_in (nursery n d s body) others = split_of body others
   split_in (event n body) others = split_of body others
   split_in (start n o body) others = split_of body others
-  split_in (repeat n body) others = split_of body others
+  split_in (repeat n over body) others = split_of body others
   split_in (attempt body h c) others =
       let cleaned = cleaned_keywords c others in
       joined _ cleaned others (openings_of body + handled_openings h) (cleaned_openings c)
@@ -160,7 +160,7 @@ own_stands places keywords around opened n (event x body) others got all = by_fl
     by_flag true = with_if places keywords _ _ others (n, word.Event, refl, got, refl) all
     by_flag false = ((n, word.Event, refl, got, refl), all)
 own_stands places keywords around opened n (start x o body) others got all = all
-own_stands places keywords around opened n (repeat c body) others got all = all
+own_stands places keywords around opened n (repeat c over body) others got all = all
 own_stands places keywords around opened n (attempt body h c) others got all = all
 
 -- both warnings of a step
@@ -208,7 +208,7 @@ mutual
       stand_of places keywords around opened false n body more others e all
   stand_in places keywords around opened n (start x o body) more others e all =
       stand_of places keywords around opened false n body more others e all
-  stand_in places keywords around opened n (repeat c body) more others e all =
+  stand_in places keywords around opened n (repeat c over body) more others e all =
       stand_of places keywords around opened false n body more others e all
   stand_in places keywords around opened n (attempt body h c) more others e all =
       let cleaned = cleaned_keywords c more in

@@ -54,7 +54,7 @@ own_keyword (scope name deadline shield fail body) = keyword.Scope
 own_keyword (nursery name deadline shield body) = keyword.Nursery
 own_keyword (event name body) = keyword.Event
 own_keyword (start name over body) = keyword.Start
-own_keyword (repeat count body) = keyword.Repeat
+own_keyword (repeat count over body) = keyword.Repeat
 own_keyword (attempt body handler cleanup) = keyword.Try
 
 abbrev mutual
@@ -81,7 +81,7 @@ abbrev mutual
   keywords_in (nursery name deadline shield body) others = keywords_of body others
   keywords_in (event name body) others = keywords_of body others
   keywords_in (start name over body) others = keywords_of body others
-  keywords_in (repeat count body) others = keywords_of body others
+  keywords_in (repeat count over body) others = keywords_of body others
   keywords_in (attempt body handler cleanup) others = keywords_of body (handled_keywords handler (cleaned_keywords cleanup others))
 
   pub handled_keywords : Handled → List Keyword → List Keyword

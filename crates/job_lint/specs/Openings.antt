@@ -80,7 +80,7 @@ abbrev mutual
   openings_in (nursery name deadline shield body) = openings_of body
   openings_in (event name body) = openings_of body
   openings_in (start name over body) = openings_of body
-  openings_in (repeat count body) = openings_of body
+  openings_in (repeat count over body) = openings_of body
   openings_in (attempt body handler cleanup) = openings_of body + handled_openings handler + cleaned_openings cleanup
 
   pub handled_openings : Handled → ℕ

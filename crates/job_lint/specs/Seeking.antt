@@ -96,7 +96,7 @@ abbrev mutual
   has_inside sought (nursery name deadline shield body) = is_entered sought deadline && has sought body
   has_inside sought (event name body) = has sought body
   has_inside sought (start name over body) = has sought body
-  has_inside sought (repeat count body) = has sought body
+  has_inside sought (repeat count over body) = has sought body
   has_inside sought (attempt body handler cleanup) = has sought body || (handled_has sought handler || cleaned_has sought cleanup)
 
   pub handled_has : Sought → Handled → Bool

@@ -166,7 +166,7 @@ abbrev mutual
       warnings_of place (in_block shield (is_nursery_cancelled name deadline body) around) (name ∷ opened) false number body others
   warnings_in place around opened number (event name body) others = warnings_of place around opened false number body others
   warnings_in place around opened number (start name over body) others = warnings_of place around opened false number body others
-  warnings_in place around opened number (repeat count body) others = warnings_of place around opened false number body others
+  warnings_in place around opened number (repeat count over body) others = warnings_of place around opened false number body others
   warnings_in place around opened number (attempt body handler cleanup) others =
       warnings_of place around opened false number body
       (handled_warnings place around (number + openings_of body) body handler

@@ -650,7 +650,7 @@ mutual
   agree_step c m (start name (Some k) body) here st su t near =
       agree_each c k _ _ t (λ i. child_ends _ (a_round_after here.clock t.at) _ t) (λ i. child_ends _ (a_round_after here.clock t.at) _ t)
       (λ i. agree_child c _ (a_round_after here.clock t.at) _ _ t (agree_signed c st su _ _ near (agree c m body _ st su (only_at (a_round_after here.clock t.at)) near)))
-  agree_step c m (repeat count body) here st su t near =
+  agree_step c m (repeat count over body) here st su t near =
       agree_passes c count 0 _ _ t (λ i u. agree c m body _ st su u near) (λ i u. late m body _ st u) (λ i u. late m body _ su u)
   agree_step c m (attempt body handler cleanup) here st su t near =
       agree_cleanup c m cleanup here st su _ _ near (agree_handler c m handler here st su _ _ near (agree c m body here st su t near))

@@ -323,7 +323,7 @@ mutual
       by_each k _ _ t (omega arith) (λ (i : ℕ). by_child _ _ (a_round_after here.clock t.at) _ t (omega arith) (by_signed _ st _ (later
       (reach here.clock (a_round_after here.clock t.at) + size_of body * span here.clock) _ _ (omega (arith, one, round_by here.clock t.at))
       (ends_by m body _ st (only_at (a_round_after here.clock t.at)) h.1 small))))
-  ends_step m (repeat count body) here st t h small =
+  ends_step m (repeat count over body) here st t h small =
       later (reach here.clock t.at + count * (1 + size_of body) * span here.clock) _ _ (omega arith)
       (by_passes count 0 _ (base here.clock) (1 + size_of body) (span here.clock) t (λ (i : ℕ) (u : Now).
       later (reach here.clock u.at + size_of body * span here.clock) _ _ (omega arith) (ends_by m body _ st u h.1 small)))

@@ -11,7 +11,7 @@ use Rattle.job_meaning.proofs.Clips.{followed_nil}
 use Rattle.job_meaning.specs.Log.{Log, nil, entry, sign, entered, task, followed_by, Member, Result, Table}
 use Rattle.job_meaning.specs.Moments.{due, a_round_after, Now, only_at}
 use Rattle.job_meaning.specs.declared.clock.Clock.{Clock}
-use Rattle.job_meaning.specs.Walk.{now_of, in_pass, passes, Levels, Stack, Mode, by_table, Here, walk, walk_step, walk_handler, walk_cleanup, done_at, in_sequence, and_then, then_if, block, event_block, stack_inside, stack_in_event, Kind, with_sign, nursery_result, child, handler_result, handler_for, handler_if_any, cleanup_result, with_outcome, handler_exc, outcome_after, sign_if, a_scope, a_nursery, label_here, label_over, each, here_in}
+use Rattle.job_meaning.specs.Walk.{now_of, cuts_over, in_pass, passes, Levels, Stack, Mode, by_table, Here, walk, walk_step, walk_handler, walk_cleanup, done_at, in_sequence, and_then, then_if, block, event_block, stack_inside, stack_in_event, Kind, with_sign, nursery_result, child, handler_result, handler_for, handler_if_any, cleanup_result, with_outcome, handler_exc, outcome_after, sign_if, a_scope, a_nursery, label_here, label_over, each, here_in}
 use Rattle.job_meaning.specs.Rest.{Event, noted, signs, enters, starts, fill, consecutive, starts_over, ChildOutcomes, outcome_members, Frame, steps_left, in_scope, in_event, in_nursery, in_repeat, in_try, in_handler, in_cleanup, inside, block_left, left_if, without_scope, without_event, with_children, wait_result, finish, rest_comes_to, rest_at_start}
 
 -- three logs one after another are the same, whichever two are joined first
@@ -99,9 +99,9 @@ finish_after (in_nursery children ∷ fs) a m outcomes here st r =
     (λ l. nursery_result here.clock l.label (with_children (outcome_members outcomes children) (with_sign st (after a r)))) r
     (λ l. ap (λ (x : Result). nursery_result here.clock l.label (with_children (outcome_members outcomes children) x)) (after_signed a st r)))
     ∙ finish_after fs a m outcomes here (without_scope st) _
-finish_after (in_repeat pass left body ∷ fs) a m outcomes here st r =
+finish_after (in_repeat pass left cuts body ∷ fs) a m outcomes here st r =
     ap (λ (x : Result). finish m outcomes fs here st x)
-    (after_and_then a r (λ u. passes (suc pass) left (λ i v. walk m body (in_pass i (inside fs here)) st v) u))
+    (after_and_then a r (λ u. passes (suc pass) left (λ i v. walk m body (in_pass cuts i (inside fs here)) st v) u))
     ∙ finish_after fs a m outcomes here st _
 finish_after (in_try handler cleanup ∷ fs) a m outcomes here st r =
     ap (λ (x : Result). finish m outcomes fs here st (walk_cleanup m cleanup (inside fs here) st x))
@@ -216,38 +216,38 @@ finish_no_handler fs m outcomes unhandled cleanup here st r = refl
 finish_no_handler fs m outcomes (except name body) cleanup here st r = refl
 
 -- a `repeat` without a pass
-pub finish_no_pass : (fs : List Frame) (m : Mode) (outcomes : ChildOutcomes) (body ss : Steps) (here : Here) (st : Stack) (t : Now) →
-    finish m outcomes (steps_left (step (repeat zero body) ss) ∷ fs) here st (done_at t) ≡ finish m outcomes (steps_left ss ∷ fs) here st
+pub finish_no_pass : (fs : List Frame) (m : Mode) (outcomes : ChildOutcomes) (over : Bool) (body ss : Steps) (here : Here) (st : Stack) (t : Now) →
+    finish m outcomes (steps_left (step (repeat zero over body) ss) ∷ fs) here st (done_at t) ≡ finish m outcomes (steps_left ss ∷ fs) here st
     (done_at t)
 unfolding finish and_then walk
-finish_no_pass fs m outcomes body ss here st t = refl
+finish_no_pass fs m outcomes over body ss here st t = refl
 
 -- the first pass of a `repeat` is entered
-pub finish_first_pass : (fs : List Frame) (m : Mode) (outcomes : ChildOutcomes) (k : ℕ) (body ss : Steps) (here : Here) (st : Stack) (t : Now) →
-    finish m outcomes (steps_left (step (repeat (suc k) body) ss) ∷ fs) here st (done_at t)
-    ≡ finish m outcomes (steps_left body ∷ in_repeat 0 k body ∷ steps_left ss ∷ fs) here st (done_at t)
+pub finish_first_pass : (fs : List Frame) (m : Mode) (outcomes : ChildOutcomes) (k : ℕ) (over : Bool) (body ss : Steps) (here : Here) (st : Stack) (t : Now) →
+    finish m outcomes (steps_left (step (repeat (suc k) over body) ss) ∷ fs) here st (done_at t)
+    ≡ finish m outcomes (steps_left body ∷ in_repeat 0 k (cuts_over over (suc k)) body ∷ steps_left ss ∷ fs) here st (done_at t)
 unfolding finish and_then walk
-finish_first_pass fs m outcomes k body ss here st t = refl
+finish_first_pass fs m outcomes k over body ss here st t = refl
 
 -- a pass has ended, and the next one is entered
-pub finish_next_pass : (fs : List Frame) (m : Mode) (outcomes : ChildOutcomes) (pass k : ℕ) (body : Steps) (here : Here) (st : Stack) (t : Now) →
-    finish m outcomes (in_repeat pass (suc k) body ∷ fs) here st (done_at t)
-    ≡ finish m outcomes (steps_left body ∷ in_repeat (suc pass) k body ∷ fs) here st (done_at t)
+pub finish_next_pass : (fs : List Frame) (m : Mode) (outcomes : ChildOutcomes) (pass k : ℕ) (cuts : Option ℕ) (body : Steps) (here : Here) (st : Stack) (t : Now) →
+    finish m outcomes (in_repeat pass (suc k) cuts body ∷ fs) here st (done_at t)
+    ≡ finish m outcomes (steps_left body ∷ in_repeat (suc pass) k cuts body ∷ fs) here st (done_at t)
 unfolding finish and_then
-finish_next_pass fs m outcomes pass k body here st t = refl
+finish_next_pass fs m outcomes pass k cuts body here st t = refl
 
 -- the last pass has ended
-pub finish_last_pass : (fs : List Frame) (m : Mode) (outcomes : ChildOutcomes) (pass : ℕ) (body : Steps) (here : Here) (st : Stack) (t : Now) →
-    finish m outcomes (in_repeat pass zero body ∷ fs) here st (done_at t) ≡ finish m outcomes fs here st (done_at t)
+pub finish_last_pass : (fs : List Frame) (m : Mode) (outcomes : ChildOutcomes) (pass : ℕ) (cuts : Option ℕ) (body : Steps) (here : Here) (st : Stack) (t : Now) →
+    finish m outcomes (in_repeat pass zero cuts body ∷ fs) here st (done_at t) ≡ finish m outcomes fs here st (done_at t)
 unfolding finish and_then
-finish_last_pass fs m outcomes pass body here st t = refl
+finish_last_pass fs m outcomes pass cuts body here st t = refl
 
 -- no pass follows an exception
-pub finish_raised_pass : (fs : List Frame) (m : Mode) (outcomes : ChildOutcomes) (pass left : ℕ) (body : Steps) (here : Here) (st : Stack)
+pub finish_raised_pass : (fs : List Frame) (m : Mode) (outcomes : ChildOutcomes) (pass left : ℕ) (cuts : Option ℕ) (body : Steps) (here : Here) (st : Stack)
     (r : Result) (e : Exc) →
-    finish m outcomes (in_repeat pass left body ∷ fs) here st (record r { exc = Some e }) ≡ finish m outcomes fs here st (record r { exc = Some e })
+    finish m outcomes (in_repeat pass left cuts body ∷ fs) here st (record r { exc = Some e }) ≡ finish m outcomes fs here st (record r { exc = Some e })
 unfolding finish and_then
-finish_raised_pass fs m outcomes pass left body here st r e = refl
+finish_raised_pass fs m outcomes pass left cuts body here st r e = refl
 
 -- a handler has ended: the rest of the split goes with what it raised
 pub finish_handled : (fs : List Frame) (m : Mode) (outcomes : ChildOutcomes) (rest : Option Exc) (cleanup : Cleaned) (here : Here) (st : Stack)
@@ -353,7 +353,7 @@ finish_started fs m outcomes ss children more here l outer t a =
 -- a child is started
 pub finish_start : (fs : List Frame) (m : Mode) (outcomes : ChildOutcomes) (i : ℕ) (name : List ℕ) (body ss : Steps) (children : List ℕ) (here : Here)
     (l : Level Label) (outer : Stack) (t : Now) →
-    outcomes i ≡ with_sign (scope_over l outer) (walk m body (here_in (label_here name (inside fs here)) here.part here) (scope_over l outer) (only_at (a_round_after here.clock t.at))) →
+    outcomes i ≡ with_sign (scope_over l outer) (walk m body (here_in (label_here name (inside fs here)) (inside fs here).part here) (scope_over l outer) (only_at (a_round_after here.clock t.at))) →
     finish m outcomes (steps_left (step (start name None body) ss) ∷ in_nursery children ∷ fs) here (scope_over l outer) (done_at t)
     ≡ after (fill outcomes (starts i (label_here name (inside fs here)) (a_round_after here.clock t.at) ∷ []))
     (finish m outcomes (steps_left ss ∷ in_nursery (children ++ i ∷ []) ∷ fs) here (scope_over l outer) (done_at t))
@@ -400,7 +400,7 @@ each_started outcomes name here begins t first (suc k) go h =
 pub finish_start_over : (fs : List Frame) (m : Mode) (outcomes : ChildOutcomes) (first k : ℕ) (name : List ℕ) (body ss : Steps) (children : List ℕ)
     (here : Here) (l : Level Label) (outer : Stack) (t : Now) →
     ((i : ℕ) → i < k → outcomes (first + i) ≡ with_sign (scope_over l outer) (walk m body
-    (here_in (label_over name (inside fs here) i) (cut_of here.input here.part k i) here) (scope_over l outer) (only_at (a_round_after here.clock t.at)))) →
+    (here_in (label_over name (inside fs here) i) (cut_of here.input (inside fs here).part k i) here) (scope_over l outer) (only_at (a_round_after here.clock t.at)))) →
     finish m outcomes (steps_left (step (start name (Some k) body) ss) ∷ in_nursery children ∷ fs) here (scope_over l outer) (done_at t)
     ≡ after (fill outcomes (starts_over name (inside fs here) (a_round_after here.clock t.at) first k))
     (finish m outcomes (steps_left ss ∷ in_nursery (children ++ consecutive first k) ∷ fs) here (scope_over l outer) (done_at t))
@@ -409,5 +409,5 @@ finish_start_over fs m outcomes first k name body ss children here l outer t h =
     finish_step (in_nursery children ∷ fs) m outcomes (start name (Some k) body) ss here (scope_over l outer) t
     ∙ (ap (λ (r : Result). finish m outcomes (steps_left ss ∷ in_nursery children ∷ fs) here (scope_over l outer) r)
     (each_started outcomes name (inside fs here) (a_round_after here.clock t.at) t first k (λ i. with_sign (scope_over l outer)
-    (walk m body (here_in (label_over name (inside fs here) i) (cut_of here.input here.part k i) here) (scope_over l outer) (only_at (a_round_after here.clock t.at)))) h)
+    (walk m body (here_in (label_over name (inside fs here) i) (cut_of here.input (inside fs here).part k i) here) (scope_over l outer) (only_at (a_round_after here.clock t.at)))) h)
     ∙ finish_started fs m outcomes ss children (consecutive first k) here l outer t (fill outcomes (starts_over name (inside fs here) (a_round_after here.clock t.at) first k)))

@@ -304,7 +304,7 @@ mutual
       late_each k _ t (λ i. child_ends _ (a_round_after here.clock t.at) _ t)
       (λ i. late_child _ (a_round_after here.clock t.at) _ t (round_after here.clock t.at)
       (late_signed _ st _ (late m body _ st (only_at (a_round_after here.clock t.at)))))
-  late_step m (repeat count body) here st t = late_passes count 0 _ t (λ i u. late m body _ st u)
+  late_step m (repeat count over body) here st t = late_passes count 0 _ t (λ i u. late m body _ st u)
   late_step m (attempt body handler cleanup) here st t =
       late_cleanup m cleanup here st _ t.at (late_handler m handler here st _ t.at (late m body here st t))
 

@@ -45,9 +45,9 @@ late_finish (in_nursery children ∷ fs) t m outcomes here st r h =
   where
     late_children : Late t (with_sign st r) → Late t (with_children (outcome_members outcomes children) (with_sign st r))
     late_children k = record { ends = k.ends; timed = k.timed }
-late_finish (in_repeat pass left body ∷ fs) t m outcomes here st r h =
+late_finish (in_repeat pass left cuts body ∷ fs) t m outcomes here st r h =
     late_finish fs t m outcomes here st _ (late_and_then t r _ h
-    (λ u. late_passes left (suc pass) (λ i v. walk m body (in_pass i (inside fs here)) st v) u (λ i v. late m body _ st v)))
+    (λ u. late_passes left (suc pass) (λ i v. walk m body (in_pass cuts i (inside fs here)) st v) u (λ i v. late m body _ st v)))
 late_finish (in_try handler cleanup ∷ fs) t m outcomes here st r h =
     late_finish fs t m outcomes here st _ (late_cleanup m cleanup (inside fs here) st _ t (late_handler m handler (inside fs here) st r t h))
 late_finish (in_handler rest cleanup ∷ fs) t m outcomes here st r h =

@@ -11,7 +11,7 @@ use Rattle.cancel_scopes.specs.Sight.{Tick, Level, sight}
 use Rattle.job_meaning.specs.Log.{Log, nil, entry, sign, entered, task, followed_by, Result, same_label, times_entered, times_given}
 use Rattle.job_meaning.specs.Moments.{a_round_after, Now, only_at}
 use Rattle.job_meaning.specs.declared.clock.Clock.{Clock}
-use Rattle.job_meaning.specs.Walk.{Stack, no_stack, Mode, Here, walk, walk_step, walk_handler, walk_cleanup, done_at, raised_at, now_of, in_sequence, and_then, then_if, wait_by_sight, sleep_result, pace_result, wait_until, set_moment, wait_by, with_line_if, with_line, event_wait, log_of_lines, lines_result, raise_result, need_result, sign_of, cancel_result, set_result, Kind, from_of, block, event_block, stack_in_event, exit_with_from, stack_inside, with_sign, sign_if, home_of, nursery_result, child, each, passes, handler_result, handler_for, handler_if_any, cleanup_result, label_here, label_over, here_in, in_pass}
+use Rattle.job_meaning.specs.Walk.{Stack, no_stack, Mode, Here, walk, walk_step, walk_handler, walk_cleanup, done_at, raised_at, now_of, in_sequence, and_then, then_if, wait_by_sight, sleep_result, pace_result, wait_until, set_moment, wait_by, with_line_if, with_line, event_wait, log_of_lines, lines_result, raise_result, need_result, sign_of, cancel_result, set_result, Kind, from_of, block, event_block, stack_in_event, exit_with_from, stack_inside, with_sign, sign_if, home_of, nursery_result, child, each, passes, handler_result, handler_for, handler_if_any, cleanup_result, label_here, label_over, here_in, in_pass, cuts_over}
 use Rattle.job_meaning.specs.Meaning.{root_walk, root_here, root_label, root_log}
 use Rattle.job_meaning.proofs.Distinct.{Distinct, distinct_left, distinct_right, distinct_apart, distinct_by_bytes, same_label_equal, Belongs, after_other}
 use Rattle.job_meaning.proofs.Touched.{Gives, gives_followed}
@@ -320,9 +320,9 @@ mutual
       (λ j. distinct.0 ((tidy_signed st _ _ (tidy m body (here_in (label_over name here i) (cut_of here.input here.part k i) here) st
       (only_at (a_round_after here.clock t.at)))).gives _ j).named)
       (unique_signed st _ (unique m body _ st (only_at (a_round_after here.clock t.at)) distinct.1)))
-  unique_step m (repeat count body) here st t distinct =
-      unique_passes st (names_of body) here.path count 0 _ t (λ i u. tidy m body (in_pass i here) st u)
-      (λ i u. unique m body (in_pass i here) st u distinct)
+  unique_step m (repeat count over body) here st t distinct =
+      unique_passes st (names_of body) here.path count 0 _ t (λ i u. tidy m body (in_pass (cuts_over over count) i here) st u)
+      (λ i u. unique m body (in_pass (cuts_over over count) i here) st u distinct)
   unique_step m (attempt body handler cleanup) here st t distinct =
       unique_cleanup m cleanup here st _ (names_of body ++ handled_names handler)
       (tidy_handler m handler here st _ (names_of body) (tidy m body here st t)) distinct

@@ -349,7 +349,7 @@ mutual
   root_step m (start name (Some k) body) here st t ticks none =
       root_each st k _ t none
       (λ i. root_child st _ _ _ t none (root_signed st _ (root m body _ st (only_at (a_round_after here.clock t.at)) ticks refl)))
-  root_step m (repeat count body) here st t ticks none =
+  root_step m (repeat count over body) here st t ticks none =
       root_passes st count 0 _ t none (λ i u own. root m body _ st u ticks own)
   root_step m (attempt body handler cleanup) here st t ticks none =
       root_cleanup m cleanup here st _ ticks (root_handler m handler here st _ ticks (root m body here st t ticks none))

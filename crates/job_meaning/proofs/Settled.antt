@@ -9,7 +9,7 @@ use Rattle.cancel_scopes.specs.Sight.{Tick, catches}
 use Rattle.job_meaning.specs.Log.{Log, nil, entry, followed_by, Result, least_sign, deadline_of, deadline_if, either, same_label, from_by, Table, table_of, entered_from}
 use Rattle.job_meaning.specs.Moments.{a_round_after, Now, only_at}
 use Rattle.job_meaning.specs.declared.clock.Clock.{Clock}
-use Rattle.job_meaning.specs.Walk.{Levels, Stack, no_stack, Mode, two_walks, by_table, Here, walk, walk_step, walk_handler, walk_cleanup, now_of, from_for, stack_for, in_sequence, and_then, then_if, Kind, block, event_block, event_result, exit_with_from, left_as, left_with, stack_inside, stack_in_event, with_sign, sign_if, home_of, nursery_result, child, each, passes, handler_result, handler_for, handler_if_any, handler_after, cleanup_result, cleanup_after, label_here, label_over, here_in, in_pass}
+use Rattle.job_meaning.specs.Walk.{Levels, Stack, no_stack, Mode, two_walks, by_table, Here, walk, walk_step, walk_handler, walk_cleanup, now_of, from_for, stack_for, in_sequence, and_then, then_if, Kind, block, event_block, event_result, exit_with_from, left_as, left_with, stack_inside, stack_in_event, with_sign, sign_if, home_of, nursery_result, child, each, passes, handler_result, handler_for, handler_if_any, handler_after, cleanup_result, cleanup_after, label_here, label_over, here_in, in_pass, cuts_over}
 use Rattle.job_meaning.specs.Meaning.{meaning, meaning_table, root_walk, root_here}
 use Rattle.job_meaning.specs.Follow.{follow, IsSettled}
 use Rattle.job_meaning.specs.Before.{upto, log_before, NearLevels, Near}
@@ -482,9 +482,9 @@ mutual
       (fresh_in st (names_of body) (name ∷ names_of body) (λ n j. inr j) fresh) h))
       g)
       f
-  settled_step table m other same (repeat count body) here st t distinct fresh f =
-      settled_passes table st (names_of body) here.path count 0 _ _ t fresh (λ i u. tidy m body (in_pass i here) st u)
-      (λ i u g. settled table m other same body (in_pass i here) st u distinct fresh g) f
+  settled_step table m other same (repeat count over body) here st t distinct fresh f =
+      settled_passes table st (names_of body) here.path count 0 _ _ t fresh (λ i u. tidy m body (in_pass (cuts_over over count) i here) st u)
+      (λ i u g. settled table m other same body (in_pass (cuts_over over count) i here) st u distinct fresh g) f
   settled_step table m other same (attempt body handler cleanup) here st t distinct fresh f =
       let names : List (List ℕ) = names_of body ++ handled_names handler in
       let first : Result = walk m body here st t in

@@ -12,7 +12,7 @@ use Rattle.cancel_scopes.specs.Sight.{Tick, Level, sight, catches}
 use Rattle.job_meaning.specs.Log.{Log, nil, entry, followed_by, Result}
 use Rattle.job_meaning.specs.Moments.{a_round_after, Now, only_at}
 use Rattle.job_meaning.specs.declared.clock.Clock.{Clock}
-use Rattle.job_meaning.specs.Walk.{Levels, Stack, Mode, Here, walk, walk_step, walk_handler, walk_cleanup, done_at, raised_at, now_of, in_sequence, and_then, then_if, wait_by_sight, sleep_result, pace_result, wait_until, set_moment, wait_by, with_line_if, with_line, event_wait, log_of_lines, lines_result, raise_result, need_result, from_for, stack_for, label_on, label_if, sign_of, cancel_result, set_result, Kind, from_of, block, event_block, event_result, stack_in_event, exit_with_from, left_as, left_with, stack_inside, with_sign, sign_if, home_of, nursery_result, child, each, passes, handler_result, handler_for, handler_if_any, cleanup_result, label_here, label_over, here_in, in_pass}
+use Rattle.job_meaning.specs.Walk.{Levels, Stack, Mode, Here, walk, walk_step, walk_handler, walk_cleanup, done_at, raised_at, now_of, in_sequence, and_then, then_if, wait_by_sight, sleep_result, pace_result, wait_until, set_moment, wait_by, with_line_if, with_line, event_wait, log_of_lines, lines_result, raise_result, need_result, from_for, stack_for, label_on, label_if, sign_of, cancel_result, set_result, Kind, from_of, block, event_block, event_result, stack_in_event, exit_with_from, left_as, left_with, stack_inside, with_sign, sign_if, home_of, nursery_result, child, each, passes, handler_result, handler_for, handler_if_any, cleanup_result, label_here, label_over, here_in, in_pass, cuts_over}
 use Rattle.job_meaning.proofs.Distinct.{among_left, among_right, Belongs, belongs_in, belongs_after, OnLevels, OnStack}
 use Rattle.job_meaning.proofs.Touched.{Gives, Signs, gives_followed, gives_first, gives_second, signs_followed}
 
@@ -418,9 +418,9 @@ mutual
       tidy_each st _ k _ t (λ i lt. tidy_in st _ _ _ (belongs_after (name ∷ names_of body) here.path i)
       (tidy_child st _ _ (a_round_after here.clock t.at) _ t (belongs_over name (names_of body) here i)
       (tidy_in st _ _ _ (in_body name (names_of body) (here.path ++ i ∷ [])) (tidy_signed st _ _ (tidy m body _ st (only_at (a_round_after here.clock t.at)))))))
-  tidy_step m (repeat count body) here st t =
+  tidy_step m (repeat count over body) here st t =
       tidy_passes st _ count 0 _ t (λ i u le. tidy_in st _ _ _ (belongs_after (names_of body) here.path i)
-      (tidy m body (in_pass i here) st u))
+      (tidy m body (in_pass (cuts_over over count) i here) st u))
   tidy_step m (attempt body handler cleanup) here st t =
       tidy_cleanup m cleanup here st _ (names_of body ++ handled_names handler)
       (tidy_handler m handler here st _ (names_of body) (tidy m body here st t))

@@ -51,7 +51,7 @@ event_of name ss = event name (block_of ss)
 
 -- repeat N { .. }
 abbrev pub repeat_of : ℕ → List Step → Step
-repeat_of count ss = repeat count (block_of ss)
+repeat_of count ss = repeat count false (block_of ss)
 
 -- start NAME { .. }
 abbrev pub start_of : List ℕ → List Step → Step

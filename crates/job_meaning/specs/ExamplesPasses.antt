@@ -10,7 +10,7 @@ use Rattle.job_meaning.specs.Examples.{block_of, timed_scope, nursery_of, start_
 
 -- repeat N { .. }
 abbrev pub repeat_of : ℕ → List Step → Step
-repeat_of n ss = repeat n (block_of ss)
+repeat_of n ss = repeat n false (block_of ss)
 
 -- nursery NAME .. { .. }, with a deadline or a shield
 abbrev pub bounded_nursery : List ℕ → Deadline → Bool → List Step → Step

@@ -1,6 +1,6 @@
 -- Worked examples where a tick has rounds, each a theorem by computing. The expected records were worked out by hand. Trio has no `pace`,
 -- and where two tasks fail in one round, it has several outcomes.
-use Rattle.std.specs.Prelude.{◌≡◌, ℕ, None, Some, List, [], ◌∷◌, refl, codes}
+use Rattle.std.specs.Prelude.{◌≡◌, ℕ, false, None, Some, List, [], ◌∷◌, refl, codes}
 use Rattle.job_tree.specs.Tree.{Step, sleep, checkpoint, forever, pace, raise, cancel, repeat, attempt, except, finally}
 use Rattle.exceptions.specs.Exceptions.{cancelled}
 use Rattle.job_meaning.specs.Log.{Result, nil, task}
@@ -196,7 +196,7 @@ pub supervisor_keeps_its_budget :
     end_by_rounds
     (fail_scope (codes "budget") 22
     (try_except
-    (repeat 3
+    (repeat 3 false
     (block_of
     (try_except
     (nursery_of (codes "child")

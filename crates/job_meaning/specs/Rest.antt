@@ -2,12 +2,13 @@
 use Rattle.std.specs.Prelude.{ℕ, zero, suc, ◌+◌, ◌*◌, Bool, true, false, Option, List, [], ◌∷◌, ◌++◌}
 use Rattle.job_tree.specs.Tree.{Steps, Handled, Cleaned}
 use Rattle.job_tree.specs.Names.{size_of, handled_size, cleaned_size}
+use Rattle.input_lines.specs.Lines.{Range}
 use Rattle.exceptions.specs.Exceptions.{Label, Exc, cancelled}
 use Rattle.cancel_scopes.specs.Sight.{Tick, Level, catches}
 use Rattle.job_meaning.specs.Log.{Entry, Log, nil, entry, sign, entered, task, followed_by, Member, Result}
 use Rattle.job_meaning.specs.Moments.{tick_of, Now, only_at}
 use Rattle.job_meaning.specs.declared.clock.Clock.{Clock}
-use Rattle.job_meaning.specs.Walk.{label_over, in_pass, passes, Levels, Stack, Mode, Here, walk, walk_handler, walk_cleanup, done_at, raised_at, and_then, sleep_result, pace_result, event_wait, event_on, from_for, stack_for, Kind, a_scope, a_nursery, left_as, Left, left_with, exc_after, with_sign, nursery_result, handler_exc, outcome_after, with_outcome}
+use Rattle.job_meaning.specs.Walk.{label_over, part_in_pass, in_pass, passes, Levels, Stack, Mode, Here, walk, walk_handler, walk_cleanup, done_at, raised_at, and_then, sleep_result, pace_result, event_wait, event_on, from_for, stack_for, Kind, a_scope, a_nursery, left_as, Left, left_with, exc_after, with_sign, nursery_result, handler_exc, outcome_after, with_outcome}
 use Rattle.job_meaning.specs.Asking.{Kernel, answer_of, Purpose, shows, needs, paces, answer_result}
 
 -- What a task did so far, in order. The children that it started are numbered 0, 1, .. within it, and their results are
@@ -56,8 +57,8 @@ pub data Frame : Type 0 where
   in_event : Frame
   -- the body of a nursery, with the children started so far
   in_nursery : (children : List ℕ) → Frame
-  -- a pass of a `repeat`, with its number, how many come after it, and its block
-  in_repeat : (pass left : ℕ) → (body : Steps) → Frame
+  -- a pass of a `repeat`, with its number, how many come after it, into how many cuts the part is divided for them if it is, and its block
+  in_repeat : (pass left : ℕ) → (cuts : Option ℕ) → (body : Steps) → Frame
   -- the body of a `try`
   in_try : (handler : Handled) → (cleanup : Cleaned) → Frame
   -- a handler, with the rest of the split
@@ -73,14 +74,26 @@ path_in (steps_left ss ∷ fs) path = path_in fs path
 path_in (in_scope fail ∷ fs) path = path_in fs path
 path_in (in_event ∷ fs) path = path_in fs path
 path_in (in_nursery children ∷ fs) path = path_in fs path
-path_in (in_repeat pass left body ∷ fs) path = path_in fs path ++ pass ∷ []
+path_in (in_repeat pass left cuts body ∷ fs) path = path_in fs path ++ pass ∷ []
 path_in (in_try handler cleanup ∷ fs) path = path_in fs path
 path_in (in_handler rest cleanup ∷ fs) path = path_in fs path
 path_in (in_cleanup outcome ∷ fs) path = path_in fs path
 
+-- The part of the input inside these frames, given that of their task: a pass of a `repeat over` has its cut.
+abbrev pub part_in : List ℕ → List Frame → Range → Range
+part_in input [] part = part
+part_in input (steps_left ss ∷ fs) part = part_in input fs part
+part_in input (in_scope fail ∷ fs) part = part_in input fs part
+part_in input (in_event ∷ fs) part = part_in input fs part
+part_in input (in_nursery children ∷ fs) part = part_in input fs part
+part_in input (in_repeat pass left cuts body ∷ fs) part = part_in_pass input cuts pass (part_in input fs part)
+part_in input (in_try handler cleanup ∷ fs) part = part_in input fs part
+part_in input (in_handler rest cleanup ∷ fs) part = part_in input fs part
+part_in input (in_cleanup outcome ∷ fs) part = part_in input fs part
+
 -- where a task is inside these frames
 abbrev pub inside : List Frame → Here → Here
-inside fs here = record here { path = path_in fs here.path }
+inside fs here = record here { part = part_in here.input fs here.part; path = path_in fs here.path }
 
 -- where a task stopped
 pub data Stopped : Type 0 where
@@ -152,8 +165,8 @@ finish m outcomes (in_nursery children ∷ fs) here st r =
     finish m outcomes fs here (without_scope st)
     (left_if here.clock a_nursery st.scopes
     (λ l. nursery_result here.clock l.label (with_children (outcome_members outcomes children) (with_sign st r))) r)
-finish m outcomes (in_repeat pass left body ∷ fs) here st r =
-    finish m outcomes fs here st (and_then r (λ u. passes (suc pass) left (λ i v. walk m body (in_pass i (inside fs here)) st v) u))
+finish m outcomes (in_repeat pass left cuts body ∷ fs) here st r =
+    finish m outcomes fs here st (and_then r (λ u. passes (suc pass) left (λ i v. walk m body (in_pass cuts i (inside fs here)) st v) u))
 finish m outcomes (in_try handler cleanup ∷ fs) here st r =
     finish m outcomes fs here st (walk_cleanup m cleanup (inside fs here) st (walk_handler m handler (inside fs here) st r))
 finish m outcomes (in_handler rest cleanup ∷ fs) here st r =
@@ -172,7 +185,7 @@ wait_result clock ms u exc scopes now =
 abbrev pub finished_from : Mode → ChildOutcomes → Stopped → List Frame → Here → Stack → Now → Result
 finished_from m outcomes to_begin fs here st now = finish m outcomes fs here st (done_at now)
 finished_from m outcomes (asking kernel purpose) fs here st now =
-    finish m outcomes fs here st (answer_result (answer_of kernel here) purpose here st now)
+    finish m outcomes fs here st (answer_result (answer_of kernel (inside fs here)) purpose here st now)
 finished_from m outcomes (asleep false n since) fs here st now = finish m outcomes fs here st (sleep_result here.clock st n since)
 finished_from m outcomes (asleep true n since) fs here st now = finish m outcomes fs here st (pace_result here.clock st n since)
 finished_from m outcomes (giving_up since) fs here st now = finish m outcomes fs here st (raised_at cancelled (only_at (suc since)))
@@ -203,7 +216,7 @@ frame_weight (steps_left ss) = 2 * size_of ss
 frame_weight (in_scope fail) = 0
 frame_weight in_event = 0
 frame_weight (in_nursery children) = 1
-frame_weight (in_repeat pass left body) = 2 * (left * (1 + size_of body))
+frame_weight (in_repeat pass left cuts body) = 2 * (left * (1 + size_of body))
 frame_weight (in_try handler cleanup) = 2 * (handled_size handler + cleaned_size cleanup)
 frame_weight (in_handler rest cleanup) = 2 * cleaned_size cleanup
 frame_weight (in_cleanup outcome) = 0

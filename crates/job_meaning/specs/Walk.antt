@@ -327,9 +327,19 @@ abbrev pub each : ℕ → (ℕ → Result) → Now → Result
 each zero go now = done_at now
 each (suc k) go now = in_sequence (each k go now) (go k)
 
--- where a pass of a `repeat` is: its number is one index more
-abbrev pub in_pass : ℕ → Here → Here
-in_pass i here = record here { path = here.path ++ i ∷ [] }
+-- into how many cuts a `repeat` of this many passes divides the part of its task, if it does
+abbrev pub cuts_over : (over : Bool) → (count : ℕ) → Option ℕ
+cuts_over false count = None
+cuts_over true count = Some count
+
+-- the part of pass i: that of the task, or its cut
+abbrev pub part_in_pass : List ℕ → (cuts : Option ℕ) → (i : ℕ) → Range → Range
+part_in_pass input None i lent = lent
+part_in_pass input (Some k) i lent = cut_of input lent k i
+
+-- where pass i of a `repeat` is: its number is one index more
+abbrev pub in_pass : (cuts : Option ℕ) → (i : ℕ) → Here → Here
+in_pass cuts i here = record here { part = part_in_pass here.input cuts i here.part; path = here.path ++ i ∷ [] }
 
 -- the given number of passes, numbered from the given number on, each from where the one before it ended without an
 -- exception
@@ -418,7 +428,7 @@ unfoldable mutual
       let begins = a_round_after here.clock now.at in
       each k (λ i. child (label_over name here i) begins
       (with_sign st (walk m body (here_in (label_over name here i) (cut_of here.input here.part k i) here) st (only_at begins))) now) now
-  walk_step m (repeat count body) here st now = passes 0 count (λ i later. walk m body (in_pass i here) st later) now
+  walk_step m (repeat count over body) here st now = passes 0 count (λ i later. walk m body (in_pass (cuts_over over count) i here) st later) now
   walk_step m (attempt body handler cleanup) here st now =
       walk_cleanup m cleanup here st (walk_handler m handler here st (walk m body here st now))
 

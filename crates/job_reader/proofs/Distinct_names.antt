@@ -12,7 +12,7 @@ use Rattle.job_tokens.specs.declared.token.Token.{Token}
 use Rattle.job_tokens.specs.Shapes.{shapes_of}
 use Rattle.job_syntax.specs.declared.keyword.Keyword.{Keyword}
 use Rattle.job_syntax.specs.declared.keyword.Keyword.TheVariants as word
-use Rattle.job_syntax.specs.Pieces.{Piece, shapes_in, roles_in, opens, deadline_pieces, flag_pieces, over_pieces, steps_pieces, step_pieces, handler_pieces, cleanup_pieces, job_pieces}
+use Rattle.job_syntax.specs.Pieces.{Piece, shapes_in, roles_in, opens, deadline_pieces, flag_pieces, over_pieces, passes_pieces, steps_pieces, step_pieces, handler_pieces, cleanup_pieces, job_pieces}
 use Rattle.job_reader.specs.Given.{given_by, is_among, twice_at, twice_in}
 
 abbrev Names : Type 0
@@ -108,6 +108,10 @@ past_over : (o : Option ℕ) (rest : List Piece) → given_in (over_pieces o res
 past_over None rest = refl
 past_over (Some n) rest = refl
 
+past_passes : (over : Bool) (n : ℕ) (rest : List Piece) → given_in (passes_pieces over n rest) ≡ given_in rest
+past_passes false n rest = refl
+past_passes true n rest = refl
+
 -- a name before those of a block
 after_name : {names more : Names} (name : List ℕ) → names ≡ more → name ∷ names ≡ name ∷ more
 after_name name e = ap (λ (ns : Names). name ∷ ns) e
@@ -148,7 +152,7 @@ mutual
       after_name n (passed ∙ steps_give body rest)
   step_gives (event n body) rest = after_name n (steps_give body rest)
   step_gives (start n o body) rest = after_name n (past_over o (opens ∷ steps_pieces body rest) ∙ steps_give body rest)
-  step_gives (repeat n body) rest = steps_give body rest
+  step_gives (repeat n over body) rest = past_passes over n (opens ∷ steps_pieces body rest) ∙ steps_give body rest
   step_gives (attempt body h c) rest =
       let cleaned = cleanup_pieces c rest in
       let inner = steps_give body (handler_pieces h cleaned) in

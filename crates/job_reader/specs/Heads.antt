@@ -3,7 +3,7 @@ use Rattle.std.specs.Prelude.{List, ◌∷◌}
 use Rattle.job_tree.specs.Tree.{Step, sleep, checkpoint, forever, pace, find, head, longest, need, raise, cancel, set_event, wait_for, scope, nursery, event, start, repeat, attempt}
 use Rattle.job_syntax.specs.declared.keyword.Keyword.TheVariants as word
 use Rattle.job_syntax.specs.declared.role.Role.TheVariants as role
-use Rattle.job_syntax.specs.Pieces.{Piece, keyword, name_piece, number, string, opens, ends, deadline_pieces, flag_pieces, over_pieces, steps_pieces, handler_pieces, cleanup_pieces}
+use Rattle.job_syntax.specs.Pieces.{Piece, keyword, name_piece, number, string, opens, ends, deadline_pieces, flag_pieces, over_pieces, passes_pieces, steps_pieces, handler_pieces, cleanup_pieces}
 
 -- the head, followed by other tokens
 abbrev pub head_onto : Step → List Piece → List Piece
@@ -25,7 +25,7 @@ head_onto (nursery name deadline shield body) rest =
     keyword word.Nursery ∷ name_piece role.Given name ∷ deadline_pieces deadline (flag_pieces word.Shield shield rest)
 head_onto (event name body) rest = keyword word.Event ∷ name_piece role.Given name ∷ rest
 head_onto (start name over body) rest = keyword word.Start ∷ name_piece role.Given name ∷ over_pieces over rest
-head_onto (repeat count body) rest = keyword word.Repeat ∷ number count ∷ rest
+head_onto (repeat count over body) rest = keyword word.Repeat ∷ passes_pieces over count rest
 head_onto (attempt body handler cleanup) rest = keyword word.Try ∷ rest
 
 -- what follows the head, followed by other tokens
@@ -34,6 +34,6 @@ tail_onto (scope name deadline shield fail body) rest = opens ∷ steps_pieces b
 tail_onto (nursery name deadline shield body) rest = opens ∷ steps_pieces body rest
 tail_onto (event name body) rest = opens ∷ steps_pieces body rest
 tail_onto (start name over body) rest = opens ∷ steps_pieces body rest
-tail_onto (repeat count body) rest = opens ∷ steps_pieces body rest
+tail_onto (repeat count over body) rest = opens ∷ steps_pieces body rest
 tail_onto (attempt body handler cleanup) rest = opens ∷ steps_pieces body (handler_pieces handler (cleanup_pieces cleanup rest))
 tail_onto _ rest = ends ∷ rest

@@ -35,7 +35,7 @@ abbrev mutual
   uses_in scopes events (nursery name deadline shield body) = uses_of (name ∷ scopes) events body
   uses_in scopes events (event name body) = uses_of scopes (name ∷ events) body
   uses_in scopes events (start name over body) = uses_of scopes events body
-  uses_in scopes events (repeat count body) = uses_of scopes events body
+  uses_in scopes events (repeat count over body) = uses_of scopes events body
   uses_in scopes events (attempt body handler cleanup) =
       uses_of scopes events body ++ (handled_uses scopes events handler ++ cleaned_uses scopes events cleanup)
 

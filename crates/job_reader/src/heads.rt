@@ -4,7 +4,7 @@ ghost use Rattle.job_tokens.specs.declared.token.Shape.TheVariants as shape;
 ghost use Rattle.job_syntax.specs.declared.keyword.Keyword.TheVariants as word;
 ghost use Rattle.job_syntax.specs.declared.role.Role.TheVariants as role;
 ghost use Rattle.job_syntax.specs.Keywords.{spelling_of};
-ghost use Rattle.job_syntax.specs.Pieces.{keyword as keyword_piece, name_piece, string, deadline_pieces, flag_pieces, over_pieces};
+ghost use Rattle.job_syntax.specs.Pieces.{keyword as keyword_piece, name_piece, string, deadline_pieces, flag_pieces, over_pieces, passes_pieces};
 ghost use Rattle.job_reader.specs.Heads.{head_onto};
 ghost use Rattle.job_reader.specs.Printing.{Appends};
 
@@ -50,7 +50,7 @@ pub fn push_head(shapes: &mut Vec<Shape>, step: &Step) -> Result<(), AllocError>
         } => push_block_head(shapes, Keyword::Nursery, *name, *deadline, *shield),
         Step::Event { name, .. } => push_named(shapes, Keyword::Event, *name),
         Step::Start { name, over, .. } => push_start_head(shapes, *name, *over),
-        Step::Repeat { count, .. } => push_counted(shapes, Keyword::Repeat, *count),
+        Step::Repeat { count, over, .. } => push_repeat_head(shapes, *count, *over),
         Step::Try { .. } => push_keyword(shapes, Keyword::Try),
     }
 }
@@ -90,6 +90,17 @@ fn push_start_head(shapes: &mut Vec<Shape>, name: Name, over: Option<u64>) -> Re
     push_named(shapes, Keyword::Start, name)?;
     push_over(shapes, over)?;
     Ok(())
+}
+
+fn push_repeat_head(shapes: &mut Vec<Shape>, count: u64, over: bool) -> Result<(), AllocError>
+    ensures { OnOk result (Appends (λ rest. keyword_piece word.Repeat ∷ passes_pieces over count rest) shapes.old.items shapes.new.items) }
+{
+    if over {
+        push_keyword(shapes, Keyword::Repeat)?;
+        push_counted(shapes, Keyword::Over, count)
+    } else {
+        push_counted(shapes, Keyword::Repeat, count)
+    }
 }
 
 /// Appends a keyword as a token. The only error is that memory runs out.

@@ -23,7 +23,7 @@ use Rattle.task_machine.specs.declared.stop.Wake.TheVariants as wakes
 use Rattle.task_machine.specs.declared.task.Task.{Task}
 use Rattle.task_machine.specs.declared.world.World.{World}
 use Rattle.task_machine.specs.Events.{set_by, wait_ends, is_wait_over}
-use Rattle.task_machine.specs.Tasks.{scope_of}
+use Rattle.task_machine.specs.Tasks.{scope_of, lent_of}
 use Rattle.task_machine.specs.Waking.{WakesFrom}
 use Rattle.task_machine.specs.Worlds.{event_at}
 use Rattle.run_refinement.specs.Ready.{MayGo, IsTimely}
@@ -34,7 +34,7 @@ use Rattle.job_runner.specs.Turns.{at_once, call_at_once}
 
 -- a task may continue by a wake that fits its blocked state
 goes_with : (world : World) (task : Task) (task_state : TaskState) (wake went : Wake) → task.task_state ≡ task_state →
-    WakesFrom task_state task.part world.book wake → IsTimely world (scope_of task) task_state wake → Some wake ≡ Some went →
+    WakesFrom task_state (lent_of task) world.book wake → IsTimely world (scope_of task) task_state wake → Some wake ≡ Some went →
     MayGo world task went
 goes_with world task task_state wake went is fits timely same =
     let e = same_Some wake went same in
@@ -49,7 +49,7 @@ pub answered_goes : (world : World) (task : Task) (request : Request) → Asks t
     IsRight (calls.Ask request) answer → wake_of (calls.Ask request) answer ≡ Some wake → MayGo world task wake
 answered_goes world task request asks None wake right e = absurd (none-some wake e)
 answered_goes world task request asks (Some answer) wake right e =
-    goes_with world task (Asked request.kernel asks.purpose) (wakes.Answer answer) wake asks.task_state (rw asks.part at right) tt e
+    goes_with world task (Asked request.kernel asks.purpose) (wakes.Answer answer) wake asks.task_state (rw (asks.buffer, asks.range) at right) tt e
 
 -- one that waits for a nursery which is settled, and is left in this moment or before
 pub settled_goes : (world : World) (task : Task) (id since : ℕ) → task.task_state ≡ Awaits id since →

@@ -125,6 +125,21 @@ tells_in me a b w k ss clock x y p l in_cleanup st now e h =
     (tell k ss
     (record { here = record { clock = clock; input = z; part = p; task = l; path = l.indices }; in_cleanup = in_cleanup }) st now)) e h
 
+-- where a walk is that has this part of this buffer, and this path
+abbrev scene_on : Clock → Label → Bool → List ℕ → Range → List ℕ → Scene
+scene_on clock l in_cleanup x p path =
+    record { here = record { clock = clock; input = x; part = p; task = l; path = path }; in_cleanup = in_cleanup }
+
+-- the same steps on an equal part of an equal buffer, with an equal path
+pub tells_on : (me : Label) (a : List held.Event) (b : Progress) (w : Stretch) (k : Table) (ss : Steps) (clock : Clock) (l : Label)
+    (in_cleanup : Bool) (st : Stack) (now : Now) (x y : List ℕ) (p q : Range) (is js : List ℕ) → x ≡ y → p ≡ q → is ≡ js →
+    Tells me a w b (tell k ss (scene_on clock l in_cleanup x p is) st now) →
+    Tells me a w b (tell k ss (scene_on clock l in_cleanup y q js) st now)
+tells_on me a b w k ss clock l in_cleanup st now x y p q is js e f g h =
+    subst (λ (z : List ℕ). Tells me a w b (tell k ss (scene_on clock l in_cleanup z q js) st now)) e
+    (subst (λ (r : Range). Tells me a w b (tell k ss (scene_on clock l in_cleanup x r js) st now)) f
+    (subst (λ (path : List ℕ). Tells me a w b (tell k ss (scene_on clock l in_cleanup x p path) st now)) g h))
+
 -- equal steps, walked from an equal moment
 pub tells_at : (me : Label) (a : List held.Event) (b : Progress) (w : Stretch) (k : Table) (ss body : Steps) (scene : Scene) (st : Stack)
     (u v : Now) →

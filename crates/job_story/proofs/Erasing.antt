@@ -13,7 +13,7 @@ use Rattle.job_meaning.specs.Follow.{follow}
 use Rattle.job_meaning.specs.Meaning.{root_log, root_label}
 use Rattle.job_meaning.specs.Moments.{tick_of, a_round_after, wakes_at, gives_up_at, Now, only_at, far}
 use Rattle.job_meaning.specs.declared.clock.Clock.{Clock}
-use Rattle.job_meaning.specs.Walk.{Levels, Stack, no_stack, by_table, Here, walk, walk_step, walk_handler, walk_cleanup, in_sequence, then_if, and_then, done_at, raised_at, wait_by_sight, wait_until, set_moment, with_line_if, event_wait, sleep_result, pace_result, log_of_lines, lines_result, raise_result, need_result, sign_of, cancel_result, set_result, Kind, from_for, stack_for, exit_with_from, left_with, block, event_block, event_result, sign_if, home_of, with_sign, nursery_result, child, each, passes, handler_result, cleanup_result, with_outcome, handler_exc, label_here, label_over, stack_inside, stack_in_event, here_in, in_pass}
+use Rattle.job_meaning.specs.Walk.{Levels, Stack, no_stack, by_table, Here, walk, walk_step, walk_handler, walk_cleanup, in_sequence, then_if, and_then, done_at, raised_at, wait_by_sight, wait_until, set_moment, with_line_if, event_wait, sleep_result, pace_result, log_of_lines, lines_result, raise_result, need_result, sign_of, cancel_result, set_result, Kind, from_for, stack_for, exit_with_from, left_with, block, event_block, event_result, sign_if, home_of, with_sign, nursery_result, child, each, passes, handler_result, cleanup_result, with_outcome, handler_exc, label_here, label_over, stack_inside, stack_in_event, here_in, cuts_over, in_pass}
 use Rattle.job_meaning.specs.Walk as walks
 use Rattle.job_meaning.proofs.MomentLemmas.{round_after}
 use Rattle.job_meaning.proofs.Finish.{followed_assoc}
@@ -358,8 +358,8 @@ mutual
       each_is copies _ _ now (λ i.
       let inner = at_place (here_in (label_over name scene.here i) (cut_of scene.here.input scene.here.part copies i) scene.here) scene in
       child_is (label_over name scene.here i) st inner begins _ _ now (tell_is k body inner st (only_at begins)))
-  step_is k (repeat count body) scene st now =
-      passes_is 0 count _ _ now (λ i later. tell_is k body (at_place (in_pass i scene.here) scene) st later)
+  step_is k (repeat count over body) scene st now =
+      passes_is 0 count _ _ now (λ i later. tell_is k body (at_place (in_pass (cuts_over over count) i scene.here) scene) st later)
   step_is k (attempt body handler cleanup) scene st now =
       cleanup_is k cleanup scene st _ _ (handler_is k handler scene st _ _ (tell_is k body scene st now))
 

@@ -1,5 +1,5 @@
 -- The walk of the passes of a `repeat`, one after another.
-use Rattle.std.proofs.Common.{◌≡◌, ℕ, suc, ◌+◌, ◌-◌, ◌*◌, ◌≤◌, ◌<◌, max, true, false, List, [], refl, ap, sym, subst, ◌∙◌, arith, suc-mul}
+use Rattle.std.proofs.Common.{◌≡◌, ℕ, suc, ◌+◌, ◌-◌, ◌*◌, ◌≤◌, ◌<◌, max, true, false, Option, List, [], refl, ap, sym, subst, ◌∙◌, arith, suc-mul}
 use Rattle.std.specs.Option.{is_some}
 use Rattle.job_tree.specs.Tree.{Steps}
 use Rattle.job_tree.specs.InRange.{AreInRange}
@@ -21,22 +21,22 @@ use Rattle.job_story.proofs.Steps.{ends_small}
 
 -- before a pass, what was walked ended without an exception and continues with the passes that are
 -- left
-pub record AtPass (h : Here) (now : Now) (count : ℕ) (body : Steps) (i : ℕ) (start : List held.Event) (w : Stretch)
+pub record AtPass (cuts : Option ℕ) (h : Here) (now : Now) (count : ℕ) (body : Steps) (i : ℕ) (start : List held.Event) (w : Stretch)
     (mid : Progress) : Type 0 where
-  pub going : Going h.task.now start w mid (tell_passes 0 count (pass body h) now) (λ u. tell_passes i (count - i) (pass body h) u)
+  pub going : Going h.task.now start w mid (tell_passes 0 count (pass cuts body h) now) (λ u. tell_passes i (count - i) (pass cuts body h) u)
   pub in_range : AreInRange body
   pub room : HasRoom ((count - i) * (1 + size_of body)) h w.end
 
-pub at_first : (h : Here) (m count : ℕ) (body : Steps) (start : Progress) (w : Stretch) →
+pub at_first : (cuts : Option ℕ) (h : Here) (m count : ℕ) (body : Steps) (start : Progress) (w : Stretch) →
     ((own : List Label) (s : Story) → IsStretchOf w (ended_at (record { at = m; own = own }) s)) → AreInRange body →
-    HasRoom (count * (1 + size_of body)) h m → AtPass h (now_in m start) count body 0 start.events.items w start
-at_first h m count body start w stretch in_range room =
+    HasRoom (count * (1 + size_of body)) h m → AtPass cuts h (now_in m start) count body 0 start.events.items w start
+at_first cuts h m count body start w stretch in_range room =
     let none : count ≡ count - 0 = omega arith in
     record {
       going =
-          subst (λ (n : ℕ). Going h.task.now start.events.items w start (tell_passes 0 count (pass body h) (now_in m start))
-          (λ u. tell_passes 0 n (pass body h) u)) none
-          (going_start h.task.now start w m (λ u. tell_passes 0 count (pass body h) u) stretch);
+          subst (λ (n : ℕ). Going h.task.now start.events.items w start (tell_passes 0 count (pass cuts body h) (now_in m start))
+          (λ u. tell_passes 0 n (pass cuts body h) u)) none
+          (going_start h.task.now start w m (λ u. tell_passes 0 count (pass cuts body h) u) stretch);
       in_range = in_range;
       room =
           subst (λ (n : ℕ). HasRoom (n * (1 + size_of body)) h w.end) none
@@ -58,9 +58,9 @@ left_size i count size lt =
     let left : count - i ≡ suc (count - (i + 1)) = omega (arith, lt) in
     ap (λ (n : ℕ). n * size) left ∙ suc-mul (count - (i + 1)) size
 
-pub room_pass : (h : Here) (now : Now) (count : ℕ) (body : Steps) (i : ℕ) (start : List held.Event) (w : Stretch) (mid : Progress) →
-    AtPass h now count body i start w mid → i < count → HasRoom (size_of body) h w.end
-room_pass h now count body i start w mid at lt =
+pub room_pass : (cuts : Option ℕ) (h : Here) (now : Now) (count : ℕ) (body : Steps) (i : ℕ) (start : List held.Event) (w : Stretch) (mid : Progress) →
+    AtPass cuts h now count body i start w mid → i < count → HasRoom (size_of body) h w.end
+room_pass cuts h now count body i start w mid at lt =
     record { room = fits (span h.clock) at.room.room; small = at.room.small }
   where
     fits : (n : ℕ) → reach h.clock w.end + (count - i) * (1 + size_of body) * n ≤ 4611686018427387904 →
@@ -71,33 +71,33 @@ room_pass h now count body i start w mid at lt =
         omega (arith, le, left)
 
 -- a pass that ended with an exception ends the loop, and what was recorded is the tale of the whole loop
-pub pass_failed : (h : Here) (now : Now) (count : ℕ) (body : Steps) (i : ℕ) (start : List held.Event) (mid over : Progress) (w v x : Stretch) →
-    AtPass h now count body i start w mid → i < count → (u : ℕ) → u ≡ w.end →
-    Tells h.task.now mid.events.items v over (pass body h i (now_in u mid)) →
+pub pass_failed : (cuts : Option ℕ) (h : Here) (now : Now) (count : ℕ) (body : Steps) (i : ℕ) (start : List held.Event) (mid over : Progress) (w v x : Stretch) →
+    AtPass cuts h now count body i start w mid → i < count → (u : ℕ) → u ≡ w.end →
+    Tells h.task.now mid.events.items v over (pass cuts body h i (now_in u mid)) →
     ((p q : Tale) → IsStretchOf w p → IsStretchOf v q → IsStretchOf x (and_tale p q)) → is_some x.exc ≡ true →
-    Tells h.task.now start x over (tell_passes 0 count (pass body h) now)
-pass_failed h now count body i start mid over w v x at lt u ends tells join failed =
-    going_failed h.task.now start mid over w v x _ _ (λ y. pass body h i y) (λ y. tell_passes (i + 1) (count - (i + 1))
-    (pass body h) y) at.going
-    (first_left i count (pass body h) lt) u ends tells join failed
+    Tells h.task.now start x over (tell_passes 0 count (pass cuts body h) now)
+pass_failed cuts h now count body i start mid over w v x at lt u ends tells join failed =
+    going_failed h.task.now start mid over w v x _ _ (λ y. pass cuts body h i y) (λ y. tell_passes (i + 1) (count - (i + 1))
+    (pass cuts body h) y) at.going
+    (first_left i count (pass cuts body h) lt) u ends tells join failed
 
 -- a pass that ended well: the walk is at the next pass, with the tales so far (`w`) and of this pass (`v`) joined
-pub pass_next : (h : Here) (now : Now) (count : ℕ) (body : Steps) (i : ℕ) (start : List held.Event) (mid over : Progress) (w v x : Stretch) →
-    AtPass h now count body i start w mid → i < count → (u : ℕ) → u ≡ w.end →
-    Tells h.task.now mid.events.items v over (pass body h i (now_in u mid)) →
+pub pass_next : (cuts : Option ℕ) (h : Here) (now : Now) (count : ℕ) (body : Steps) (i : ℕ) (start : List held.Event) (mid over : Progress) (w v x : Stretch) →
+    AtPass cuts h now count body i start w mid → i < count → (u : ℕ) → u ≡ w.end →
+    Tells h.task.now mid.events.items v over (pass cuts body h i (now_in u mid)) →
     ((p q : Tale) → IsStretchOf w p → IsStretchOf v q → IsStretchOf x (and_tale p q)) → is_some x.exc ≡ false →
-    AtPass h now count body (i + 1) start x over
-pass_next h now count body i start mid over w v x at lt u ends tells join well =
+    AtPass cuts h now count body (i + 1) start x over
+pass_next cuts h now count body i start mid over w v x at lt u ends tells join well =
     let ends_by : max v.end v.open_until ≤ reach h.clock u + size_of body * span h.clock =
-    ends_small v (table_of h) body (at_place (in_pass i (here_of h)) (scene_of h)) (stack_of h) (now_in u mid) at.in_range at.room.small
+    ends_small v (table_of h) body (at_place (in_pass cuts i (here_of h)) (scene_of h)) (stack_of h) (now_in u mid) at.in_range at.room.small
     tells.stretch in
     let from : u ≡ w.end = ends in
     let last : x.end ≡ v.end = (join at.going.before _ at.going.tells.stretch tells.stretch).end ∙ sym tells.stretch.end in
     record {
       going =
-          going_next h.task.now start mid over w v x _ _ (λ y. pass body h i y) (λ y. tell_passes (i + 1) (count - (i + 1))
-          (pass body h) y) at.going
-          (first_left i count (pass body h) lt) u ends tells join well;
+          going_next h.task.now start mid over w v x _ _ (λ y. pass cuts body h i y) (λ y. tell_passes (i + 1) (count - (i + 1))
+          (pass cuts body h) y) at.going
+          (first_left i count (pass cuts body h) lt) u ends tells join well;
       in_range = at.in_range;
       room = record { room = fits (span h.clock) (base h.clock) ends_by from last at.room.room; small = at.room.small };
     }
@@ -111,9 +111,9 @@ pass_next h now count body i start mid over w v x at lt u ends tells join well =
         omega (arith, le, left, ends_by, from, last)
 
 -- all passes were walked
-pub pass_stop : (h : Here) (now : Now) (count : ℕ) (body : Steps) (i : ℕ) (start : List held.Event) (w : Stretch) (mid : Progress) →
-    AtPass h now count body i start w mid → count ≤ i → Tells h.task.now start w mid (tell_passes 0 count (pass body h) now)
-pass_stop h now count body i start w mid at le =
+pub pass_stop : (cuts : Option ℕ) (h : Here) (now : Now) (count : ℕ) (body : Steps) (i : ℕ) (start : List held.Event) (w : Stretch) (mid : Progress) →
+    AtPass cuts h now count body i start w mid → count ≤ i → Tells h.task.now start w mid (tell_passes 0 count (pass cuts body h) now)
+pass_stop cuts h now count body i start w mid at le =
     let none : 0 ≡ count - i = omega (arith, le) in
     going_stop h.task.now start mid w _ _ at.going
-    (λ u. subst (λ (n : ℕ). tell_passes i n (pass body h) u ≡ ended_at u no_more) none refl)
+    (λ u. subst (λ (n : ℕ). tell_passes i n (pass cuts body h) u ≡ ended_at u no_more) none refl)

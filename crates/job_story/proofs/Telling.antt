@@ -13,7 +13,7 @@ use Rattle.job_meaning.specs.Log.{Table}
 use Rattle.job_meaning.specs.Moments.{tick_of, a_round_after, wakes_at, gives_up_at, start_of, Now, only_at, far}
 use Rattle.job_meaning.specs.declared.clock.Clock.{Clock}
 use Rattle.job_meaning.specs.declared.clock.Clock.TheVariants.{ByTicks as by_ticks, ByRounds as by_rounds}
-use Rattle.job_meaning.specs.Walk.{Levels, Stack, Here, Kind, home_of, set_moment, label_on, level_if, event_on, with_own, from_for, stack_for, left_with, exc_after, latest, label_here, label_over, stack_inside, stack_in_event, here_in, in_pass}
+use Rattle.job_meaning.specs.Walk.{Levels, Stack, Here, Kind, home_of, set_moment, label_on, level_if, event_on, with_own, from_for, stack_for, left_with, exc_after, latest, label_here, label_over, stack_inside, stack_in_event, here_in, cuts_over, in_pass}
 use Rattle.job_meaning.proofs.Late.{latest_ends}
 use Rattle.job_meaning.proofs.MomentLemmas.{round_after, wakes_after, gives_up_after}
 use Rattle.job_story.specs.Story.{at_checkpoint, sleeping, waiting_for, Happening, enters, enters_event, sleeps, is_cancelled, finds, misses, raises, cancels, sets, awaits, was_set, handles, cleans, replaces, waits, leaves, Story, no_more, happened, started, then_story, Tale}
@@ -540,9 +540,9 @@ module _ (k : Table) (P : Clock → Levels → Now → Now → Story → Type 0)
         kept_each c k (P c) (kept c) copies _ now st.scopes (λ i. child_end _ _ _ _ _ now) (λ i.
         let inner = at_place (here_in (label_over name scene.here i) (cut_of scene.here.input scene.here.part copies i) scene.here) scene in
         kept_child c k (P c) (kept c) (label_over name scene.here i) st.scopes inner now _ (kept_tell body inner st (only_at (a_round_after c now.at)) of))
-    kept_step (repeat count body) scene st now of =
+    kept_step (repeat count over body) scene st now of =
         let c = scene.here.clock in
-        kept_passes c k (P c) (kept c) 0 count _ now st.scopes (λ i later. kept_tell body (at_place (in_pass i scene.here) scene) st later of)
+        kept_passes c k (P c) (kept c) 0 count _ now st.scopes (λ i later. kept_tell body (at_place (in_pass (cuts_over over count) i scene.here) scene) st later of)
     kept_step (attempt body handler cleanup) scene st now of =
         kept_cleanup cleanup scene st now _ of (kept_handler handler scene st now _ of (kept_tell body scene st now of))
 

@@ -1,9 +1,9 @@
--- Definitions for the worked stories, and two of them, proved by computing: a sibling fails, and a cleanup has a shield; a search and a
--- `need` find no line.
-use Rattle.std.specs.Prelude.{◌≡◌, ℕ, List, [], ◌∷◌, ◌++◌, codes, refl}
+-- Definitions for the worked stories, and three of them, proved by computing: a sibling fails, and a cleanup has a shield; a search and a
+-- `need` find no line; each pass of a `repeat over` searches its own cut of the input.
+use Rattle.std.specs.Prelude.{◌≡◌, ℕ, true, List, [], ◌∷◌, ◌++◌, codes, refl}
 use Rattle.std.specs.Fmt.{digits}
-use Rattle.job_tree.specs.declared.format.Format.TheVariants.{Two}
-use Rattle.job_tree.specs.Tree.{Step, sleep, forever, find, need, raise, Tree}
+use Rattle.job_tree.specs.declared.format.Format.TheVariants.{Two, Three}
+use Rattle.job_tree.specs.Tree.{Step, sleep, forever, find, need, raise, repeat, Tree}
 use Rattle.job_meaning.specs.Meaning.{meaning, meaning_table}
 use Rattle.job_meaning.specs.Walk.{walk, and_then, sleep_result, lines_result, raise_result, need_result, cancel_result, set_result, event_wait, block, event_block, with_sign, nursery_result, child, handler_result, cleanup_result}
 use Rattle.job_meaning.specs.Examples.{block_of, nursery_of, start_of, timed_shield, try_finally}
@@ -76,3 +76,17 @@ pub a_need_finds_no_line :
     ∷ [])
 unfolding text_of_story digits
 a_need_finds_no_line = refl
+
+-- job halves { repeat over 2 { find "GET"; } }
+pub each_pass_has_its_cut :
+    text_of_story (record { format = Three; name = codes "halves"; steps = block_of (repeat 2 true (block_of (find (codes "GET") ∷ [])) ∷ []) })
+    (lines_of (codes "GET /a" ∷ codes "GET /b" ∷ codes "PUT /c" ∷ codes "PUT /d" ∷ []))
+    ≡ lines_of
+    (codes "tick 0"
+    ∷ codes "  halves  starts"
+    ∷ codes "  halves  finds 2 lines"
+    ∷ codes "  halves  finds no line"
+    ∷ codes "  halves  ends: done"
+    ∷ [])
+unfolding text_of_story digits
+each_pass_has_its_cut = refl

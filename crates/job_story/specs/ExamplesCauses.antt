@@ -1,8 +1,8 @@
 -- Worked stories, proved by computing: which task cancels which, and attempts that are too slow.
 use Rattle.std.specs.Prelude.{◌≡◌, [], ◌∷◌, codes, refl}
 use Rattle.std.specs.Fmt.{digits}
-use Rattle.job_tree.specs.Tree.{sleep, find, raise, cancel, repeat, Tree}
-use Rattle.job_meaning.specs.Examples.{block_of, nursery_of, start_of, timed_scope, fail_scope, try_except}
+use Rattle.job_tree.specs.Tree.{sleep, find, raise, cancel, Tree}
+use Rattle.job_meaning.specs.Examples.{repeat_of, nursery_of, start_of, timed_scope, fail_scope, try_except}
 use Rattle.job_story.specs.Examples.{job_named, lines_of, text_of_story}
 
 -- job hedge { nursery replicas {
@@ -106,10 +106,10 @@ retry =
     job_named (codes "retry")
     (fail_scope (codes "budget") 20
     (try_except
-    (repeat 5 (block_of
+    (repeat_of 5
     (try_except
     (fail_scope (codes "attempt") 4 (sleep 9 ∷ find (codes "GET") ∷ []) ∷ raise (codes "Answered") ∷ [])
-    (codes "TooSlow") (sleep 2 ∷ []) ∷ [])) ∷ [])
+    (codes "TooSlow") (sleep 2 ∷ []) ∷ []) ∷ [])
     (codes "Answered") [] ∷ []) ∷ [])
 
 pub a_budget_is_spent :

@@ -94,9 +94,9 @@ abbrev pub started_by : List ℕ → Option ℕ → Steps → Here → Now → T
 started_by name None body h now = started_tale (label_in name h) (range_of h.part) body h (a_round_after h.clock now.at) now
 started_by name (Some k) body h now = tell_each k (started_over name k body h (a_round_after h.clock now.at) now) now
 
--- a pass of a `repeat`
-abbrev pub pass : Steps → Here → ℕ → Now → Tale
-pass body h i now = tell (table_of h) body (at_place (in_pass i (here_of h)) (scene_of h)) (stack_of h) now
+-- a pass of a `repeat`, on its cut of the part if that is divided into cuts
+abbrev pub pass : (cuts : Option ℕ) → Steps → Here → ℕ → Now → Tale
+pass cuts body h i now = tell (table_of h) body (at_place (in_pass cuts i (here_of h)) (scene_of h)) (stack_of h) now
 
 -- a `pace` of so many ticks
 abbrev pub tell_paced : Here → ℕ → ℕ → Tale
@@ -113,6 +113,6 @@ IsLeaf (scope name deadline shield fail body) = ⊥
 IsLeaf (nursery name deadline shield body) = ⊥
 IsLeaf (event name body) = ⊥
 IsLeaf (start name over body) = ⊥
-IsLeaf (repeat count body) = ⊥
+IsLeaf (repeat count over body) = ⊥
 IsLeaf (attempt body handler cleanup) = ⊥
 IsLeaf _ = Unit {0}

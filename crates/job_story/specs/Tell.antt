@@ -11,7 +11,7 @@ use Rattle.job_meaning.specs.Log.{Table}
 use Rattle.job_meaning.specs.Meaning.{root_label, root_here}
 use Rattle.job_meaning.specs.Moments.{tick_of, a_round_after, wakes_at, gives_up_at, due, Now, only_at, far}
 use Rattle.job_meaning.specs.declared.clock.Clock.{Clock}
-use Rattle.job_meaning.specs.Walk.{Levels, Stack, no_stack, Here, label_here, set_moment, pace_ticks, label_on, event_on, with_own, from_for, stack_for, Left, left_with, Kind, a_scope, a_nursery, exc_after, stack_inside, stack_in_event, home_of, latest, with_exc, excs_of, in_pass, here_in, label_over, handler_exc, outcome_after}
+use Rattle.job_meaning.specs.Walk.{Levels, Stack, no_stack, Here, label_here, set_moment, pace_ticks, label_on, event_on, with_own, from_for, stack_for, Left, left_with, Kind, a_scope, a_nursery, exc_after, stack_inside, stack_in_event, home_of, latest, with_exc, excs_of, cuts_over, in_pass, here_in, label_over, handler_exc, outcome_after}
 use Rattle.job_story.specs.Story.{During, at_checkpoint, sleeping, waiting_for, Happening, enters, enters_event, sleeps, is_cancelled, finds, misses, raises, cancels, sets, awaits, was_set, handles, cleans, replaces, waits, leaves, Story, no_more, happened, started, then_story, Tale}
 
 -- where a walk is, and whether it is in a `finally` block of this task or of one that started it
@@ -298,8 +298,8 @@ unfoldable mutual
       tell_each copies (λ i.
       let inner = at_place (here_in (label_over name scene.here i) (cut_of scene.here.input scene.here.part copies i) scene.here) scene in
       tell_child (label_over name scene.here i) (home_of st.scopes) inner begins (tell k body inner st (only_at begins)) now) now
-  tell_step k (repeat count body) scene st now =
-      tell_passes 0 count (λ i later. tell k body (at_place (in_pass i scene.here) scene) st later) now
+  tell_step k (repeat count over body) scene st now =
+      tell_passes 0 count (λ i later. tell k body (at_place (in_pass (cuts_over over count) i scene.here) scene) st later) now
   tell_step k (attempt body handler cleanup) scene st now =
       tell_cleanup k cleanup scene st (tell_handler k handler scene st (tell k body scene st now))
 

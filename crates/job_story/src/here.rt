@@ -20,7 +20,7 @@ pub struct Here<'a, 's> {
     pub clock: Clock,
     /// The moment from which each scope and nursery is cancelled, and each event set.
     pub cancelled_from: &'s CancelledFrom,
-    /// The task's part of the input.
+    /// The task's part of the input, or its cut for the pass of a `repeat over` that the walk is in.
     pub part: Part<'a>,
     /// The task's label.
     pub task: &'s Label,

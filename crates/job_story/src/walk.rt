@@ -1,8 +1,9 @@
 ghost use Rattle.std.specs.Prelude.{◌≡◌, ◌+◌, ◌*◌, ◌<◌, ◌≤◌, ◌^◌, ℕ, Option, IfOk, ◌++◌, ◌∷◌, [], List};
 ghost use Rattle.input_lines.specs.Part.{buffer_of, range_of};
 ghost use Rattle.job_tree.specs.Blocks.{step_of, steps_of, handled_of, cleaned_of};
-ghost use Rattle.job_tree.specs.InRange.{AreInRange, IsInRangeStep, IsInRangeOver, IsInRangeHandler, IsInRangeCleanup};
+ghost use Rattle.job_tree.specs.InRange.{AreInRange, IsInRangeStep, IsInRangeOver, IsInRangePasses, IsInRangeHandler, IsInRangeCleanup};
 ghost use Rattle.job_tree.specs.Names.{copies_of, size_of, size_in, handled_size, cleaned_size};
+ghost use Rattle.job_meaning.specs.Walk.{cuts_over, part_in_pass};
 ghost use Rattle.block_exits.specs.Held.{kind_of};
 ghost use Rattle.job_story.specs.Story.{Tale};
 ghost use Rattle.job_story.specs.Tell.{tell, tell_step, tell_handler, tell_cleanup, tell_block, tell_event, tell_each, tell_passes};
@@ -90,7 +91,9 @@ fn tell_step<'a>(
         }
         Step::Event { name, body } => tell_event(name, body, here, moment, progress),
         Step::Start { name, over, body } => tell_start(name, *over, body, here, moment, progress),
-        Step::Repeat { count, body } => tell_passes(*count, body, here, moment, progress),
+        Step::Repeat { count, over, body } => {
+            tell_passes(*count, *over, body, here, moment, progress)
+        }
         Step::Try {
             body,
             handler,
@@ -289,19 +292,21 @@ fn tell_children<'a>(
 #[cycle(telling)]
 fn tell_passes<'a>(
     count: u64,
+    over: bool,
     body: &'a Body,
     here: Here<'a, '_>,
     moment: u64,
     progress: &mut Progress,
 ) -> Result<Stretch, AllocError>
+    requires passes { IsInRangePasses over count }
     requires in_range { AreInRange body.now }
     requires room { HasRoom (count * (1 + size_of body.now)) here moment }
     ensures { IfOk result (λ w. Tells here.entry.task.now progress.old.events.items w progress.new
-        (tell_passes 0 count (pass body.now here.entry) (now_in moment progress.old))) }
+        (tell_passes 0 count (pass (cuts_over over count) body.now here.entry) (now_in moment progress.old))) }
 {
     let mut stretch = Stretch::at(here.alloc, moment);
     'passes: for i in 0..count {
-        let next = tell_pass(i, body, here, stretch.end(), progress)?;
+        let next = tell_pass(i, count, over, body, here, stretch.end(), progress)?;
         stretch = stretch.join(next)?;
         if stretch.has_failed() {
             return Ok(stretch);
@@ -310,23 +315,28 @@ fn tell_passes<'a>(
     Ok(stretch)
 }
 
-// Walks one pass of a `repeat`. What it enters or starts has the number of the pass in its label.
+// Walks one pass of a `repeat`, on its cut if it has one. What it enters or starts has the number of the pass in its label.
 #[cycle(telling)]
 #[inline(never)]
 fn tell_pass<'a>(
     number: u64,
+    count: u64,
+    over: bool,
     body: &'a Body,
     here: Here<'a, '_>,
     moment: u64,
     progress: &mut Progress,
 ) -> Result<Stretch, AllocError>
+    requires passes { IsInRangePasses over count }
+    requires below { number < count }
     requires in_range { AreInRange body.now }
     requires room { HasRoom (size_of body.now) here moment }
     ensures { IfOk result (λ w. Tells here.entry.task.now progress.old.events.items w progress.new
-        (pass body.now here.entry number (now_in moment progress.old))) }
+        (pass (cuts_over over count) body.now here.entry number (now_in moment progress.old))) }
 {
     let place = here.place.copy(here.alloc)?.with_index(number)?;
     let inside = Here {
+        part: part_in_pass(here.part, over, count, number),
         place: &place,
         ..here
     };
@@ -421,6 +431,19 @@ fn tell_cleanup<'a>(
     note_replaced(here, &stretch.exc, &next.exc, next.end(), events)?;
     let stretch = stretch.join_cleanup(here.alloc, next)?;
     Ok(stretch)
+}
+
+// The part of the input for one pass of a `repeat`: its cut of this part if the passes are over cuts, and else all of it.
+fn part_in_pass(part: Part<'_>, over: bool, count: u64, number: u64) -> Part<'_>
+    requires passes { IsInRangePasses over count }
+    requires below { number < count }
+    ensures buffer { buffer_of result ≡ buffer_of part.entry }
+    ensures range { range_of result ≡ part_in_pass (buffer_of part.entry) (cuts_over over count) number (range_of part.entry) }
+{
+    if !over {
+        return part;
+    }
+    part.cut(count as usize, number as usize)
 }
 
 // The label of a task of a `start .. over`, with its index.

@@ -3,13 +3,14 @@ use Rattle.std.proofs.Common.{◌≡◌, ℕ, zero, suc, ◌+◌, ◌-◌, ◌<�
 use Rattle.job_tree.specs.declared.format.Format.{Format}
 use Rattle.job_tree.specs.declared.deadline.Deadline.{Deadline}
 use Rattle.job_tree.specs.declared.deadline.Deadline.TheVariants.{Never, After, At}
+use Rattle.job_tree.specs.Starting.{starts_in_pass}
 use Rattle.job_tree.specs.Tree.{Step, sleep, checkpoint, forever, pace, find, head, longest, need, raise, cancel, set_event, wait_for, scope, nursery, event, start, repeat, attempt, Steps, stop, step, Handled, unhandled, except, Cleaned, uncleaned, finally, Tree}
 use Rattle.job_tokens.specs.declared.token.Mark.TheVariants as mark
 use Rattle.job_tokens.specs.declared.token.Shape.{Shape}
 use Rattle.job_syntax.specs.declared.keyword.Keyword.{Keyword}
 use Rattle.job_syntax.specs.declared.keyword.Keyword.TheVariants as word
 use Rattle.job_syntax.specs.Keywords.{keyword_of}
-use Rattle.job_syntax.specs.Pieces.{Piece, shapes_in, opens, deadline_pieces, flag_pieces, over_pieces, steps_pieces, step_pieces, handler_pieces, cleanup_pieces, job_pieces, loop_inside, AreSteps, IsStep}
+use Rattle.job_syntax.specs.Pieces.{Piece, shapes_in, opens, deadline_pieces, flag_pieces, over_pieces, passes_pieces, steps_pieces, step_pieces, handler_pieces, cleanup_pieces, job_pieces, loop_inside, AreSteps, IsStep}
 use Rattle.job_syntax.specs.Depth.{AreWithin, IsWithin}
 use Rattle.job_syntax.specs.Reading.{Read, Blocks, mark_at, after_word, step_at, steps_with, blocks_at, job_at}
 
@@ -31,6 +32,10 @@ long_deadline (At n) rest = omega arith
 long_over : (o : Option ℕ) (rest : List Piece) → length rest ≤ length (over_pieces o rest)
 long_over None rest = omega arith
 long_over (Some n) rest = omega arith
+
+long_passes : (over : Bool) (n : ℕ) (rest : List Piece) → length rest ≤ length (passes_pieces over n rest)
+long_passes false n rest = omega arith
+long_passes true n rest = omega arith
 
 mutual
   long_steps : (steps : Steps) (rest : List Piece) → 1 + length rest ≤ length (steps_pieces steps rest)
@@ -65,7 +70,7 @@ mutual
   )
   long_step (event n body) rest = omega (arith, long_steps body rest)
   long_step (start n o body) rest = omega (arith, long_steps body rest, long_over o (opens ∷ steps_pieces body rest))
-  long_step (repeat n body) rest = omega (arith, long_steps body rest)
+  long_step (repeat n over body) rest = omega (arith, long_steps body rest, long_passes over n (opens ∷ steps_pieces body rest))
   long_step (attempt body h c) rest =
       omega (arith, long_steps body (handler_pieces h (cleanup_pieces c rest)), long_handler h (cleanup_pieces c rest), long_cleanup c rest)
 
@@ -123,10 +128,11 @@ event_again : (blocks : Blocks) (n : List ℕ) (body : Steps) (rest : List Piece
 unfolding keyword_of
 event_again blocks n body rest reads = rw (reads rest) refl
 
-repeat_again : (blocks : Blocks) (n : ℕ) (body : Steps) (rest : List Piece) → ReadsAgain blocks body →
-    step_at blocks (shapes_in (step_pieces (repeat n body) rest)) ≡ step_read (repeat n body) rest
+repeat_again : (blocks : Blocks) (n : ℕ) (over : Bool) (body : Steps) (rest : List Piece) → ReadsAgain blocks body →
+    step_at blocks (shapes_in (step_pieces (repeat n over body) rest)) ≡ step_read (repeat n over body) rest
 unfolding keyword_of
-repeat_again blocks n body rest reads = rw (reads rest) refl
+repeat_again blocks n false body rest reads = rw (reads rest) refl
+repeat_again blocks n true body rest reads = rw (reads rest) refl
 
 try_both : (blocks : Blocks) (body : Steps) (n : List ℕ) (handler clean : Steps) (rest : List Piece) → ReadsAgain blocks body →
     ReadsAgain blocks handler → ReadsAgain blocks clean → step_at blocks
@@ -168,7 +174,7 @@ no_finally (step (scope n d s f body) ss) rest = refl
 no_finally (step (nursery n d s body) ss) rest = refl
 no_finally (step (event n body) ss) rest = refl
 no_finally (step (start n o body) ss) rest = refl
-no_finally (step (repeat n body) ss) rest = refl
+no_finally (step (repeat n over body) ss) rest = refl
 no_finally (step (attempt body h c) ss) rest = refl
 
 -- a step does not begin with a closing mark
@@ -189,7 +195,7 @@ no_close (scope n d s f body) rest = refl
 no_close (nursery n d s body) rest = refl
 no_close (event n body) rest = refl
 no_close (start n o body) rest = refl
-no_close (repeat n body) rest = refl
+no_close (repeat n over body) rest = refl
 no_close (attempt body h c) rest = refl
 
 -- ---- nested blocks
@@ -262,9 +268,9 @@ mutual
   step_again format (start n o body) inside depth rest is within none =
       start_again (blocks_at depth) n o body rest (block_again format false body depth
       (λ inside' depth' n' rest'. steps_again format body inside' depth' n' rest') is.1 within.0 within.1)
-  step_again format (repeat n body) inside depth rest is within none =
-      repeat_again (blocks_at depth) n body rest (block_again format (loop_inside format inside) body depth
-      (λ inside' depth' n' rest'. steps_again format body inside' depth' n' rest') is.1 within.0 within.1)
+  step_again format (repeat n over body) inside depth rest is within none =
+      repeat_again (blocks_at depth) n over body rest (block_again format (starts_in_pass over (loop_inside format inside)) body depth
+      (λ inside' depth' n' rest'. steps_again format body inside' depth' n' rest') is.2 within.0 within.1)
   step_again format (attempt body (except n handler) (finally clean)) inside depth rest is within none =
       try_both (blocks_at depth) body n handler clean rest
       (block_again format false body depth (λ inside' depth' n' rest'. steps_again format body inside' depth' n' rest') is.1 within.0.0

@@ -9,7 +9,7 @@ use Rattle.job_tokens.specs.declared.token.Token.{Token}
 use Rattle.job_tokens.specs.Shapes.{shapes_of, mark_in}
 use Rattle.job_syntax.specs.declared.keyword.Keyword.{Keyword}
 use Rattle.job_syntax.specs.declared.keyword.Keyword.TheVariants as word
-use Rattle.job_syntax.specs.Pieces.{Piece, shapes_in, opens, deadline_pieces, flag_pieces, over_pieces, steps_pieces, step_pieces, handler_pieces, cleanup_pieces, job_pieces}
+use Rattle.job_syntax.specs.Pieces.{Piece, shapes_in, opens, deadline_pieces, flag_pieces, over_pieces, passes_pieces, steps_pieces, step_pieces, handler_pieces, cleanup_pieces, job_pieces}
 use Rattle.job_syntax.specs.Depth.{AreWithin, IsWithin, IsHandlerWithin, IsCleanupWithin, depth_after, depth_fault}
 
 -- ---- along the shapes
@@ -59,6 +59,11 @@ past_over : (depth : ℕ) (o : Option ℕ) (rest : List Piece) → NoneTooDeep d
     NoneTooDeep depth (shapes_in rest)
 past_over depth None rest none = none
 past_over depth (Some n) rest none = none.1.1
+
+past_passes : (depth : ℕ) (over : Bool) (n : ℕ) (rest : List Piece) → NoneTooDeep depth (shapes_in (passes_pieces over n rest)) →
+    NoneTooDeep depth (shapes_in rest)
+past_passes depth false n rest none = none.1
+past_passes depth true n rest none = none.1.1
 
 -- if `depth` blocks are open and no `{` is too deep, the blocks of these steps are nested at most `more` deep
 abbrev StepsWithin : Steps → List Piece → Type 0
@@ -113,8 +118,9 @@ mutual
   step_within (start n o body) rest depth more e none =
       block_within depth more body rest (λ depth' more'. steps_within body rest depth' more') e
       (past_over depth o (opens ∷ steps_pieces body rest) none.1.1)
-  step_within (repeat n body) rest depth more e none =
-      block_within depth more body rest (λ depth' more'. steps_within body rest depth' more') e none.1.1
+  step_within (repeat n over body) rest depth more e none =
+      block_within depth more body rest (λ depth' more'. steps_within body rest depth' more') e
+      (past_passes depth over n (opens ∷ steps_pieces body rest) none.1)
   step_within (attempt body h c) rest depth more e none =
       let after = handler_pieces h (cleanup_pieces c rest) in
       let one = block_within depth more body after (λ depth' more'. steps_within body after depth' more') e none.1 in

@@ -15,11 +15,11 @@ use Rattle.job_syntax.specs.declared.keyword.Keyword.TheVariants as word
 use Rattle.job_syntax.specs.declared.nonterminal.Nonterminal.{Nonterminal}
 use Rattle.job_syntax.specs.declared.nonterminal.Nonterminal.TheVariants as nonterminal
 use Rattle.job_syntax.specs.Keywords.{spelling_of, keyword_among, keywords, keyword_of}
-use Rattle.job_syntax.specs.Nonterminals.{Rest, next, text_rest, step_rest, cleanup_rest, tail_rest, scope_rest, shield_rest, fail_rest, over_rest, nursery_rest, nursery_shield_rest, outer_block, tail, cleanup, ◌>>=◌}
+use Rattle.job_syntax.specs.Nonterminals.{Rest, next, text_rest, step_rest, cleanup_rest, tail_rest, scope_rest, shield_rest, fail_rest, over_rest, nursery_rest, nursery_shield_rest, outer_block, tail, cleanup, passes, ◌>>=◌}
 use Rattle.job_syntax.specs.declared.role.Role.{Role}
 use Rattle.job_syntax.specs.declared.role.Role.TheVariants as role
-use Rattle.job_syntax.specs.Pieces.{Piece, keyword, name_piece, number, string, opens, ends, deadline_pieces, flag_pieces, over_pieces, step_pieces, steps_pieces, loop_inside, AreSteps, IsStep}
-use Rattle.job_syntax.specs.Syntax.{IsBlock, IsTail, IsCleanupAndBlock, Stands, Fits, role_of}
+use Rattle.job_syntax.specs.Pieces.{Piece, keyword, name_piece, number, string, opens, ends, deadline_pieces, flag_pieces, over_pieces, passes_pieces, step_pieces, steps_pieces, MayDivide, AreSteps, IsStep}
+use Rattle.job_syntax.specs.Syntax.{IsBlock, IsTail, IsCleanupAndBlock, IsPasses, Stands, Fits, role_of}
 use Rattle.job_syntax.proofs.Grammar.{Left, plain_head}
 
 -- ---- the spelling of a keyword
@@ -135,14 +135,30 @@ nursery_step format inside ss ps (r, (n, e), (r', (d, s, body, may, are, e'), (q
     step_on format inside (nursery n d s body) ss (keyword word.Nursery ∷ ps) q b.0 (may, are) b.1
     (ap (on (keyword word.Nursery)) (e ∙ ap (on (name_piece role.Given n)) tail_is)) fits
 
-repeat_step : (format : Format) (inside : Bool) (ss : List Nonterminal) (ps : List Piece) → extends_format_1 format ≡ true →
-    Fits format (nonterminal.Number ∷ nonterminal.Open ∷ outer_block (loop_inside format inside) ∷ outer_block inside ∷ ss) ps →
-    BlockFits format inside ss (keyword word.Repeat ∷ ps)
-repeat_step format inside ss ps may (r, (n, e), (r', e', (r'', looped, (q, block, fits)))) =
-    let l = block_of format (loop_inside format inside) r' r'' looped in
-    let b = block_of format inside r'' q block in
-    step_on format inside (repeat n l.0) ss (keyword word.Repeat ∷ ps) q b.0 (may, l.1) b.1
-    (ap (on (keyword word.Repeat)) (e ∙ ap (on (number n)) (e' ∙ ap (on opens) (l.2 ∙ ap (steps_pieces l.0) b.2)))) fits
+-- `repeat` in format 2, and in format 3
+counted_step : (inside : Bool) (ss : List Nonterminal) (ps : List Piece) →
+    Fits Two (nonterminal.Number ∷ nonterminal.Open ∷ nonterminal.Steps ∷ outer_block inside ∷ ss) ps →
+    BlockFits Two inside ss (keyword word.Repeat ∷ ps)
+counted_step inside ss ps (r, (n, e), (r', e', (r'', (body, are, e''), (q, block, fits)))) =
+    let b = block_of Two inside r'' q block in
+    step_on Two inside (repeat n false body) ss (keyword word.Repeat ∷ ps) q b.0 (refl, tt, are) b.1
+    (ap (on (keyword word.Repeat)) (e ∙ ap (on (number n)) (e' ∙ ap (on opens) (e'' ∙ ap (steps_pieces body) b.2)))) fits
+
+passes_of : (format : Format) (inside : Bool) (ps rest : List Piece) → Stands format (passes inside) ps rest → IsPasses format inside ps rest
+passes_of format false ps rest is = is
+passes_of format true ps rest is = is
+
+may_divide : (over : Bool) → MayDivide Three over
+may_divide false = tt
+may_divide true = refl
+
+repeat_step : (inside : Bool) (ss : List Nonterminal) (ps : List Piece) → Fits Three (passes inside ∷ outer_block inside ∷ ss) ps →
+    BlockFits Three inside ss (keyword word.Repeat ∷ ps)
+repeat_step inside ss ps (r, looped, (q, block, fits)) =
+    let l = passes_of Three inside ps r looped in
+    let b = block_of Three inside r q block in
+    step_on Three inside (repeat l.0 l.1 l.2) ss (keyword word.Repeat ∷ ps) q b.0 (refl, may_divide l.1, l.3) b.1
+    (ap (on (keyword word.Repeat)) (l.4 ∙ ap (λ (x : List Piece). passes_pieces l.1 l.0 (opens ∷ steps_pieces l.2 x)) b.2)) fits
 
 event_step : (format : Format) (inside : Bool) (ss : List Nonterminal) (ps : List Piece) → has_events format ≡ true →
     Fits format (nonterminal.Given ∷ nonterminal.Open ∷ nonterminal.Steps ∷ outer_block inside ∷ ss) ps →
@@ -187,8 +203,8 @@ by_step format inside word.Scope ss ps left = scope_step format inside ss ps lef
 by_step format inside word.Nursery ss ps left = nursery_step format inside ss ps left
 by_step format true word.Start ss ps left = start_step format ss ps left
 by_step format false word.Start ss ps left = absurd left
-by_step Two inside word.Repeat ss ps left = repeat_step Two inside ss ps refl left
-by_step Three inside word.Repeat ss ps left = repeat_step Three inside ss ps refl left
+by_step Two inside word.Repeat ss ps left = counted_step inside ss ps left
+by_step Three inside word.Repeat ss ps left = repeat_step inside ss ps left
 by_step One inside word.Repeat ss ps left = absurd left
 by_step Three inside word.Event ss ps left = event_step Three inside ss ps refl left
 by_step Two inside word.Event ss ps left = absurd left
@@ -378,6 +394,14 @@ by_over format word.Over ss ps (r, (n, e), left) = let b = body_on format ss r l
     (b.0, (Some n, b.1, b.2, ap (on (keyword word.Over)) (e ∙ ap (on (number n)) b.3)), b.4)
 by_over format _ ss ps left = absurd left
 
+by_passes : (format : Format) (inside : Bool) (k : Keyword) (ss : List Nonterminal) (ps : List Piece) → Left format (over_rest k) ss ps →
+    Fits format (passes inside ∷ ss) (keyword k ∷ ps)
+by_passes format false word.Over ss ps (r, (n, e), left) = let b = body_on format ss r left in
+    (b.0, (n, true, b.1, b.2, ap (on (keyword word.Over)) (e ∙ ap (on (number n)) b.3)), b.4)
+by_passes format true word.Over ss ps (r, (n, e), left) = let b = body_on format ss r left in
+    (b.0, (n, true, b.1, b.2, ap (on (keyword word.Over)) (e ∙ ap (on (number n)) b.3)), b.4)
+by_passes format inside _ ss ps left = absurd left
+
 by_text : (format : Format) (k : Keyword) (ss : List Nonterminal) (ps : List Piece) → Left format (text_rest k) ss ps →
     Fits format (nonterminal.Job ∷ ss) (keyword k ∷ ps)
 by_text format word.Job ss ps (r, (n, e), left) =
@@ -459,6 +483,16 @@ forward format nonterminal.Over (shape.Word w) ss ps left = by_keyword format no
     (keyword_of w) refl ss ps left
 forward format nonterminal.Over (shape.Mark mark.Open) ss ps (rest, (body, are, e), fits) = (rest, (None, body, are, ap (on opens) e), fits)
 forward format nonterminal.Over _ ss ps left = absurd left
+forward format nonterminal.Passes (shape.Word w) ss ps left = by_keyword format nonterminal.Passes over_rest refl (by_passes format false) w
+    (keyword_of w) refl ss ps left
+forward format nonterminal.Passes (shape.Number (Some n)) ss ps left =
+    let b = body_on format ss ps left in (b.0, (n, false, b.1, b.2, ap (on (number n)) b.3), b.4)
+forward format nonterminal.Passes _ ss ps left = absurd left
+forward format nonterminal.ItemsPasses (shape.Word w) ss ps left =
+    by_keyword format nonterminal.ItemsPasses over_rest refl (by_passes format true) w (keyword_of w) refl ss ps left
+forward format nonterminal.ItemsPasses (shape.Number (Some n)) ss ps left =
+    let b = items_on format ss ps left in (b.0, (n, false, b.1, b.2, ap (on (number n)) b.3), b.4)
+forward format nonterminal.ItemsPasses _ ss ps left = absurd left
 forward format nonterminal.Given (shape.Word w) ss ps left = (ps, (w, refl), left)
 forward format nonterminal.Given _ ss ps left = absurd left
 forward format nonterminal.Raised (shape.Word w) ss ps left = (ps, (w, refl), left)

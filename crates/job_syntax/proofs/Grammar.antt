@@ -3,6 +3,7 @@ use Rattle.std.proofs.Common.{◌≡◌, ℕ, Bool, true, false, List, [], ◌�
 use Rattle.job_tree.specs.declared.format.Format.{Format}
 use Rattle.job_tree.specs.declared.format.Format.TheVariants.{One, Two, Three}
 use Rattle.job_tree.specs.Formats.{extends_format_1, has_events}
+use Rattle.job_tree.specs.Starting.{starts_in_pass}
 use Rattle.job_tree.specs.declared.deadline.Deadline.{Deadline}
 use Rattle.job_tree.specs.declared.deadline.Deadline.TheVariants.{Never, After, At}
 use Rattle.job_tree.specs.Tree.{sleep, checkpoint, forever, pace, find, head, longest, need, raise, cancel, set_event, wait_for, scope, nursery, event, start, repeat, attempt, Steps, stop, step, Handled, unhandled, except, Cleaned, uncleaned, finally, Tree}
@@ -11,9 +12,9 @@ use Rattle.job_syntax.specs.declared.keyword.Keyword.TheVariants as word
 use Rattle.job_syntax.specs.declared.nonterminal.Nonterminal.{Nonterminal}
 use Rattle.job_syntax.specs.declared.nonterminal.Nonterminal.TheVariants as nonterminal
 use Rattle.job_syntax.specs.Keywords.{spelling_of, keyword_of}
-use Rattle.job_syntax.specs.Nonterminals.{Rest, next, event_rest, use_rest, step_rest, cleanup_rest, outer_block, tail, cleanup, ◌>>=◌}
+use Rattle.job_syntax.specs.Nonterminals.{Rest, next, event_rest, use_rest, step_rest, cleanup_rest, outer_block, tail, cleanup, passes, ◌>>=◌}
 use Rattle.job_syntax.specs.declared.role.Role.TheVariants as role
-use Rattle.job_syntax.specs.Pieces.{Piece, keyword, name_piece, number, string, opens, closes, ends, deadline_pieces, flag_pieces, over_pieces, steps_pieces, handler_pieces, cleanup_pieces, job_onto, IsNurseryHead, loop_inside, AreSteps, IsHandler, IsCleanup, HasTail}
+use Rattle.job_syntax.specs.Pieces.{Piece, keyword, name_piece, number, string, opens, closes, ends, deadline_pieces, flag_pieces, over_pieces, passes_pieces, steps_pieces, handler_pieces, cleanup_pieces, job_onto, IsNurseryHead, loop_inside, MayDivide, AreSteps, IsHandler, IsCleanup, HasTail}
 use Rattle.job_syntax.specs.Syntax.{Stands, Fits, role_of}
 
 -- ---- completion
@@ -33,6 +34,8 @@ shortest format nonterminal.Fail rest = opens ∷ closes ∷ rest
 shortest format nonterminal.Nursery rest = opens ∷ closes ∷ rest
 shortest format nonterminal.NurseryShield rest = opens ∷ closes ∷ rest
 shortest format nonterminal.Over rest = opens ∷ closes ∷ rest
+shortest format nonterminal.Passes rest = number 0 ∷ opens ∷ closes ∷ rest
+shortest format nonterminal.ItemsPasses rest = number 0 ∷ opens ∷ closes ∷ rest
 shortest format nonterminal.Given rest = name_piece role.Given [] ∷ rest
 shortest format nonterminal.Raised rest = name_piece role.Raised [] ∷ rest
 shortest format nonterminal.Handled rest = name_piece role.Handled [] ∷ rest
@@ -62,6 +65,8 @@ shortest_stands format nonterminal.Fail rest = (false, stop, tt, refl)
 shortest_stands format nonterminal.Nursery rest = (Never, false, stop, plain_head format, tt, refl)
 shortest_stands format nonterminal.NurseryShield rest = (false, stop, plain_head format, tt, refl)
 shortest_stands format nonterminal.Over rest = (None, stop, tt, refl)
+shortest_stands format nonterminal.Passes rest = (0, false, stop, tt, refl)
+shortest_stands format nonterminal.ItemsPasses rest = (0, false, stop, tt, refl)
 shortest_stands format nonterminal.Given rest = ([], refl)
 shortest_stands format nonterminal.Raised rest = ([], refl)
 shortest_stands format nonterminal.Handled rest = ([], refl)
@@ -142,12 +147,24 @@ loop_fits format inside loop n body others ss rest are following fits = (
   ),
 )
 
-repeat_left : (format : Format) (inside : Bool) (n : ℕ) (body others : Steps) (ss : List Nonterminal) (rest : List Piece) →
-    extends_format_1 format ≡ true → AreSteps format (loop_inside format inside) body → AreSteps format inside others → Fits format ss rest
-    → Left format (step_rest format inside word.Repeat) ss (number n ∷ opens ∷ steps_pieces body (steps_pieces others rest))
-repeat_left Two inside n body others ss rest e are following fits = loop_fits Two inside false n body others ss rest are following fits
-repeat_left Three inside n body others ss rest e are following fits = loop_fits Three inside inside n body others ss rest are following fits
-repeat_left One inside n body others ss rest e are following fits = absurd cc
+passes_stand : (format : Format) (inside over : Bool) (n : ℕ) (body : Steps) (rest : List Piece) →
+    AreSteps format (starts_in_pass over inside) body → Stands format (passes inside) (passes_pieces over n (opens ∷ steps_pieces body rest)) rest
+passes_stand format false over n body rest are = (n, over, body, are, refl)
+passes_stand format true over n body rest are = (n, over, body, are, refl)
+
+repeat_left : (format : Format) (inside : Bool) (n : ℕ) (over : Bool) (body others : Steps) (ss : List Nonterminal) (rest : List Piece) →
+    extends_format_1 format ≡ true → MayDivide format over → AreSteps format (starts_in_pass over (loop_inside format inside)) body →
+    AreSteps format inside others → Fits format ss rest
+    → Left format (step_rest format inside word.Repeat) ss (passes_pieces over n (opens ∷ steps_pieces body (steps_pieces others rest)))
+repeat_left Two inside n false body others ss rest e may are following fits =
+    loop_fits Two inside false n body others ss rest are following fits
+repeat_left Two inside n true body others ss rest e may are following fits = absurd cc
+repeat_left Three inside n over body others ss rest e may are following fits = (
+  steps_pieces others rest,
+  passes_stand Three inside over n body (steps_pieces others rest) are,
+  (rest, block_stands Three inside others rest following, fits),
+)
+repeat_left One inside n over body others ss rest e may are following fits = absurd cc
 
 event_left : (format : Format) (inside : Bool) (n : List ℕ) (body others : Steps) (ss : List Nonterminal) (rest : List Piece) →
     has_events format ≡ true → AreSteps format false body → AreSteps format inside others → Fits format ss rest
@@ -247,8 +264,8 @@ first_of_block format inside (step (event n body) others) ss rest are fits =
     inr (word.Event, refl, event_left format inside n body others ss rest are.0.0 are.0.1 are.1 fits)
 first_of_block format inside (step (start n o body) others) ss rest are fits =
     inr (word.Start, refl, start_left format inside n o body others ss rest are.0.0 are.0.1 are.1 fits)
-first_of_block format inside (step (repeat n body) others) ss rest are fits =
-    inr (word.Repeat, refl, repeat_left format inside n body others ss rest are.0.0 are.0.1 are.1 fits)
+first_of_block format inside (step (repeat n over body) others) ss rest are fits =
+    inr (word.Repeat, refl, repeat_left format inside n over body others ss rest are.0.0 are.0.1 are.0.2 are.1 fits)
 first_of_block format inside (step (attempt body h c) others) ss rest are fits =
     let following = handler_pieces h (cleanup_pieces c (steps_pieces others rest)) in
     inr (
@@ -427,6 +444,17 @@ unfolding keyword_of
 on_over format (Some n) body ss rest are fits = ((opens ∷ steps_pieces body rest, (n, refl), body_fits format body ss rest are fits), refl)
 on_over format None body ss rest are fits = ((rest, (body, are, refl), fits), refl)
 
+on_passes : (format : Format) (inside over : Bool) (n : ℕ) (body : Steps) (ss : List Nonterminal) (rest : List Piece) →
+    AreSteps format (starts_in_pass over inside) body → Fits format ss rest →
+    Goes format (passes inside) ss (passes_pieces over n (opens ∷ steps_pieces body rest))
+unfolding keyword_of
+on_passes format false true n body ss rest are fits =
+    ((opens ∷ steps_pieces body rest, (n, refl), body_fits format body ss rest are fits), refl)
+on_passes format true true n body ss rest are fits =
+    ((opens ∷ steps_pieces body rest, (n, refl), body_fits format body ss rest are fits), refl)
+on_passes format false false n body ss rest are fits = (body_fits format body ss rest are fits, refl)
+on_passes format true false n body ss rest are fits = ((steps_pieces body rest, refl, (rest, (body, are, refl), fits)), refl)
+
 on_job : (format : Format) (job : Tree) (ss : List Nonterminal) (rest : List Piece) → AreSteps format false job.steps → Fits format ss rest →
     Goes format nonterminal.Job ss (job_onto job rest)
 unfolding keyword_of
@@ -465,6 +493,10 @@ goes format nonterminal.NurseryShield ss ps (rest, (s, body, may, are, e), fits)
     subst (Goes format nonterminal.NurseryShield ss) (sym e) (on_nursery_shield format s body ss rest may are fits)
 goes format nonterminal.Over ss ps (rest, (o, body, are, e), fits) = subst (Goes format nonterminal.Over ss) (sym e)
     (on_over format o body ss rest are fits)
+goes format nonterminal.Passes ss ps (rest, (n, over, body, are, e), fits) = subst (Goes format nonterminal.Passes ss) (sym e)
+    (on_passes format false over n body ss rest are fits)
+goes format nonterminal.ItemsPasses ss ps (rest, (n, over, body, are, e), fits) = subst (Goes format nonterminal.ItemsPasses ss) (sym e)
+    (on_passes format true over n body ss rest are fits)
 goes format nonterminal.Given ss ps (rest, (n, e), fits) = subst (Goes format nonterminal.Given ss) (sym e) (fits, refl)
 goes format nonterminal.Raised ss ps (rest, (n, e), fits) = subst (Goes format nonterminal.Raised ss) (sym e) (fits, refl)
 goes format nonterminal.Handled ss ps (rest, (n, e), fits) = subst (Goes format nonterminal.Handled ss) (sym e) (fits, refl)

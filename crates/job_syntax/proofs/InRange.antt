@@ -7,15 +7,16 @@ use Rattle.job_tree.specs.Formats.{extends_format_1}
 use Rattle.job_tree.specs.declared.limits.TheConstants.{MAX_NUMBER, MAX_PACE, MAX_COPIES, MAX_PASSES}
 use Rattle.job_tree.specs.declared.deadline.Deadline.{Deadline}
 use Rattle.job_tree.specs.declared.deadline.Deadline.TheVariants.{Never, After, At}
+use Rattle.job_tree.specs.Starting.{starts_in_pass}
 use Rattle.job_tree.specs.Tree.{Step, sleep, checkpoint, forever, pace, find, head, longest, need, raise, cancel, set_event, wait_for, scope, nursery, event, start, repeat, attempt, Steps, stop, step, Handled, unhandled, except, Cleaned, uncleaned, finally, Tree}
-use Rattle.job_tree.specs.InRange.{AreInRange, IsInRangeStep, IsInRangeHandler, IsInRangeCleanup, IsInRangeDeadline, IsInRangeOver}
+use Rattle.job_tree.specs.InRange.{AreInRange, IsInRangeStep, IsInRangeHandler, IsInRangeCleanup, IsInRangeDeadline, IsInRangeOver, IsInRangePasses}
 use Rattle.job_tokens.specs.declared.token.Shape.{Shape}
 use Rattle.job_tokens.specs.declared.token.Token.{Token}
 use Rattle.job_tokens.specs.Shapes.{shapes_of}
 use Rattle.job_syntax.specs.declared.keyword.Keyword.{Keyword}
 use Rattle.job_syntax.specs.declared.keyword.Keyword.TheVariants as word
 use Rattle.job_syntax.specs.Keywords.{keyword_of}
-use Rattle.job_syntax.specs.Pieces.{Piece, shapes_in, keyword, number, opens, deadline_pieces, flag_pieces, over_pieces, steps_pieces, step_pieces, handler_pieces, cleanup_pieces, job_pieces, loop_inside, AreSteps, IsStep, IsHandler, IsCleanup}
+use Rattle.job_syntax.specs.Pieces.{Piece, shapes_in, keyword, number, opens, deadline_pieces, flag_pieces, over_pieces, passes_pieces, steps_pieces, step_pieces, handler_pieces, cleanup_pieces, job_pieces, loop_inside, AreSteps, IsStep, IsHandler, IsCleanup}
 use Rattle.job_syntax.specs.Ranges.{keyword_in, is_in_range, number_fault}
 
 -- ---- along the shapes
@@ -117,6 +118,12 @@ over_in_range : (format : Format) (o : Option ℕ) (rest : List Piece) → InRan
 over_in_range format None rest all = (tt, all)
 over_in_range format (Some n) rest all = (over_fit format n all.1.1.0, (None, all.1.1.1))
 
+passes_in_range : (format : Format) (over : Bool) (n : ℕ) (rest : List Piece) → extends_format_1 format ≡ true →
+    (before : Option Keyword) → AllInRange format before (shapes_in (keyword word.Repeat ∷ passes_pieces over n rest)) →
+    IsInRangePasses over n × InRangeAfter format rest
+passes_in_range format false n rest may before all = (repeat_fit format n may all.1.0, (None, all.1.1))
+passes_in_range format true n rest may before all = (over_fit format n all.1.1.0, (None, all.1.1.1))
+
 mutual
   steps_in_range : (format : Format) (steps : Steps) (inside : Bool) (rest : List Piece) → AreSteps format inside steps →
       InRangeAfter format (steps_pieces steps rest) →
@@ -162,9 +169,10 @@ mutual
       let copies = over_in_range format o (opens ∷ steps_pieces body rest) (keyword_of n, all.1.1.1) in
       let inner = steps_in_range format body false rest is.1 (None, copies.1.1.1) in
       ((copies.0, inner.0), inner.1)
-  step_in_range format (repeat n body) inside rest is all =
-      let inner = steps_in_range format body (loop_inside format inside) rest is.1 (None, all.1.1.1.1) in
-      ((repeat_fit format n is.0 all.1.1.0, inner.0), inner.1)
+  step_in_range format (repeat n over body) inside rest is all =
+      let counted = passes_in_range format over n (opens ∷ steps_pieces body rest) is.0 all.0 all.1 in
+      let inner = steps_in_range format body (starts_in_pass over (loop_inside format inside)) rest is.2 (None, counted.1.1.1) in
+      ((counted.0, inner.0), inner.1)
   step_in_range format (attempt body h c) inside rest is all =
       let inner = steps_in_range format body false (handler_pieces h (cleanup_pieces c rest)) is.1 (None, all.1.1.1) in
       let handled = handler_in_range format h (cleanup_pieces c rest) is.2 inner.1 in

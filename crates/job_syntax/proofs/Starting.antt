@@ -2,7 +2,7 @@
 use Rattle.job_tree.specs.declared.format.Format.{Format}
 use Rattle.job_tree.specs.declared.format.Format.TheVariants.{One, Two, Three}
 use Rattle.job_tree.specs.Tree.{Step, sleep, checkpoint, forever, pace, find, head, longest, need, raise, cancel, set_event, wait_for, scope, nursery, event, start, repeat, attempt, Steps, stop, step, Handled, unhandled, except, Cleaned, uncleaned, finally}
-use Rattle.job_tree.specs.Starting.{StartsIn, StartsAt, HandlerStarts, CleanupStarts}
+use Rattle.job_tree.specs.Starting.{starts_in_pass, StartsIn, StartsAt, HandlerStarts, CleanupStarts}
 use Rattle.std.specs.Prelude.{◌≡◌, Bool, true, false}
 use Rattle.job_syntax.specs.Pieces.{loop_inside, AreSteps, IsStep, IsHandler, IsCleanup}
 
@@ -29,14 +29,17 @@ mutual
   starts_anywhere_at inside (nursery name d shield body) a = a
   starts_anywhere_at inside (event name body) a = a
   starts_anywhere_at inside (start name over body) a = let e : false ≡ true = a.0 in absurd cc
-  starts_anywhere_at inside (repeat count body) a = starts_anywhere inside body a
+  starts_anywhere_at inside (repeat count false body) a = starts_anywhere inside body a
+  starts_anywhere_at inside (repeat count true body) a = a
   starts_anywhere_at inside (attempt body handler cleanup) a = a
 
 -- the block of a `repeat`
-starts_in_loop : (format : Format) (inside : Bool) (ss : Steps) → StartsIn (loop_inside format inside) ss → StartsIn inside ss
-starts_in_loop One inside ss a = starts_anywhere inside ss a
-starts_in_loop Two inside ss a = starts_anywhere inside ss a
-starts_in_loop Three inside ss a = a
+starts_in_loop : (format : Format) (inside over : Bool) (ss : Steps) → StartsIn (starts_in_pass over (loop_inside format inside)) ss →
+    StartsIn (starts_in_pass over inside) ss
+starts_in_loop format inside true ss a = a
+starts_in_loop One inside false ss a = starts_anywhere inside ss a
+starts_in_loop Two inside false ss a = starts_anywhere inside ss a
+starts_in_loop Three inside false ss a = a
 
 mutual
   -- in the blocks of the grammar, each `start` is directly in the body of a nursery, or in a `repeat` there
@@ -62,8 +65,8 @@ mutual
   starts_at format inside (nursery name d shield body) a = starts_in format true body a.1
   starts_at format inside (event name body) a = starts_in format false body a.1
   starts_at format inside (start name over body) a = (a.0, starts_in format false body a.1)
-  starts_at format inside (repeat count body) a =
-      starts_in_loop format inside body (starts_in format (loop_inside format inside) body a.1)
+  starts_at format inside (repeat count over body) a =
+      starts_in_loop format inside over body (starts_in format (starts_in_pass over (loop_inside format inside)) body a.2)
   starts_at format inside (attempt body handler cleanup) a = (
     starts_in format false body a.1,
     handler_starts format handler a.2,

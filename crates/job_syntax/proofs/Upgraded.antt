@@ -5,6 +5,7 @@ use Rattle.job_tree.specs.declared.format.Format.TheVariants.{One, Two, Three}
 use Rattle.job_tree.specs.declared.deadline.Deadline.{Deadline}
 use Rattle.job_tree.specs.declared.deadline.Deadline.TheVariants.{Never, After, At}
 use Rattle.job_tree.specs.Formats.{extends_format_1, has_events, newer}
+use Rattle.job_tree.specs.Starting.{starts_in_pass}
 use Rattle.job_tree.specs.Tree.{Step, sleep, checkpoint, forever, pace, find, head, longest, need, raise, cancel, set_event, wait_for, scope, nursery, event, start, repeat, attempt, Steps, stop, step, Handled, unhandled, except, Cleaned, uncleaned, finally, Tree}
 use Rattle.job_tokens.specs.declared.token.Token.{Token}
 use Rattle.job_tokens.specs.declared.token.Shape.{Shape}
@@ -13,7 +14,7 @@ use Rattle.job_tokens.specs.Shapes.{shapes_of}
 use Rattle.job_syntax.specs.declared.keyword.Keyword.{Keyword}
 use Rattle.job_syntax.specs.declared.keyword.Keyword.TheVariants as word
 use Rattle.job_syntax.specs.Keywords.{keyword_of}
-use Rattle.job_syntax.specs.Pieces.{Piece, shapes_in, opens, deadline_pieces, flag_pieces, over_pieces, steps_pieces, step_pieces, handler_pieces, cleanup_pieces, job_pieces, IsNurseryDeadline, IsNurseryHead, loop_inside, AreSteps, IsStep, IsHandler, IsCleanup}
+use Rattle.job_syntax.specs.Pieces.{Piece, shapes_in, opens, deadline_pieces, flag_pieces, over_pieces, steps_pieces, step_pieces, handler_pieces, cleanup_pieces, job_pieces, IsNurseryDeadline, IsNurseryHead, loop_inside, MayDivide, AreSteps, IsStep, IsHandler, IsCleanup}
 use Rattle.job_syntax.specs.Ranges.{keyword_in, most_passes, fits, number_fault}
 use Rattle.job_syntax.proofs.InRange.{AllInRange, all_in_range, no_fault}
 
@@ -55,6 +56,16 @@ loop_again Two to before after up more may = let e : false ≡ true = may in abs
 loop_again Three One before after up more may = let e : false ≡ true = up in absurd cc
 loop_again Three Two before after up more may = let e : false ≡ true = up in absurd cc
 loop_again Three Three before after up more may = more may
+
+pass_again : (from to : Format) (before after over : Bool) → IsUpTo from to → (before ≡ true → after ≡ true) →
+    starts_in_pass over (loop_inside from before) ≡ true → starts_in_pass over (loop_inside to after) ≡ true
+pass_again from to before after false up more may = loop_again from to before after up more may
+pass_again from to before after true up more may = may
+
+-- a `repeat` may divide the part if it could before
+divide_again : (from to : Format) (over : Bool) → IsUpTo from to → MayDivide from over → MayDivide to over
+divide_again from to false up may = tt
+divide_again from to true up may = events_again from to up may
 
 -- a head that both formats may have
 head_on : (to : Format) (d : Deadline) (s : Bool) → extends_format_1 to ≡ true → IsNurseryDeadline d → IsNurseryHead to d s
@@ -99,9 +110,11 @@ mutual
       (head_again from to d shield up a.0, upgraded_steps from to true true body up (λ e. e) a.1)
   upgraded_step from to before after (event name body) up more a = (events_again from to up a.0, upgraded_steps from to false false body up (λ e. e) a.1)
   upgraded_step from to before after (start name over body) up more a = (more a.0, upgraded_steps from to false false body up (λ e. e) a.1)
-  upgraded_step from to before after (repeat count body) up more a = (
+  upgraded_step from to before after (repeat count over body) up more a = (
     extends_again from to up a.0,
-    upgraded_steps from to (loop_inside from before) (loop_inside to after) body up (loop_again from to before after up more) a.1,
+    divide_again from to over up a.1,
+    upgraded_steps from to (starts_in_pass over (loop_inside from before)) (starts_in_pass over (loop_inside to after)) body up
+        (pass_again from to before after over up more) a.2,
   )
   upgraded_step from to before after (attempt body handler cleanup) up more a =
       (a.0, upgraded_steps from to false false body up (λ e. e) a.1, upgraded_handler from to handler up a.2, upgraded_cleanup from to cleanup up a.3)
@@ -176,7 +189,7 @@ mutual
       let more = over_again to over (opens ∷ steps_pieces body rest)
       (opens_again to (steps_pieces body rest) (steps_again to body false rest a.1 again)) in
       λ before all. (all.0, (all.1.0, more _ all.1.1))
-  step_again to (repeat count body) inside rest a again = let e = a.0 in absurd cc
+  step_again to (repeat count over body) inside rest a again = let e = a.0 in absurd cc
   step_again to (attempt body handler cleanup) inside rest a again =
       let cleaned = cleanup_again to cleanup rest a.3 again in
       let handled = handler_again to handler (cleanup_pieces cleanup rest) a.2 cleaned in

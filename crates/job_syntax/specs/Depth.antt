@@ -29,7 +29,7 @@ abbrev mutual
   IsWithin depth (nursery name deadline shield body) = (0 < depth) × AreWithin (depth - 1) body
   IsWithin depth (event name body) = (0 < depth) × AreWithin (depth - 1) body
   IsWithin depth (start name over body) = (0 < depth) × AreWithin (depth - 1) body
-  IsWithin depth (repeat count body) = (0 < depth) × AreWithin (depth - 1) body
+  IsWithin depth (repeat count over body) = (0 < depth) × AreWithin (depth - 1) body
   IsWithin depth (attempt body handler cleanup) = ((0 < depth) × AreWithin (depth - 1) body) × IsHandlerWithin depth handler
       × IsCleanupWithin depth cleanup
 

@@ -1,6 +1,7 @@
 -- What may follow a token, nonterminal by nonterminal.
-use Rattle.std.specs.Prelude.{List, [], ◌∷◌, Bool, true, false, Option, Some, None, if◌then◌else◌}
+use Rattle.std.specs.Prelude.{ℕ, List, [], ◌∷◌, Bool, true, false, Option, Some, None, if◌then◌else◌}
 use Rattle.job_tree.specs.declared.format.Format.{Format}
+use Rattle.job_tree.specs.declared.format.Format.TheVariants.{One, Two, Three}
 use Rattle.job_tree.specs.Formats.{extends_format_1, has_events}
 use Rattle.job_tokens.specs.declared.token.Mark.{Mark}
 use Rattle.job_tokens.specs.declared.token.Mark.TheVariants as mark
@@ -9,9 +10,8 @@ use Rattle.job_tokens.specs.Shapes.{word_in, number_in, text_in, mark_in}
 use Rattle.job_syntax.specs.declared.keyword.Keyword.{Keyword}
 use Rattle.job_syntax.specs.declared.keyword.Keyword.TheVariants as word
 use Rattle.job_syntax.specs.declared.nonterminal.Nonterminal.{Nonterminal}
-use Rattle.job_syntax.specs.declared.nonterminal.Nonterminal.TheVariants.{Job, Steps, Items, StepsTail, ItemsTail, StepsCleanup, ItemsCleanup, Scope, Shield, Fail, Nursery, NurseryShield, Over, Given, Raised, Handled, Target, Number, Text, Open, Semicolon}
+use Rattle.job_syntax.specs.declared.nonterminal.Nonterminal.TheVariants.{Job, Steps, Items, StepsTail, ItemsTail, StepsCleanup, ItemsCleanup, Scope, Shield, Fail, Nursery, NurseryShield, Over, Passes, ItemsPasses, Given, Raised, Handled, Target, Number, Text, Open, Semicolon}
 use Rattle.job_syntax.specs.Keywords.{keyword_of}
-use Rattle.job_syntax.specs.Pieces.{loop_inside}
 
 -- continues with a value, if there is one
 infixl 10 ◌>>=◌
@@ -47,10 +47,16 @@ abbrev pub start_rest : Bool → Rest
 start_rest true = Some (Given ∷ Over ∷ Items ∷ [])
 start_rest false = None
 
+-- the passes of a `repeat` of format 3, which may have a `start` in its block where one may stand next to it
+abbrev pub passes : Bool → Nonterminal
+passes false = Passes
+passes true = ItemsPasses
+
 -- after `repeat`, which begins no step in format 1
 abbrev pub repeat_rest : Format → Bool → Rest
-repeat_rest format inside =
-    if extends_format_1 format then Some (Number ∷ Open ∷ outer_block (loop_inside format inside) ∷ outer_block inside ∷ []) else None
+repeat_rest One inside = None
+repeat_rest Two inside = Some (Number ∷ Open ∷ Steps ∷ outer_block inside ∷ [])
+repeat_rest Three inside = Some (passes inside ∷ outer_block inside ∷ [])
 
 -- after `event`, `set` and `wait`, which begin no step in formats 1 and 2
 abbrev pub event_rest : Format → Bool → Rest
@@ -125,6 +131,11 @@ abbrev pub over_rest : Keyword → Rest
 over_rest word.Over = Some (Number ∷ Open ∷ Steps ∷ [])
 over_rest _ = None
 
+-- after the number of passes of a `repeat`, or after an `over`
+abbrev pub passes_rest : Rest → Option ℕ → Shape → Rest
+passes_rest rest (Some n) shape = rest
+passes_rest rest None shape = word_in shape >>= λ w. keyword_of w >>= over_rest
+
 abbrev pub open_rest : Rest → Mark → Rest
 open_rest rest mark.Open = rest
 open_rest rest mark.Close = None
@@ -166,6 +177,8 @@ next format Fail shape = by_mark_or_word (open_rest (Some (Steps ∷ []))) fail_
 next format Nursery shape = by_mark_or_word (open_rest (Some (Items ∷ []))) (nursery_rest format) shape
 next format NurseryShield shape = by_mark_or_word (open_rest (Some (Items ∷ []))) (nursery_shield_rest format) shape
 next format Over shape = by_mark_or_word (open_rest (Some (Steps ∷ []))) over_rest shape
+next format Passes shape = passes_rest (Some (Open ∷ Steps ∷ [])) (number_in shape) shape
+next format ItemsPasses shape = passes_rest (Some (Open ∷ Items ∷ [])) (number_in shape) shape
 next format Given shape = any_name shape
 next format Raised shape = any_name shape
 next format Handled shape = any_name shape

@@ -6,6 +6,7 @@ use Rattle.job_tree.specs.declared.deadline.Deadline.TheVariants.{Never, After, 
 use Rattle.job_tree.specs.declared.format.Format.{Format}
 use Rattle.job_tree.specs.declared.format.Format.TheVariants.{One, Two, Three}
 use Rattle.job_tree.specs.Formats.{extends_format_1, has_events}
+use Rattle.job_tree.specs.Starting.{starts_in_pass}
 use Rattle.job_tree.specs.Tree.{Step, sleep, checkpoint, forever, pace, find, head, longest, need, raise, cancel, set_event, wait_for, scope, nursery, event, start, repeat, attempt, Steps, stop, step, Handled, unhandled, except, Cleaned, uncleaned, finally, Tree}
 use Rattle.job_tokens.specs.declared.token.Mark.{Mark}
 use Rattle.job_tokens.specs.declared.token.Mark.TheVariants as mark
@@ -70,6 +71,11 @@ abbrev pub over_pieces : Option ℕ → List Piece → List Piece
 over_pieces None rest = rest
 over_pieces (Some n) rest = keyword word.Over ∷ number n ∷ rest
 
+-- how many passes a `repeat` has, and whether each has its own cut of the task's part of the input
+abbrev pub passes_pieces : (over : Bool) → ℕ → List Piece → List Piece
+passes_pieces false n rest = number n ∷ rest
+passes_pieces true n rest = keyword word.Over ∷ number n ∷ rest
+
 abbrev mutual
   -- the steps of a block and the mark that ends it
   pub steps_pieces : Steps → List Piece → List Piece
@@ -98,7 +104,7 @@ abbrev mutual
       (flag_pieces word.Shield shield (opens ∷ steps_pieces body rest))
   step_pieces (event name body) rest = keyword word.Event ∷ name_piece role.Given name ∷ opens ∷ steps_pieces body rest
   step_pieces (start name over body) rest = keyword word.Start ∷ name_piece role.Given name ∷ over_pieces over (opens ∷ steps_pieces body rest)
-  step_pieces (repeat count body) rest = keyword word.Repeat ∷ number count ∷ opens ∷ steps_pieces body rest
+  step_pieces (repeat count over body) rest = keyword word.Repeat ∷ passes_pieces over count (opens ∷ steps_pieces body rest)
   step_pieces (attempt body handler cleanup) rest =
       keyword word.Try ∷ opens ∷ steps_pieces body (handler_pieces handler (cleanup_pieces cleanup rest))
 
@@ -138,9 +144,14 @@ IsNurseryHead Three deadline shield = IsNurseryDeadline deadline
 abbrev pub loop_inside : Format → Bool → Bool
 loop_inside format inside = has_events format && inside
 
+-- a `repeat over` is in format 3 only
+abbrev pub MayDivide : Format → (over : Bool) → Type 0
+MayDivide format false = Unit {0}
+MayDivide format true = has_events format ≡ true
+
 abbrev mutual
-  -- the grammar of a block: a `start` only directly inside a nursery, and in format 3 in a `repeat` there; no `repeat` in
-  -- format 1, and no events in formats 1 and 2
+  -- the grammar of a block: a `start` only directly inside a nursery, and in format 3 in a `repeat` there, but in no `repeat over`;
+  -- no `repeat` in format 1, and neither a `repeat over` nor events in formats 1 and 2
   pub AreSteps : Format → Bool → Steps → Type 0
   AreSteps format inside stop = Unit {0}
   AreSteps format inside (step s ss) = IsStep format inside s × AreSteps format inside ss
@@ -162,7 +173,8 @@ abbrev mutual
   IsStep format inside (nursery name deadline shield body) = IsNurseryHead format deadline shield × AreSteps format true body
   IsStep format inside (event name body) = (has_events format ≡ true) × AreSteps format false body
   IsStep format inside (start name over body) = (inside ≡ true) × AreSteps format false body
-  IsStep format inside (repeat count body) = (extends_format_1 format ≡ true) × AreSteps format (loop_inside format inside) body
+  IsStep format inside (repeat count over body) = (extends_format_1 format ≡ true) × MayDivide format over
+      × AreSteps format (starts_in_pass over (loop_inside format inside)) body
   IsStep format inside (attempt body handler cleanup) = HasTail handler cleanup × AreSteps format false body × IsHandler format handler
       × IsCleanup format cleanup
 

@@ -74,6 +74,12 @@ deadline_at shapes =
 abbrev pub over_at : List Shape → Read (Option ℕ)
 over_at shapes = or_else (after_word word.Over shapes) (λ rest. number_at rest >>= λ n. Some (Some n.0, n.1)) (Some (None, shapes))
 
+-- the passes of a `repeat`: their number, and whether they are over the cuts of the task's part
+abbrev pub passes_at : List Shape → Read (ℕ × Bool)
+passes_at shapes =
+    or_else (after_word word.Over shapes) (λ rest. number_at rest >>= λ n. Some ((n.0, true), n.1))
+    (number_at shapes >>= λ n. Some ((n.0, false), n.1))
+
 -- how a nested block is read
 abbrev pub Blocks : Type 0
 Blocks = List Shape → Read Steps
@@ -116,7 +122,7 @@ abbrev pub start_at : Blocks → List Shape → Read Step
 start_at blocks shapes = word_at shapes >>= λ n. over_at n.1 >>= λ o. body_at blocks o.1 >>= λ b. Some (start n.0 o.0 b.0, b.1)
 
 abbrev pub repeat_at : Blocks → List Shape → Read Step
-repeat_at blocks shapes = number_at shapes >>= λ n. body_at blocks n.1 >>= λ b. Some (repeat n.0 b.0, b.1)
+repeat_at blocks shapes = passes_at shapes >>= λ p. body_at blocks p.1 >>= λ b. Some (repeat p.0.0 p.0.1 b.0, b.1)
 
 -- a step without a block, read after its keyword
 abbrev pub plain_step : Keyword → List Shape → Read Step

@@ -3,6 +3,7 @@ use Rattle.std.specs.Prelude.{◌≡◌, ◌⊎◌, ℕ, List, [], ◌∷◌, �
 use Rattle.job_tree.specs.declared.deadline.Deadline.{Deadline}
 use Rattle.job_tree.specs.declared.deadline.Deadline.TheVariants.{Never}
 use Rattle.job_tree.specs.declared.format.Format.{Format}
+use Rattle.job_tree.specs.Starting.{starts_in_pass}
 use Rattle.job_tree.specs.Tree.{Steps, Handled, Cleaned, Tree}
 use Rattle.job_syntax.specs.declared.keyword.Keyword.TheVariants as word
 use Rattle.job_tokens.specs.declared.token.Shape.{Shape}
@@ -12,7 +13,7 @@ use Rattle.job_syntax.specs.declared.nonterminal.Nonterminal.{Nonterminal}
 use Rattle.job_syntax.specs.declared.nonterminal.Nonterminal.TheVariants as nonterminal
 use Rattle.job_syntax.specs.declared.role.Role.{Role}
 use Rattle.job_syntax.specs.declared.role.Role.TheVariants as role
-use Rattle.job_syntax.specs.Pieces.{Piece, shapes_in, name_piece, number, string, opens, ends, deadline_pieces, flag_pieces, over_pieces, steps_pieces, handler_pieces, cleanup_pieces, job_onto, IsNurseryHead, AreSteps, IsHandler, IsCleanup, HasTail}
+use Rattle.job_syntax.specs.Pieces.{Piece, shapes_in, name_piece, number, string, opens, ends, deadline_pieces, flag_pieces, over_pieces, passes_pieces, steps_pieces, handler_pieces, cleanup_pieces, job_onto, IsNurseryHead, AreSteps, IsHandler, IsCleanup, HasTail}
 use Rattle.job_syntax.specs.Nonterminals.{Rest, next}
 
 -- the rest of a block
@@ -32,6 +33,12 @@ abbrev pub IsCleanupAndBlock : Format → Bool → List Piece → List Piece →
 IsCleanupAndBlock format inside ps rest =
     (cleanup : Cleaned) × (steps : Steps) × IsCleanup format cleanup × AreSteps format inside steps
     × (ps ≡ cleanup_pieces cleanup (steps_pieces steps rest))
+
+-- the passes of a `repeat` and its block, in which a `start` may stand if `inside`
+abbrev pub IsPasses : Format → Bool → List Piece → List Piece → Type 0
+IsPasses format inside ps rest =
+    (count : ℕ) × (over : Bool) × (body : Steps) × AreSteps format (starts_in_pass over inside) body
+    × (ps ≡ passes_pieces over count (opens ∷ steps_pieces body rest))
 
 abbrev pub IsName : Role → List Piece → List Piece → Type 0
 IsName role ps rest = (bytes : List ℕ) × (ps ≡ name_piece role bytes ∷ rest)
@@ -61,6 +68,8 @@ Stands format nonterminal.NurseryShield ps rest =
     × (ps ≡ flag_pieces word.Shield shield (opens ∷ steps_pieces body rest))
 Stands format nonterminal.Over ps rest = (over : Option ℕ) × (body : Steps) × AreSteps format false body
     × (ps ≡ over_pieces over (opens ∷ steps_pieces body rest))
+Stands format nonterminal.Passes ps rest = IsPasses format false ps rest
+Stands format nonterminal.ItemsPasses ps rest = IsPasses format true ps rest
 Stands format nonterminal.Given ps rest = IsName role.Given ps rest
 Stands format nonterminal.Raised ps rest = IsName role.Raised ps rest
 Stands format nonterminal.Handled ps rest = IsName role.Handled ps rest

@@ -39,6 +39,10 @@ pub enum Nonterminal {
     NurseryShield,
     /// The rest of a `start` after its name.
     Over,
+    /// The passes of a `repeat` of format 3, and its block.
+    Passes,
+    /// The passes of a `repeat` of format 3 directly inside a nursery or in a `repeat` there, and its block.
+    ItemsPasses,
     /// The name that a job, scope, nursery, event or started task gets.
     Given,
     /// The name of an exception that is raised.
@@ -90,11 +94,7 @@ impl Nonterminal {
     {
         match shape {
             Shape::Word(word) => self.after_word(format, word),
-            Shape::Number(number) => if self == Nonterminal::Number && number.is_some() {
-                rest!()
-            } else {
-                None
-            },
+            Shape::Number(number) => self.after_number(number),
             Shape::Text(_) => if self == Nonterminal::Text {
                 rest!()
             } else {
@@ -126,7 +126,23 @@ impl Nonterminal {
             ),
             (Nonterminal::Nursery, keyword) => nursery_rest(format, keyword),
             (Nonterminal::NurseryShield, keyword) => nursery_shield_rest(format, keyword),
-            (Nonterminal::Over, Keyword::Over) => rest!(Steps, Open, Number),
+            (Nonterminal::Over | Nonterminal::Passes | Nonterminal::ItemsPasses, Keyword::Over) => {
+                rest!(Steps, Open, Number)
+            }
+            _ => None,
+        }
+    }
+
+    fn after_number(self, number: Option<u64>) -> Option<&'static [Nonterminal]>
+        ensures { (format : Format) → Gives (λ x. reverse x.now) result (next format self (shape.Number number)) }
+    {
+        if number.is_none() {
+            return None;
+        }
+        match self {
+            Nonterminal::Number => rest!(),
+            Nonterminal::Passes => rest!(Steps, Open),
+            Nonterminal::ItemsPasses => rest!(Items, Open),
             _ => None,
         }
     }
@@ -186,9 +202,9 @@ fn repeat_rest(format: Format, inside: bool) -> Option<&'static [Nonterminal]>
         Format::Two => rest!(outer inside, Steps, Open, Number),
         Format::Three => {
             if inside {
-                rest!(Items, Items, Open, Number)
+                rest!(Items, ItemsPasses)
             } else {
-                rest!(Steps, Steps, Open, Number)
+                rest!(Steps, Passes)
             }
         }
     }

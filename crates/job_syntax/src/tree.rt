@@ -4,7 +4,7 @@ ghost use Rattle.job_tokens.specs.Shapes.{shapes_of};
 ghost use Rattle.job_tokens.specs.Lexing.{Gives};
 ghost use Rattle.job_syntax.specs.declared.keyword.Keyword.TheVariants as word;
 ghost use Rattle.job_tree.specs.declared.format.Format.{Format};
-ghost use Rattle.job_syntax.specs.Reading.{word_at, keyword_at, number_at, text_at, mark_at, after_word, flag_at, deadline_at, over_at, body_at, handler_at, cleanup_at, scope_at, nursery_at, event_at, start_at, repeat_at, try_at, step_to_semicolon, plain_step, step_at, steps_with, blocks_at, head_at, job_at};
+ghost use Rattle.job_syntax.specs.Reading.{word_at, keyword_at, number_at, text_at, mark_at, after_word, flag_at, deadline_at, over_at, body_at, handler_at, cleanup_at, scope_at, nursery_at, event_at, start_at, passes_at, repeat_at, try_at, step_to_semicolon, plain_step, step_at, steps_with, blocks_at, head_at, job_at};
 
 use crate::depth::MAX_DEPTH;
 use crate::keyword::Keyword;
@@ -140,6 +140,18 @@ fn over_at(tokens: &[Token]) -> Option<(Option<u64>, &[Token])>
         return Some((Some(copies), rest));
     }
     Some((None, tokens))
+}
+
+// Returns the number of passes of a `repeat`, and whether there is an `over`.
+fn passes_at(tokens: &[Token]) -> Option<((u64, bool), &[Token])>
+    ensures { Gives (λ x. (x.0, shapes_of x.1.now)) result (passes_at (shapes_of tokens.now)) }
+{
+    if let Some(rest) = after_word(tokens, Keyword::Over) {
+        let (count, rest) = number_at(rest)?;
+        return Some(((count, true), rest));
+    }
+    let (count, rest) = number_at(tokens)?;
+    Some(((count, false), rest))
 }
 
 // Returns the steps of a block after its `{`, and the tokens after its `}`, or `None` if the tokens do not begin with such a
@@ -303,13 +315,13 @@ fn repeat_at(
 ) -> Result<Option<(Step, &[Token])>, AllocError>
     ensures { IfOk result (λ x. Gives (λ s. (step_of s.0, shapes_of s.1.now)) x (repeat_at (blocks_at depth) (shapes_of tokens.now))) }
 {
-    let Some((count, rest)) = number_at(tokens) else {
+    let Some(((count, over), rest)) = passes_at(tokens) else {
         return Ok(None);
     };
     let Some((body, rest)) = body_at(alloc, depth, rest)? else {
         return Ok(None);
     };
-    Ok(Some((Step::Repeat { count, body }, rest)))
+    Ok(Some((Step::Repeat { count, over, body }, rest)))
 }
 
 #[cycle(tree)]

@@ -31,7 +31,7 @@ step_of (Scope name deadline shield fail body) = tree.scope name deadline shield
 step_of (Nursery name deadline shield body) = tree.nursery name deadline shield body
 step_of (Event name body) = tree.event name body
 step_of (Start name over body) = tree.start name over body
-step_of (Repeat count body) = tree.repeat count body
+step_of (Repeat count over body) = tree.repeat count over body
 step_of (Try body handler cleanup) = tree.attempt body (handled_of handler) (cleaned_of cleanup)
 
 -- a list of steps as a block

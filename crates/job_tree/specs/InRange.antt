@@ -1,5 +1,5 @@
 -- The ranges of the numbers of a job.
-use Rattle.std.specs.Prelude.{ℕ, ◌≤◌, Option, Some, None}
+use Rattle.std.specs.Prelude.{ℕ, ◌≤◌, Bool, true, false, Option, Some, None}
 use Rattle.job_tree.specs.declared.limits.TheConstants.{MAX_NUMBER, MAX_PACE, MAX_COPIES, MAX_PASSES}
 use Rattle.job_tree.specs.declared.deadline.Deadline.{Deadline}
 use Rattle.job_tree.specs.declared.deadline.Deadline.TheVariants.{Never, After, At}
@@ -17,6 +17,11 @@ IsInRangeDeadline (At n) = n ≤ MAX_NUMBER
 abbrev pub IsInRangeOver : Option ℕ → Type 0
 IsInRangeOver None = Unit {0}
 IsInRangeOver (Some k) = (1 ≤ k) × (k ≤ MAX_COPIES)
+
+-- the number of passes of a `repeat` is in its range; that of a `repeat over` in the range of copies
+abbrev pub IsInRangePasses : (over : Bool) → ℕ → Type 0
+IsInRangePasses false n = n ≤ MAX_PASSES
+IsInRangePasses true n = (1 ≤ n) × (n ≤ MAX_COPIES)
 
 -- all numbers of a block are in their ranges
 abbrev mutual
@@ -41,7 +46,7 @@ abbrev mutual
   IsInRangeStep (nursery name deadline shield body) = IsInRangeDeadline deadline × AreInRange body
   IsInRangeStep (event name body) = AreInRange body
   IsInRangeStep (start name over body) = IsInRangeOver over × AreInRange body
-  IsInRangeStep (repeat count body) = (count ≤ MAX_PASSES) × AreInRange body
+  IsInRangeStep (repeat count over body) = IsInRangePasses over count × AreInRange body
   IsInRangeStep (attempt body handler cleanup) = AreInRange body × IsInRangeHandler handler × IsInRangeCleanup cleanup
 
   pub IsInRangeHandler : Handled → Type 0

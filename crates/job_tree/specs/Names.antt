@@ -27,7 +27,7 @@ abbrev mutual
   names_in (nursery name deadline shield body) = name ∷ names_of body
   names_in (event name body) = name ∷ names_of body
   names_in (start name over body) = name ∷ names_of body
-  names_in (repeat count body) = names_of body
+  names_in (repeat count over body) = names_of body
   names_in (attempt body handler cleanup) = (names_of body ++ handled_names handler) ++ cleaned_names cleanup
 
   pub handled_names : Handled → List (List ℕ)
@@ -71,7 +71,7 @@ abbrev mutual
   size_in (nursery name deadline shield body) = 1 + size_of body
   size_in (event name body) = 1 + size_of body
   size_in (start name over body) = copies_of over * (1 + size_of body)
-  size_in (repeat count body) = 1 + count * (1 + size_of body)
+  size_in (repeat count over body) = 1 + count * (1 + size_of body)
   size_in (attempt body handler cleanup) = 1 + size_of body + handled_size handler + cleaned_size cleanup
 
   pub handled_size : Handled → ℕ

@@ -2,6 +2,11 @@
 use Rattle.std.specs.Prelude.{Bool, true, false, IsTrue}
 use Rattle.job_tree.specs.Tree.{Step, sleep, checkpoint, forever, pace, find, head, longest, need, raise, cancel, set_event, wait_for, scope, nursery, event, start, repeat, attempt, Steps, stop, step, Handled, unhandled, except, Cleaned, uncleaned, finally, Tree}
 
+-- whether a `start` may be in a pass of a `repeat` that is in such a body, or in another block: not where each pass has its own part
+abbrev pub starts_in_pass : (over body : Bool) → Bool
+starts_in_pass false body = body
+starts_in_pass true body = false
+
 -- each `start` of a block is directly in the body of a nursery, or in a `repeat` that is there, or in such a `repeat`;
 -- `nursery_body` says whether the block itself is such a body, or such a `repeat`
 abbrev mutual
@@ -26,7 +31,7 @@ abbrev mutual
   StartsAt body (nursery name deadline shield ss) = StartsIn true ss
   StartsAt body (event name ss) = StartsIn false ss
   StartsAt body (start name over ss) = IsTrue body × StartsIn false ss
-  StartsAt body (repeat count ss) = StartsIn body ss
+  StartsAt body (repeat count over ss) = StartsIn (starts_in_pass over body) ss
   StartsAt body (attempt ss handler cleanup) = StartsIn false ss × HandlerStarts handler × CleanupStarts cleanup
 
   pub HandlerStarts : Handled → Type 0

@@ -22,7 +22,7 @@ mutual
     nursery : (name : List ℕ) → (deadline : Deadline) → (shield : Bool) → (body : Steps) → Step
     event : (name : List ℕ) → (body : Steps) → Step
     start : (name : List ℕ) → (over : Option ℕ) → (body : Steps) → Step
-    repeat : (count : ℕ) → (body : Steps) → Step
+    repeat : (count : ℕ) → (over : Bool) → (body : Steps) → Step
     attempt : (body : Steps) → (handler : Handled) → (cleanup : Cleaned) → Step
 
   -- the steps of a block, in order

@@ -104,7 +104,9 @@ abbrev mutual
   marks_in (start name over body) rest =
       record { kind = 13; number = 0; first = name; second = []; deadline = Never; flag = false; other = false; over = over }
       ∷ marks_of body rest
-  marks_in (repeat count body) rest = plain_mark 14 count [] [] ∷ marks_of body rest
+  marks_in (repeat count over body) rest =
+      record { kind = 14; number = count; first = []; second = []; deadline = Never; flag = over; other = false; over = None }
+      ∷ marks_of body rest
   marks_in (attempt body handler cleanup) rest =
       record {
         kind = 15;
@@ -170,7 +172,7 @@ read_kind (suc (suc (suc (suc (suc (suc (suc (suc (suc (suc zero)))))))))) m b =
 read_kind (suc (suc (suc (suc (suc (suc (suc (suc (suc (suc (suc zero))))))))))) m b = put_block (scope m.first m.deadline m.flag m.other) b
 read_kind (suc (suc (suc (suc (suc (suc (suc (suc (suc (suc (suc (suc zero)))))))))))) m b = put_block (nursery m.first m.deadline m.flag) b
 read_kind (suc (suc (suc (suc (suc (suc (suc (suc (suc (suc (suc (suc (suc zero))))))))))))) m b = put_block (start m.first m.over) b
-read_kind (suc (suc (suc (suc (suc (suc (suc (suc (suc (suc (suc (suc (suc (suc zero)))))))))))))) m b = put_block (repeat m.number) b
+read_kind (suc (suc (suc (suc (suc (suc (suc (suc (suc (suc (suc (suc (suc (suc zero)))))))))))))) m b = put_block (repeat m.number m.flag) b
 read_kind (suc (suc (suc (suc (suc (suc (suc (suc (suc (suc (suc (suc (suc (suc (suc zero))))))))))))))) m b = put_attempt m.first m.flag m.other b
 read_kind (suc (suc (suc (suc (suc (suc (suc (suc (suc (suc (suc (suc (suc (suc (suc (suc zero)))))))))))))))) m b = put (set_event m.first) b
 read_kind (suc (suc (suc (suc (suc (suc (suc (suc (suc (suc (suc (suc (suc (suc (suc (suc (suc zero))))))))))))))))) m b = put (wait_for m.first) b
@@ -203,7 +205,7 @@ mutual
   read_step (nursery name deadline shield body) rest = ap (put_block (nursery name deadline shield)) (read_block body rest)
   read_step (event name body) rest = ap (put_block (event name)) (read_block body rest)
   read_step (start name over body) rest = ap (put_block (start name over)) (read_block body rest)
-  read_step (repeat count body) rest = ap (put_block (repeat count)) (read_block body rest)
+  read_step (repeat count over body) rest = ap (put_block (repeat count over)) (read_block body rest)
   read_step (attempt body handler cleanup) rest =
       ap (put_attempt (handler_name handler) (has_handler handler) (has_cleanup cleanup))
       (read_block body (handler_marks handler (cleanup_marks cleanup rest)))

@@ -12,7 +12,7 @@ abbrev mutual
   weight_in (nursery name deadline shield body) = 8 + weight_of body
   weight_in (event name body) = 8 + weight_of body
   weight_in (start name over body) = 8 + weight_of body
-  weight_in (repeat count body) = 8 + weight_of body
+  weight_in (repeat count over body) = 8 + weight_of body
   weight_in (attempt body handler cleanup) = 8 + weight_of body + handled_weight handler + cleaned_weight cleanup
   weight_in (sleep n) = 8
   weight_in checkpoint = 8

@@ -96,6 +96,9 @@ pub enum Step {
     Repeat {
         /// The number of passes.
         count: u64,
+        /// Whether the task's part of the input is divided into as many cuts as there are passes, and each pass has its cut.
+        /// Only in format 3.
+        over: bool,
         /// The block that runs in each pass.
         body: Body,
     },

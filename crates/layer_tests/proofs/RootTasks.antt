@@ -4,9 +4,7 @@ use Rattle.std.specs.Prelude.{◌≤◌, All}
 use Rattle.std.specs.Option.{ForSome}
 use Rattle.std.specs.List.{last_or}
 use Rattle.std.proofs.lemmas.List.Elements.{All-nil}
-use Rattle.input_lines.specs.Lines.{bytes_of}
-use Rattle.input_lines.specs.Part.{buffer_of, range_of}
-use Rattle.input_lines.specs.declared.part.Part.{Part}
+use Rattle.input_lines.specs.Part.{buffer_of}
 use Rattle.cancel_scopes.specs.Tree.{Stack, stack_of, outer_of, IsOpen}
 use Rattle.job_tree.specs.Tree.{Tree as Job}
 use Rattle.job_tree.specs.InRange.{AreInRange}
@@ -31,12 +29,12 @@ use Rattle.task_machine.specs.declared.task.Own.{Own}
 use Rattle.task_machine.specs.declared.task.Task.{Task}
 use Rattle.task_machine.specs.declared.world.World.{World}
 use Rattle.task_machine.specs.Fitting.{Block, blocks_of, AreInRangeFrames, StartsFit, Opened, Fits, waits_of}
-use Rattle.task_machine.specs.Frames.{frames_of}
+use Rattle.task_machine.specs.Frames.{frames_of, Lent}
 use Rattle.task_machine.specs.Left.{OwnFirst}
 use Rattle.task_machine.specs.Stacked.{AreAt}
 use Rattle.task_machine.specs.Standing.{HasBlock, Stands, TookTo, TurnsAs, woken_at}
 use Rattle.task_machine.specs.Stops.{Numbers, IsTaskState, StopsAs}
-use Rattle.task_machine.specs.Tasks.{home_scope, scope_of}
+use Rattle.task_machine.specs.Tasks.{home_scope, scope_of, lent_of}
 use Rattle.task_machine.specs.Waking.{WakesFrom}
 use Rattle.task_machine.specs.Worlds.{label_at, event_at}
 use Rattle.task_machine.proofs.Stopping.{no_blocks_begun}
@@ -64,7 +62,7 @@ module _ (job : Job) (root : Task) (home : root.home ≡ None) (own : root.own.i
 
   -- a root that has not begun fits a world in which no scope is open
   pub root_fits : (world : World) → AreInRange job.steps → StartsInNurseries job →
-      length (bytes_of (buffer_of root.part) (range_of root.part)) ≤ MAX_INPUT →
+      length (buffer_of root.part) ≤ MAX_INPUT →
       ((key : ℕ) → stack_of world.scopes key ≡ None) → Fits (state_of root world) (waits_of root.task_state)
   root_fits world in_range starting small none =
       record {
@@ -99,13 +97,13 @@ module _ (job : Job) (root : Task) (home : root.home ≡ None) (own : root.own.i
 
   -- so it continues when it is due, if its first turn said that it sleeps
   pub root_sleeps : (world now : World) (after : Task) (stop : Stop) → StartsInNurseries job → GivesNamesOnce job →
-      TurnsAs (state_of root world) (state_of after now) Begin stop → (due : ℕ) → stop ≡ Sleep due → (part : Part) → WakesFrom after.task_state part now.book Due
-  root_sleeps world now after stop starting names turn due is part =
+      TurnsAs (state_of root world) (state_of after now) Begin stop → (due : ℕ) → stop ≡ Sleep due → (lent : Lent) → WakesFrom after.task_state lent now.book Due
+  root_sleeps world now after stop starting names turn due is lent =
       by_took _ (turn none_cancelled_from no_numbers [] 0 rest.to_begin
       (subst (λ (h : TaskState). IsTaskState no_numbers world.book h rest.to_begin) (sym task_state) tt) (root_stands world starting names)).took
     where
-      by_task_state : (numbers : Numbers) (o : Option rest.Stopped) (h : TaskState) → StopsAs world.clock numbers now.book root.part (Sleep due) h o →
-          WakesFrom h part now.book Due
+      by_task_state : (numbers : Numbers) (o : Option rest.Stopped) (h : TaskState) → StopsAs world.clock numbers now.book (lent_of after) (Sleep due) h o →
+          WakesFrom h lent now.book Due
       by_task_state numbers None h says = absurd says
       by_task_state numbers (Some s) (ToBegin at) says = absurd says.1
       by_task_state numbers (Some s) (Asked kernel purpose) says = absurd says.1
@@ -115,7 +113,7 @@ module _ (job : Job) (root : Task) (home : root.home ≡ None) (own : root.own.i
       by_task_state numbers (Some s) (Awaits id since) says = absurd says.1
       by_task_state numbers (Some s) Over says = absurd says.1
 
-      by_took : (o : Move) → TookTo (woken_at Begin (state_of root world)) (state_of after now) stop none_cancelled_from no_numbers o → WakesFrom after.task_state part now.book Due
+      by_took : (o : Move) → TookTo (woken_at Begin (state_of root world)) (state_of after now) stop none_cancelled_from no_numbers o → WakesFrom after.task_state lent now.book Due
       by_took o took =
           by_task_state took.numbers_after o.stopped after.task_state
-          (subst (λ (s : Stop). StopsAs world.clock took.numbers_after now.book root.part s after.task_state o.stopped) is took.moves.1)
+          (subst (λ (s : Stop). StopsAs world.clock took.numbers_after now.book (lent_of after) s after.task_state o.stopped) is took.moves.1)

@@ -425,6 +425,53 @@ fn events_are_read_in_format_3(rt: HostRuntime) -> Result<(), Fail> {
     are_answered(rt.alloc(), EVENTS)
 }
 
+// Texts with a loop over the cuts of the task's part.
+const CUTS: &[Row] = &[
+    (
+        b"trio-job 3\njob main { repeat over 1 { } repeat over 64 { sleep 1; } }",
+        0,
+        0,
+    ),
+    (
+        b"trio-job 3\njob main { nursery n { repeat over 2 { nursery m { start a { } } } } }",
+        0,
+        0,
+    ),
+    (
+        b"trio-job 3\njob main { nursery n { repeat over 2 { start a { } } } }",
+        6,
+        50,
+    ),
+    (
+        b"trio-job 3\njob main { nursery n { repeat over 2 { repeat 2 { start a { } } } } }",
+        6,
+        61,
+    ),
+    (b"trio-job 3\njob main { repeat over 0 { } }", 5, 34),
+    (b"trio-job 3\njob main { repeat over 65 { } }", 5, 34),
+    (b"trio-job 3\njob main { repeat over { } }", 6, 34),
+    (b"trio-job 3\njob main { repeat over 2 3 { } }", 6, 36),
+    (b"trio-job 3\njob main { repeat shield { } }", 6, 29),
+    (b"trio-job 2\njob main { repeat over 2 { } }", 6, 29),
+    (b"trio-job 1\njob main { repeat over 2 { } }", 6, 22),
+    // A loop over 64 cuts of 64 cuts, .. : each pass counts its block, and one for itself.
+    (
+        b"trio-job 3\njob main { repeat over 64 { repeat over 64 { repeat over 64 { sleep 1; sleep 1; } } } }",
+        0,
+        0,
+    ),
+    (
+        b"trio-job 3\njob main { repeat over 64 { repeat over 64 { repeat over 64 { sleep 1; sleep 1; sleep 1; } } } }",
+        11,
+        0,
+    ),
+];
+
+#[test]
+fn loops_over_cuts_are_read_in_format_3(rt: HostRuntime) -> Result<(), Fail> {
+    are_answered(rt.alloc(), CUTS)
+}
+
 // Texts with a `start` in a loop.
 const LOOPS: &[Row] = &[
     (

@@ -3,6 +3,7 @@
 ghost use Rattle.std.specs.Prelude.{◌≡◌, ℕ, ◌≤◌, ◌^◌, IfOk};
 ghost use Rattle.task_machine.specs.Fitting.{Fits, waits_of};
 ghost use Rattle.task_machine.specs.States.{state_of};
+ghost use Rattle.task_machine.specs.Tasks.{lent_of};
 ghost use Rattle.task_machine.specs.Waking.{IsInRangeTaskState, WakesFrom};
 ghost use Rattle.task_machine.specs.declared.stop.Stop.TheVariants as stops;
 ghost use Rattle.task_machine.specs.declared.stop.Wake.TheVariants as wakes;
@@ -33,10 +34,10 @@ fn first_turn<'a>(alloc: Global, job: &'a Job, tick: u64) -> Result<Turned<'a>, 
     ensures in_range { IfOk result (λ t. IsInRangeTaskState t.task.task_state) }
     ensures fits { IfOk result (λ t. Fits (state_of t.task t.world) (waits_of t.task.task_state)) }
     ensures asleep { IfOk result (λ t. (due : ℕ) → t.stop ≡ stops.Sleep due →
-        WakesFrom t.task.task_state t.task.part t.world.book wakes.Due) }
+        WakesFrom t.task.task_state (lent_of t.task) t.world.book wakes.Due) }
 {
     let part = Part::whole(b"one\ntwo\n");
-    if part.text().len() > MAX_INPUT {
+    if part.buffer().len() > MAX_INPUT {
         return Err("the part is too long")?;
     }
     let mut task = Task::root(alloc, job, part)?;
@@ -297,7 +298,7 @@ fn stop_when_due<'a>(
 ) -> Result<Stop<'a>, AllocError>
     requires fits { Fits (state_of task.old world.old) (waits_of task.old.task_state) }
     requires in_range { IsInRangeTaskState task.old.task_state }
-    requires asleep { WakesFrom task.old.task_state task.old.part world.old.book wakes.Due }
+    requires asleep { WakesFrom task.old.task_state (lent_of task.old) world.old.book wakes.Due }
     requires later { world.old.tick ≤ due }
     requires bounded { due ≤ 2 ^ 62 }
 {

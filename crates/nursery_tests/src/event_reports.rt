@@ -1,7 +1,7 @@
-//! Jobs of format 3 with events, and with tasks that a loop starts, with their whole reports. The reports were worked out by hand
-//! from docs/RULES.md, never copied from a run. Where Trio has one outcome, the report is that outcome.
+//! Jobs of format 3 with events, with tasks that a loop starts, and with loops over cuts, with their whole reports. The reports
+//! were worked out by hand from docs/RULES.md, never copied from a run. Where Trio has one outcome, the report is that outcome.
 
-use crate::fixtures::{FORMAT_3, Row, assert_rows};
+use crate::fixtures::{FORMAT_3, Row, TWO_LINES, assert_rows};
 use std::test::Fail;
 
 // When a wait for an event ends.
@@ -175,6 +175,77 @@ task handler.1 2 3 cancelled
     ),
 ];
 
+// Loops over the cuts of the task's part.
+const CUTS: &[Row] = &[
+    // each pass has its cut, and the steps after the loop have the whole part again
+    (
+        "repeat over 2 { head 1; sleep 1; } find \"o\";",
+        TWO_LINES,
+        b"job main 2
+task main 0 2 done
+  line 0+5 error
+  line 6+2 ok
+  line 0+5 error
+  line 6+2 ok
+",
+    ),
+    // a cut of a cut, and children of a pass
+    (
+        "repeat over 2 { nursery n { start t over 2 { longest; } start u { head 9; sleep 2; } } }",
+        b"a\nbb\nc\ndd\n",
+        b"job main 4
+task main 0 4 done
+  nursery n.0 2 passed
+  nursery n.1 4 passed
+task t.0.0 0 0 done
+  line 0+1 a
+task t.0.1 0 0 done
+  line 2+2 bb
+task u.0 0 2 done
+  line 0+1 a
+  line 2+2 bb
+task t.1.0 2 2 done
+  line 5+1 c
+task t.1.1 2 2 done
+  line 7+2 dd
+task u.1 2 4 done
+  line 5+1 c
+  line 7+2 dd
+",
+    ),
+    // a pace counts the lines of the cut, and an exception ends the loop
+    (
+        "try { repeat over 3 { pace 1; need \"b\" Missing; } } except Missing { longest; }",
+        b"ab\nb\nc\n",
+        b"job main 3
+task main 0 3 done
+  line 0+2 ab
+  line 3+1 b
+  line 0+2 ab
+",
+    ),
+    // a deadline for each part, one after the other
+    (
+        "repeat over 3 { try { scope limit after 4 fail { pace 1; find \"ERROR\"; } } except TooSlow { head 1; } }",
+        b"start of day\nERROR disk\nok\nok\nok\nERROR net\nok\nERROR mail\nend of day\n",
+        b"job main 8
+task main 0 8 done
+  line 13+10 ERROR disk
+  scope limit.0 2 passed
+  scope limit.1 6 caught
+  line 24+2 ok
+  line 46+10 ERROR mail
+  scope limit.2 8 passed
+",
+    ),
+    // an empty part has empty cuts
+    (
+        "repeat over 64 { longest; }",
+        b"",
+        b"job main 0\ntask main 0 0 done\n",
+    ),
+];
+
 #[test]
 fn jobs_with_events_have_their_reports(rt: HostRuntime) -> Result<(), Fail> {
     assert_rows(&rt, FORMAT_3, EVENTS)
@@ -183,4 +254,9 @@ fn jobs_with_events_have_their_reports(rt: HostRuntime) -> Result<(), Fail> {
 #[test]
 fn jobs_with_starts_in_loops_have_their_reports(rt: HostRuntime) -> Result<(), Fail> {
     assert_rows(&rt, FORMAT_3, LOOPS)
+}
+
+#[test]
+fn jobs_with_loops_over_cuts_have_their_reports(rt: HostRuntime) -> Result<(), Fail> {
+    assert_rows(&rt, FORMAT_3, CUTS)
 }

@@ -32,6 +32,10 @@ const TEXTS: &[(&str, &str)] = &[
         "trio-job 2\njob a { repeat 3 { try { need \"a\\x00\\\"\\x7e\" B; } except B { raise C; } finally { longest; head 2; } } }",
         "trio-job 2\njob a {\n  repeat 3 {\n    try { need \"a\\x00\\\"~\" B; } except B { raise C; } finally {\n      longest;\n      head 2;\n    }\n  }\n}\n",
     ),
+    (
+        "trio-job 3\njob a{repeat over 3{head 1;}repeat 2{repeat over 64{find\"x\";longest;}}}",
+        "trio-job 3\njob a {\n  repeat over 3 { head 1; }\n  repeat 2 {\n    repeat over 64 {\n      find \"x\";\n      longest;\n    }\n  }\n}\n",
+    ),
     // comments: before the job, after tokens, on lines of their own, inside a step, in a short block, after the job
     (
         "trio-job 3\n\t# top\njob a { # open\n\n # own\n sleep # in\n 3; # after\n scope s { sleep 1; } # s\n scope t { sleep 2; # c\n }\n # last\n} # end\n# fin",

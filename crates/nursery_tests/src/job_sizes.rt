@@ -40,7 +40,11 @@ fn jobs_of_format_2_have_sizes_up_to_a_million(rt: HostRuntime) -> Result<(), Fa
 // Returns a block that repeats a block of these steps 1,000 times.
 fn thousand_passes(alloc: Global, body: Body) -> Result<Body, AllocError> {
     let mut steps = Vec::with_capacity(alloc, 1)?;
-    match steps.push(Step::Repeat { count: 1000, body }) {
+    match steps.push(Step::Repeat {
+        count: 1000,
+        over: false,
+        body,
+    }) {
         Ok(()) => Ok(Body::new(steps)),
         Err(_full) => Err(AllocError),
     }

@@ -54,6 +54,10 @@ pub(crate) const EXPECTED: &[Row] = &[
         "f:2:21: expected a step, as `sleep 1;`, a `start NAME { .. }` or `}`\njob a { nursery n { 5 } }\n                    ^\n",
     ),
     (
+        "trio-job 3\njob a { repeat shield { } }",
+        "f:2:16: expected a number or `over N`\njob a { repeat shield { } }\n               ^\n",
+    ),
+    (
         "trio-job 2\njob a { nursery n; }",
         "f:2:18: expected `after N`, `shield` or `{` (in format 1 only `{`)\njob a { nursery n; }\n                 ^\n",
     ),
@@ -186,6 +190,14 @@ pub(crate) const HELPED: &[Row] = &[
     (
         "trio-job 2\njob a { event b { } }",
         "\nformat 3 has this: begin the job text with the line `trio-job 3`\n",
+    ),
+    (
+        "trio-job 2\njob a { repeat over 2 { } }",
+        "\nformat 3 has this: begin the job text with the line `trio-job 3`\n",
+    ),
+    (
+        "trio-job 3\njob a { repeat ovr 2 { } }",
+        "\ndid you mean `over`?\n",
     ),
     (
         "trio-job 3\njob a { repeat 2 { start b { } } }",

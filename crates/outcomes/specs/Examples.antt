@@ -123,7 +123,7 @@ pub shards_are_shown :
     ++ codes "4:7  sleep 2  hangs in pass 2 of 3   2 done\n"
     ++ codes "2 faults: 0 stuck, 1 cut a cleanup, 0 lost, 0 not reached\n"
     ++ codes "only the first 1000 faults in single copies and passes were tried\n"
-    ++ codes "copies that pace or need lines were not tried singly: each has its own part of the input\n"
+    ++ codes "copies or passes that pace or need lines were not tried singly: each has its own part of the input\n"
 unfolding digits
 shards_are_shown = refl
 

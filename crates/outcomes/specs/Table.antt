@@ -162,7 +162,7 @@ more_lines_text true = codes "only the first 1000 faults in single copies and pa
 -- there are copies in which no fault was tried, since what they do depends on their parts of the input
 abbrev pub divided_text : (divided : Bool) → List ℕ
 divided_text false = []
-divided_text true = codes "copies that pace or need lines were not tried singly: each has its own part of the input\n"
+divided_text true = codes "copies or passes that pace or need lines were not tried singly: each has its own part of the input\n"
 
 -- which faults in single copies and passes are not among the lines
 abbrev pub untried_text : Untried → List ℕ

@@ -61,7 +61,7 @@ fn push_divided(out: &mut Vec<u8>, divided: bool) -> Result<(), AllocError>
         return Ok(());
     }
     out.extend_from_slice(
-        b"copies that pace or need lines were not tried singly: each has its own part of the input\n",
+        b"copies or passes that pace or need lines were not tried singly: each has its own part of the input\n",
     )
 }
 

@@ -91,6 +91,7 @@ fn expected_sentence(nonterminal: Option<Nonterminal>) -> &'static str
         Some(Nonterminal::Nursery) => "expected `after N`, `shield` or `{` (in format 1 only `{`)",
         Some(Nonterminal::NurseryShield) => "expected `shield` or `{`",
         Some(Nonterminal::Over) => "expected `over N` or `{`",
+        Some(Nonterminal::Passes | Nonterminal::ItemsPasses) => "expected a number or `over N`",
         Some(Nonterminal::Given) => "expected a name",
         Some(Nonterminal::Raised | Nonterminal::Handled) => "expected the name of an exception",
         Some(Nonterminal::Target) => {

@@ -1,12 +1,13 @@
 -- A task that may continue, as the code sees it, may be woken so in the run of the definitions.
+use Rattle.task_machine.proofs.FrameLemmas.{cuts_inside}
+use Rattle.task_machine.specs.Frames.{Lent, frames_of}
 use Rattle.std.proofs.Common.{◌≡◌, ◌⊎◌, inl, inr, ◌&&◌, Bool, true, false, ℕ, zero, suc, ◌<◌, ◌≤◌, max, Option, Some, None, List, [], ◌∷◌, ◌++◌, map, length, refl, ap, sym, ◌∙◌, subst, arith}
 use Rattle.std.specs.Prelude.{IsSome, is_some, slice_get, MatchOption}
 use Rattle.std.specs.List.{list_all}
 use Rattle.turn_semantics.specs.Lists.{IsAmong}
-use Rattle.input_lines.specs.Lines.{Span}
+use Rattle.input_lines.specs.Lines.{Span, Range}
 use Rattle.input_lines.specs.Part.{buffer_of, range_of, span_of}
-use Rattle.input_lines.specs.declared.part.Part.{Part}
-use Rattle.input_lines.specs.Answers.{AreLinesAt, IsAnswer}
+use Rattle.input_lines.specs.Answers.{AreLinesAt, IsAnswerOn}
 use Rattle.input_lines.specs.Kernels.{needed_in}
 use Rattle.input_lines.specs.declared.answers.Answer as held
 use Rattle.input_lines.specs.declared.answers.Answer.TheVariants as answers
@@ -28,7 +29,8 @@ use Rattle.job_meaning.specs.declared.clock.Clock.{Clock}
 use Rattle.job_meaning.specs.Walk.{Here, with_exc, excs_of, latest}
 use Rattle.job_meaning.specs.Asking as ask
 use Rattle.job_meaning.specs.Follow.{IsSettled}
-use Rattle.job_meaning.specs.Rest.{outcome_members, Stopped, to_begin, asking, asleep, waiting_for, giving_up, awaiting, at_end}
+use Rattle.job_meaning.specs.Rest as rest
+use Rattle.job_meaning.specs.Rest.{outcome_members, Stopped, to_begin, asking, asleep, waiting_for, giving_up, awaiting, at_end, inside, path_in}
 use Rattle.turn_semantics.specs.Midway.{Place, stack_at}
 use Rattle.turn_semantics.specs.Turned.{AgreesOn}
 use Rattle.turn_semantics.specs.Wakes.{ends_at, SettlesAt}
@@ -46,7 +48,7 @@ use Rattle.task_machine.specs.Stacked.{AreAt, IsEventNamed, AwaitsEvent}
 use Rattle.task_machine.specs.Standing.{here_of, HasBlock, HasNurseryOf, now_for}
 use Rattle.task_machine.specs.States.{state_of}
 use Rattle.task_machine.specs.Stops.{kernel_in, IsTaskState}
-use Rattle.task_machine.specs.Tasks.{home_scope, scope_of}
+use Rattle.task_machine.specs.Tasks.{home_scope, scope_of, lent_of}
 use Rattle.task_machine.specs.Waking.{WakesFrom, answer_in, raised_in, wake_in}
 use Rattle.task_machine.specs.Worlds.{label_at, event_at}
 use Rattle.task_machine.proofs.Stacked.{one_of, seen_at}
@@ -65,12 +67,12 @@ use Rattle.run_refinement.proofs.Found.{gives, puts, finds}
 -- ---- the answer of a kernel
 
 -- an answer of the code is that of the definitions
-answer_is : (clock : Clock) (kernel : Kernel) (part : Part) (answer : held.Answer) (label : Label) (path : List ℕ) →
-    IsAnswer kernel part answer →
+answer_is : (clock : Clock) (kernel : Kernel) (part : Lent) (answer : held.Answer) (label : Label) (path : List ℕ) →
+    IsAnswerOn kernel part.input part.range answer →
     answer_in answer ≡ ask.answer_of (kernel_in kernel) (record {
       clock = clock;
-      input = buffer_of part;
-      part = range_of part;
+      input = part.input;
+      part = part.range;
       task =
           label;
       path = path;
@@ -78,9 +80,9 @@ answer_is : (clock : Clock) (kernel : Kernel) (part : Part) (answer : held.Answe
 answer_is clock (Find needle) part (answers.Lines lines) label path a = ap (λ (ls : List Span). ask.lines ls) a.places
 answer_is clock (Head count) part (answers.Lines lines) label path a = ap (λ (ls : List Span). ask.lines ls) a.places
 answer_is clock Longest part (answers.Lines lines) label path a = ap (λ (ls : List Span). ask.lines ls) a.places
-answer_is clock (Need needle) part (answers.Lines lines) label path a = by_line (needed_in (buffer_of part) needle.now (range_of part)) a
+answer_is clock (Need needle) part (answers.Lines lines) label path a = by_line (needed_in part.input needle.now part.range) a
   where
-    by_line : (o : Option Span) → MatchOption o ⊥ (λ l. AreLinesAt (buffer_of part) (l ∷ []) lines) →
+    by_line : (o : Option Span) → MatchOption o ⊥ (λ l. AreLinesAt part.input (l ∷ []) lines) →
         ask.lines (map span_of lines) ≡ ask.one_line o
     by_line None a = absurd a
     by_line (Some l) a = ap (λ (ls : List Span). ask.lines ls) a.places
@@ -381,20 +383,39 @@ may_wake k job input t m state settled names starting c s task lives wake may =
     now : Wake → Now
     now w = record { at = t; own = (now_for w (state_of task state.world)).own }
 
-    begins_now : (w : Wake) (at : ℕ) → WakesFrom (ToBegin at) task.part book w → q.stop ≡ only_at at → at ≡ state.world.tick →
+    begins_now : (w : Wake) (at : ℕ) → WakesFrom (ToBegin at) (lent_of task) book w → q.stop ≡ only_at at → at ≡ state.world.tick →
         MayWake f qs (now w) q (wake_in book (ToBegin at) w) to_begin
     begins_now Begin at h e timely = e ∙ ap only_at (timely ∙ c.tick)
     begins_now Due at h e timely = e ∙ ap only_at (timely ∙ c.tick)
     begins_now _ at h e timely = absurd h
 
+    frames : List rest.Frame
+    frames = frames_of (c.numbers s) task.frames.items
+
+    here : Here
+    here = record {
+      clock = state.world.clock;
+      input = buffer_of task.part;
+      part = (lent_of task).range;
+      task = task.label;
+      path = path_in frames task.label.indices;
+    }
+
+    -- the task has the part that it has inside its frames
+    at_frames : here ≡ inside frames (here_of state.world.clock task)
+    at_frames =
+        ap (λ (r : Range). record here { part = r })
+        (sym (cuts_inside (c.numbers s) task.frames.items (buffer_of task.part) (range_of task.part)))
+
     answers_now : (w : Wake) (kernel : Kernel) (purpose : _) (asked : ask.Kernel) (p : ask.Purpose) → kernel_in kernel ≡ asked →
-        WakesFrom (Asked kernel purpose) task.part book w → (q.stop.at ≤ t) × (q.stop.own ≡ task.cancelled.items) → t ≤ q.stop.at →
+        WakesFrom (Asked kernel purpose) (lent_of task) book w → (q.stop.at ≤ t) × (q.stop.own ≡ task.cancelled.items) → t ≤ q.stop.at →
         MayWake f qs (now w) q (wake_in book (Asked kernel purpose) w) (asking asked p)
     answers_now (Answer answer) kernel purpose asked p same h since late = (
       same_now q.stop t task.cancelled.items (let le = since.0 in omega (arith, le, late)) since.1,
-      answer_is state.world.clock kernel task.part answer task.label task.label.indices h
-          ∙ ap (λ (x : ask.Kernel). ask.answer_of x (here_of state.world.clock task)) same
-          ∙ ap (ask.answer_of asked) it.here,
+      answer_is state.world.clock kernel (lent_of task) answer task.label (path_in frames task.label.indices) h
+          ∙ ap (λ (x : ask.Kernel). ask.answer_of x here) same
+          ∙ ap (ask.answer_of asked) (at_frames ∙ ap (λ (fs : List rest.Frame). inside fs (here_of state.world.clock task)) it.frames
+          ∙ ap (inside q.rest.frames) it.here),
     )
     answers_now _ kernel purpose asked p same h since late = absurd h
 
@@ -403,7 +424,7 @@ may_wake k job input t m state settled names starting c s task lives wake may =
     same_seen b e = sym (seen_at labels (event_at state.world) f stack q.places t it.stands.places) ∙ ap (λ (v : ℕ). seen stack v) (sym c.tick) ∙ e
 
     sleeps_now : (w : Wake) (paced : Bool) (ticks since : ℕ) (p : Bool) (n u : ℕ) → ticks ≡ n → since ≡ u →
-        WakesFrom (Asleep paced ticks since) task.part book w →
+        WakesFrom (Asleep paced ticks since) (lent_of task) book w →
         IsTimely state.world (scope_of task) (Asleep paced ticks since) w →
         MayWake f qs (now w) q (wake_in book (Asleep paced ticks since) w) (asleep p n u)
     sleeps_now Due paced ticks since p n u e g h timely = (
@@ -431,7 +452,7 @@ may_wake k job input t m state settled names starting c s task lives wake may =
 
     waits_now : (w : Wake) (key since : ℕ) (name : List ℕ) (u : ℕ) → since ≡ u →
         IsEventNamed labels stack (Waiting key since) name q.places → HasEvent (waiting_for name since) q.places →
-        WakesFrom (Waiting key since) task.part book w → IsTimely state.world (scope_of task) (Waiting key since) w →
+        WakesFrom (Waiting key since) (lent_of task) book w → IsTimely state.world (scope_of task) (Waiting key since) w →
         MayWake f qs (now w) q (wake_in book (Waiting key since) w) (waiting_for name u)
     waits_now Due key since name u e named some h timely = (
       subst (λ (x : ℕ). IsOver q.here.clock (ends_at q.here.clock f name x q.places) x t (seen (stack_at f q.places).scopes t)) e
@@ -454,7 +475,7 @@ may_wake k job input t m state settled names starting c s task lives wake may =
     )
     waits_now _ key since name u e named some h timely = absurd h
 
-    gives_up_now : (w : Wake) (since u : ℕ) → since ≡ u → WakesFrom (GivingUp since) task.part book w → suc since ≡ state.world.tick →
+    gives_up_now : (w : Wake) (since u : ℕ) → since ≡ u → WakesFrom (GivingUp since) (lent_of task) book w → suc since ≡ state.world.tick →
         MayWake f qs (now w) q (wake_in book (GivingUp since) w) (giving_up u)
     gives_up_now Due since u e h timely = (ap suc (sym e) ∙ timely ∙ c.tick, refl)
     gives_up_now _ since u e h timely = absurd h
@@ -533,7 +554,7 @@ may_wake k job input t m state settled names starting c s task lives wake may =
 
     settles_now : (w : Wake) (id since u : ℕ) (children : List ℕ) (exc : Option Exc) → task.task_state ≡ Awaits id since →
         c.numbers s id ≡ children → since ≡ u → HasNursery book id (λ n. n.body ≡ Some exc) →
-        t ≤ a_round_after q.here.clock (latest u (outcome_members q.outcomes children)) → WakesFrom (Awaits id since) task.part book w →
+        t ≤ a_round_after q.here.clock (latest u (outcome_members q.outcomes children)) → WakesFrom (Awaits id since) (lent_of task) book w →
         HasNursery book id (λ n. a_round_after state.world.clock n.last ≤ state.world.tick) →
         MayWake f qs (now w) q (wake_in book (Awaits id since) w) (awaiting children u exc)
     settles_now Settled id since u children exc task_state numbers same body late h timely =
@@ -544,7 +565,7 @@ may_wake k job input t m state settled names starting c s task lives wake may =
 
     by_stop : (task_state : TaskState) (stopped : Stopped) → task.task_state ≡ task_state → IsTaskState (c.numbers s) book task_state stopped →
         IsSince t task.cancelled.items task_state q.stop → AwaitsEvent labels stack (Some stopped) task_state q.places →
-        HasEvent stopped q.places → (live stopped ≡ true → t ≤ goes_on q.here.clock q.outcomes stopped (stack_at k q.places) q.stop.at) → WakesFrom task_state task.part book wake → IsTimely state.world (scope_of task) task_state wake →
+        HasEvent stopped q.places → (live stopped ≡ true → t ≤ goes_on q.here.clock q.outcomes stopped (stack_at k q.places) q.stop.at) → WakesFrom task_state (lent_of task) book wake → IsTimely state.world (scope_of task) task_state wake →
         MayWake f qs (now wake) q (wake_in book task_state wake) stopped
     by_stop (ToBegin at) to_begin e h since event some late fits timely = begins_now wake at fits since timely
     by_stop (Asked kernel purpose) (asking asked p) e h since event some late fits timely =

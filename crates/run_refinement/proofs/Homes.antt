@@ -78,7 +78,7 @@ home_in P now labels events cancelled_from number home (in_nursery children ∷ 
     home_first k.0.0 l st p ps (subst (IsAmong number) k.0.1 h.0) k.0.2 a h.1
 home_in P now labels events cancelled_from number home (in_nursery children ∷ fs) (l ∷ st) (p ∷ ps) k a (inr h) =
     home_further l (home_in P now labels events cancelled_from number home fs st ps k.1 a.3 h)
-home_in P now labels events cancelled_from number home (in_repeat pass left body ∷ fs) st ps k a h = home_in P now labels events cancelled_from number home fs st ps k a h
+home_in P now labels events cancelled_from number home (in_repeat pass left cuts body ∷ fs) st ps k a h = home_in P now labels events cancelled_from number home fs st ps k a h
 home_in P now labels events cancelled_from number home (in_try handler cleanup ∷ fs) st ps k a h = home_in P now labels events cancelled_from number home fs st ps k a h
 home_in P now labels events cancelled_from number home (in_handler rest cleanup ∷ fs) st ps k a h = home_in P now labels events cancelled_from number home fs st ps k a h
 home_in P now labels events cancelled_from number home (in_cleanup outcome ∷ fs) st ps k a h = home_in P now labels events cancelled_from number home fs st ps k a h

@@ -51,9 +51,9 @@ waits_on_input : (input : List ℕ) (o : Option Label) (name : List ℕ) (t : �
 waits_on_input input None name t fs ps = tt
 waits_on_input input (Some l) name t fs ps = tt
 
-passes_on : (input : List ℕ) (n : ℕ) (body : Steps) (fs : List Frame) (ps : List Place) → AllOn input (begins_passes n body fs ps).begun
-passes_on input zero body fs ps = tt
-passes_on input (suc k) body fs ps = tt
+passes_on : (input : List ℕ) (n : ℕ) (over : Bool) (body : Steps) (fs : List Frame) (ps : List Place) → AllOn input (begins_passes n over body fs ps).begun
+passes_on input zero over body fs ps = tt
+passes_on input (suc k) over body fs ps = tt
 
 one_on : (input : List ℕ) (cancelled_from : Table) (now : Now) (here : Here) (s : Step) (ss : Steps) (fs : List Frame) (ps : List Place) (count : ℕ)
     →
@@ -80,7 +80,7 @@ one_on input cancelled_from now here (event name body) ss fs ps count e = tt
 one_on input cancelled_from now here (start name None body) ss fs ps count e = (e, tt)
 one_on input cancelled_from now here (start name (Some k) body) ss fs ps count e =
     subst (λ (xs : List ℕ). AllOn xs (begun_over name here k body ps count k)) e (over_on name here k body ps count k)
-one_on input cancelled_from now here (repeat n body) ss fs ps count e = passes_on input n body (steps_left ss ∷ fs) ps
+one_on input cancelled_from now here (repeat n over body) ss fs ps count e = passes_on input n over body (steps_left ss ∷ fs) ps
 one_on input cancelled_from now here (attempt body handler cleanup) ss fs ps count e = tt
 
 block_on : (cancelled_from : Table) (now : Now) (here : Here) (ss : Steps) (fs : List Frame) (ps : List Place) (exc : Option Exc) (count : ℕ) →
@@ -89,11 +89,11 @@ block_on cancelled_from now here ss fs ps (Some e) count = tt
 block_on cancelled_from now here stop fs ps None count = tt
 block_on cancelled_from now here (step s ss) fs ps None count = one_on here.input cancelled_from now (inside fs here) s ss fs ps count refl
 
-pass_on : (input : List ℕ) (pass left : ℕ) (body : Steps) (fs : List Frame) (ps : List Place) (exc : Option Exc) →
-    AllOn input (step_pass pass left body fs ps exc).begun
-pass_on input pass left body fs ps (Some e) = tt
-pass_on input pass zero body fs ps None = tt
-pass_on input pass (suc k) body fs ps None = tt
+pass_on : (input : List ℕ) (pass left : ℕ) (cuts : Option ℕ) (body : Steps) (fs : List Frame) (ps : List Place) (exc : Option Exc) →
+    AllOn input (step_pass pass left cuts body fs ps exc).begun
+pass_on input pass left cuts body fs ps (Some e) = tt
+pass_on input pass zero cuts body fs ps None = tt
+pass_on input pass (suc k) cuts body fs ps None = tt
 
 try_on : (input : List ℕ) (handler : Handled) (cleanup : Cleaned) (fs : List Frame) (ps : List Place) (exc : Option Exc) →
     AllOn input (step_try handler cleanup fs ps exc).begun
@@ -116,7 +116,7 @@ frame_on cancelled_from now here (in_event ∷ fs) [] exc count = tt
 frame_on cancelled_from now here (in_event ∷ fs) (p ∷ ps) exc count = tt
 frame_on cancelled_from now here (in_nursery children ∷ fs) [] exc count = tt
 frame_on cancelled_from now here (in_nursery children ∷ fs) (p ∷ ps) exc count = tt
-frame_on cancelled_from now here (in_repeat pass left body ∷ fs) ps exc count = pass_on here.input pass left body fs ps exc
+frame_on cancelled_from now here (in_repeat pass left cuts body ∷ fs) ps exc count = pass_on here.input pass left cuts body fs ps exc
 frame_on cancelled_from now here (in_try handler cleanup ∷ fs) ps exc count = try_on here.input handler cleanup fs ps exc
 frame_on cancelled_from now here (in_handler rest cleanup ∷ fs) ps exc count = tt
 frame_on cancelled_from now here (in_cleanup outcome ∷ fs) ps exc count = tt

@@ -1,5 +1,6 @@
 -- What stays the same for other tasks when one has its turn or leaves: a task that may continue may still do so, and
 -- each home has its owner.
+use Rattle.task_machine.specs.Frames.{Lent}
 use Rattle.std.proofs.Common.{◌≡◌, ◌≢◌, ◌⊎◌, inl, inr, true, false, ℕ, zero, suc, ◌+◌, ◌-◌, ◌<◌, ◌≤◌, min, Option, Some, None, List, [], ◌∷◌, length, refl, ap, sym, ◌∙◌, subst, arith}
 use Rattle.std.proofs.lemmas.Bool.{cases_lt}
 use Rattle.std.specs.Prelude.{is_some, slice_get}
@@ -36,7 +37,7 @@ use Rattle.task_machine.specs.Standing.{HasNurseryOf, IsBegun}
 use Rattle.task_machine.specs.Events.{set_by}
 use Rattle.task_machine.specs.Stacked.{AreAt}
 use Rattle.task_machine.specs.Stops.{IsTaskState}
-use Rattle.task_machine.specs.Tasks.{scope_of}
+use Rattle.task_machine.specs.Tasks.{scope_of, lent_of}
 use Rattle.task_machine.specs.Waking.{WakesFrom}
 use Rattle.task_machine.specs.Worlds.{label_at, event_at}
 use Rattle.task_machine.proofs.Stacked.{one_of, seen_at}
@@ -67,7 +68,7 @@ use Rattle.run_refinement.proofs.Recorded.{same_owner, Recorded, stays, tells, r
 -- ---- a wake in another world
 
 -- one that fits does so where what the task waits for is the same
-fits_still : (task_state : TaskState) (part : Part) (old new : NurseryBook) (wake : Wake) →
+fits_still : (task_state : TaskState) (part : Lent) (old new : NurseryBook) (wake : Wake) →
     ((id : ℕ) → waits_of task_state ≡ Some id → nursery_at new id ≡ nursery_at old id) → WakesFrom task_state part old wake →
     WakesFrom task_state part new wake
 fits_still (Awaits id since) part old new Due same h = same_nursery (λ n. is_settled n ≡ true) old new id (same id refl) h
@@ -116,12 +117,12 @@ may_still : (old new : World) (task : Task) (wake : Wake) → new.clock ≡ old.
     nursery_at new.book id ≡ nursery_at old.book id) → SetsAlike old new task.task_state → MayGo old task wake → MayGo new task wake
 may_still old new task wake clock tick seeing same sets may =
     record {
-      fits = fits_still task.task_state task.part old.book new.book wake there may.fits;
+      fits = fits_still task.task_state (lent_of task) old.book new.book wake there may.fits;
       timely = timely_still old new (scope_of task) task.task_state wake clock tick seeing there sets may.timely;
     }
   where
     there : (id : ℕ) → waits_of task.task_state ≡ Some id → nursery_at new.book id ≡ nursery_at old.book id
-    there id e = same id e (settled_from task.task_state task.part old.book wake id may.fits e)
+    there id e = same id e (settled_from task.task_state (lent_of task) old.book wake id may.fits e)
 
 -- ---- a turn of another task
 

@@ -38,7 +38,7 @@ use Rattle.task_machine.specs.Fitting.{blocks_of, waits_of, AreOthers}
 use Rattle.task_machine.specs.Stacked.{AreAt, IsKey, AwaitsEvent}
 use Rattle.task_machine.specs.Standing.{here_of, HasBlock, Stands, BodyEnds, now_for}
 use Rattle.task_machine.specs.Stops.{Numbers, IsTaskState, IsReturned, StopsAs, OwnAfter}
-use Rattle.task_machine.specs.Tasks.{scope_of}
+use Rattle.task_machine.specs.Tasks.{scope_of, lent_of}
 use Rattle.task_machine.specs.Worlds.{label_at, event_at}
 use Rattle.interleavings.specs.Interleaving.{Started, live}
 use Rattle.interleavings.specs.Rows.{entered_made}
@@ -108,12 +108,12 @@ module _ (k : Table) (job : Job) (input : List ℕ) (t m s : ℕ) (old new : Run
 
   -- ---- where it stopped, and what it noted
 
-  blocks_on : IsTaskState now new.world.book after.task_state T.stopped × IsReturned old.world.clock before.part stop after.task_state T.stopped
-  blocks_on = subst (λ (o : Option Stopped). StopsAs old.world.clock now new.world.book before.part stop after.task_state o) T.stops
+  blocks_on : IsTaskState now new.world.book after.task_state T.stopped × IsReturned old.world.clock (lent_of after) stop after.task_state T.stopped
+  blocks_on = subst (λ (o : Option Stopped). StopsAs old.world.clock now new.world.book (lent_of after) stop after.task_state o) T.stops
       T.took.moves.1
 
   lives_on : (stopped : Stopped) → IsTaskState now new.world.book after.task_state stopped →
-      IsReturned old.world.clock before.part stop after.task_state stopped →
+      IsReturned old.world.clock (lent_of after) stop after.task_state stopped →
       (leaving_by stop s ≡ Some s → ⊥) →
       live stopped ≡ true
   lives_on to_begin h returned stays = refl
@@ -123,7 +123,7 @@ module _ (k : Table) (job : Job) (input : List ℕ) (t m s : ℕ) (old new : Run
   lives_on (giving_up since) h returned stays = refl
   lives_on (awaiting children ended exc) h returned stays = refl
   lives_on (at_end u e) h returned stays =
-      let w = returned_end old.world.clock now new.world.book before.part stop after.task_state u e h returned in
+      let w = returned_end old.world.clock now new.world.book (lent_of after) stop after.task_state u e h returned in
       absurd (stays (ap (λ (z : Stop). leaving_by z s) w.1))
 
   input_here : buffer_of before.part ≡ input

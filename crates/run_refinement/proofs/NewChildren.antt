@@ -37,7 +37,7 @@ use Rattle.task_machine.specs.Left.{keys_of, OwnFirst}
 use Rattle.task_machine.specs.Stacked.{AreAt}
 use Rattle.task_machine.specs.Standing.{here_of, HasBlock, HasNurseryOf, IsBegun, BeginsAt, Stands}
 use Rattle.task_machine.specs.Stops.{Numbers, IsTaskState, StopsAs}
-use Rattle.task_machine.specs.Tasks.{home_scope, scope_of, home_of}
+use Rattle.task_machine.specs.Tasks.{home_scope, scope_of, home_of, lent_of}
 use Rattle.task_machine.specs.Waking.{IsInRangeTaskState}
 use Rattle.task_machine.specs.Worlds.{label_at, event_at}
 use Rattle.interleavings.specs.Interleaving.{Started}
@@ -119,7 +119,7 @@ module _ (k : Table) (job : Job) (input : List ℕ) (t m s : ℕ) (old new : Run
       (keys_of (outer_of new.world.scopes (home_scope after))) (λ id o has n. (has, n)) T.code.fits_after.runs.opened))
 
   task_state_after : IsTaskState now new.world.book after.task_state T.stopped
-  task_state_after = (subst (λ (o : Option Stopped). StopsAs old.world.clock now new.world.book before.part stop after.task_state o) T.stops
+  task_state_after = (subst (λ (o : Option Stopped). StopsAs old.world.clock now new.world.book (lent_of after) stop after.task_state o) T.stops
       T.took.moves.1).0
 
   module _ (i : ℕ) (task : Task) (is : slice_get T.took.tasks i ≡ Some task) (b : Begun) (begun : slice_get T.move.begun i ≡ Some b)

@@ -330,9 +330,9 @@ carry labels events book f numbers [] (o ∷ own) (Some id) stopped keys outer s
 carry labels events book f numbers (Steps steps ∷ fs) own waits stopped keys outer st ps opened stop at e =
     outer_plain (λ i home qs c. c) (λ i home qs c. c) (carry labels events book f numbers fs own waits stopped keys
     (frame_of numbers (Steps steps) ∷ outer) st ps opened stop at e)
-carry labels events book f numbers (Repeat pass left body ∷ fs) own waits stopped keys outer st ps opened stop at e =
+carry labels events book f numbers (Repeat pass left cuts body ∷ fs) own waits stopped keys outer st ps opened stop at e =
     outer_plain (λ i home qs c. c) (λ i home qs c. c) (carry labels events book f numbers fs own waits stopped keys
-    (frame_of numbers (Repeat pass left body) ∷ outer) st ps opened stop at e)
+    (frame_of numbers (Repeat pass left cuts body) ∷ outer) st ps opened stop at e)
 carry labels events book f numbers (Try handler cleanup ∷ fs) own waits stopped keys outer st ps opened stop at e =
     outer_plain (λ i home qs c. c) (λ i home qs c. c) (carry labels events book f numbers fs own waits stopped keys
     (frame_of numbers (Try handler cleanup) ∷ outer) st ps opened stop at e)
@@ -411,8 +411,8 @@ housed_onto labels events book f numbers [] own waits stopped keys outer st ps o
 housed_onto labels events book f numbers (Steps steps ∷ fs) own waits stopped keys outer st ps opened stop at e id i has among =
     housed_onto labels events book f numbers fs own waits stopped keys (frame_of numbers (Steps steps) ∷ outer) st ps opened stop at e id i has
     among
-housed_onto labels events book f numbers (Repeat pass left body ∷ fs) own waits stopped keys outer st ps opened stop at e id i has among =
-    housed_onto labels events book f numbers fs own waits stopped keys (frame_of numbers (Repeat pass left body) ∷ outer) st ps opened stop at e id
+housed_onto labels events book f numbers (Repeat pass left cuts body ∷ fs) own waits stopped keys outer st ps opened stop at e id i has among =
+    housed_onto labels events book f numbers fs own waits stopped keys (frame_of numbers (Repeat pass left cuts body) ∷ outer) st ps opened stop at e id
     i has among
 housed_onto labels events book f numbers (Try handler cleanup ∷ fs) own waits stopped keys outer st ps opened stop at e id i has among =
     housed_onto labels events book f numbers fs own waits stopped keys (frame_of numbers (Try handler cleanup) ∷ outer) st ps opened stop at e id i

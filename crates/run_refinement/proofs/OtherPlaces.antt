@@ -25,7 +25,7 @@ use Rattle.task_machine.specs.Labels.{Labels, Events}
 use Rattle.task_machine.specs.Stacked.{AreAt}
 use Rattle.task_machine.specs.Standing.{HasBlock, HasNurseryOf, BeginsAt}
 use Rattle.task_machine.specs.Stops.{StopsAs}
-use Rattle.task_machine.specs.Tasks.{home_of, home_scope, scope_of}
+use Rattle.task_machine.specs.Tasks.{home_of, home_scope, scope_of, lent_of}
 use Rattle.task_machine.specs.Worlds.{label_at, event_at}
 use Rattle.interleavings.specs.Interleaving.{Started, live}
 use Rattle.run_refinement.specs.RunState.{RunState, LivesIn, HasHome, IsMember, Follows, Refines}
@@ -174,8 +174,8 @@ mover_places {k} {job} {input} {t} {m} {s} {old} {new} {before} {after} {stop} c
         (subst (λ (o : Option rest.Stopped). HasChildAfter h.number ps o T.move.frames T.move.places) T.stops
         (T.promise.stays h.number ps child))
 
-    task_state : StopsAs old.world.clock T.took.numbers_after new.world.book before.part stop after.task_state (Some T.stopped)
-    task_state = subst (StopsAs old.world.clock T.took.numbers_after new.world.book before.part stop after.task_state) T.stops
+    task_state : StopsAs old.world.clock T.took.numbers_after new.world.book (lent_of after) stop after.task_state (Some T.stopped)
+    task_state = subst (StopsAs old.world.clock T.took.numbers_after new.world.book (lent_of after) stop after.task_state) T.stops
         T.took.moves.1
 
     there : Found (label_at new.world) (event_at new.world) new.world.book (cancelled_from_after f T.move.made) T.took.numbers_after (blocks_of after.frames.items)

@@ -2,12 +2,11 @@
 -- and so a child of the task runs inside that.
 use Rattle.std.proofs.lemmas.Bool.{eqb-true, eq-eqb}
 use Rattle.std.proofs.lemmas.Bool.Decides.{nat_tests}
-use Rattle.std.proofs.lemmas.List.{length-take, length-drop}
 use Rattle.std.proofs.lemmas.List.Elements.{All-head, All-tail}
-use Rattle.std.proofs.Common.{◌≡◌, ◌≢◌, ◌⊎◌, inl, inr, ◌==◌, nat_lt, Bool, true, false, ℕ, zero, suc, ◌-◌, ◌<◌, ◌≤◌, min, drop, Option, Some, None, List, [], ◌∷◌, ◌++◌, length, append_assoc, refl, ap, sym, ◌∙◌, subst, arith}
-use Rattle.std.specs.Prelude.{All, IsSome, slice_get, slice_range}
+use Rattle.std.proofs.Common.{◌≡◌, ◌≢◌, ◌⊎◌, inl, inr, ◌==◌, nat_lt, Bool, true, false, ℕ, zero, suc, ◌<◌, ◌≤◌, Option, Some, None, List, [], ◌∷◌, ◌++◌, length, append_assoc, refl, ap, sym, ◌∙◌, subst, arith}
+use Rattle.std.specs.Prelude.{All, IsSome, slice_get}
 use Rattle.turn_semantics.specs.Lists.{IsAmong}
-use Rattle.input_lines.specs.Part.{buffer_of, range_of}
+use Rattle.input_lines.specs.Part.{buffer_of}
 use Rattle.job_meaning.specs.Walk.{Here}
 use Rattle.std.specs.Option.{ForSome, unwrap_or, option_map}
 use Rattle.std.specs.List.{last_or}
@@ -229,13 +228,6 @@ one_runs (None ∷ es) index e = tt
 one_runs (Some x ∷ es) zero e = absurd (let f : Some (Some x) ≡ Some None = e in cc)
 one_runs (Some x ∷ es) (suc index) e = one_runs es index e
 
--- a range has no more bytes than its buffer
-bytes_few : (buffer : List ℕ) (from to : ℕ) → length (slice_range buffer from to) ≤ length buffer
-bytes_few buffer from to =
-    let e = length-take (to - from) (drop from buffer) in let f = length-drop from buffer in
-    let g : min (to - from) (length (drop from buffer)) ≤ length (drop from buffer) = omega arith in
-    let h : length (slice_range buffer from to) ≡ min (to - from) (length (drop from buffer)) = e in omega (arith, h, f, g)
-
 -- ---- a scope of a task that encloses those of another
 
 module _ (k : Table) (job : Job) (input : List ℕ) (t m : ℕ) (leaving : Option ℕ) (state : RunState) (c : Refines k job input t m leaving state)
@@ -397,8 +389,7 @@ module _ (k : Table) (job : Job) (input : List ℕ) (t m : ℕ) (leaving : Optio
         runs = f.goes;
         small =
             (let same : buffer_of task.part ≡ input = ap (λ (h : Here). h.input) f.here ∙ f.input_is in
-            let few = bytes_few (buffer_of task.part) (range_of task.part).from (range_of task.part).to in
             let long : length (buffer_of task.part) ≡ length input = ap (λ (b : List ℕ). length b) same in
-            let most = c.small in omega (arith, few, long, most));
+            let most = c.small in omega (arith, long, most));
         others = others_run s task e;
       }

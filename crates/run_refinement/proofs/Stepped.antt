@@ -1,8 +1,8 @@
 -- The tasks of the program after a turn of the code: they are those of the run after it, and what the stop
 -- says of the task is true.
+use Rattle.task_machine.specs.Frames.{Lent}
 use Rattle.std.proofs.Common.{◌≡◌, ◌≢◌, ℕ, zero, suc, ◌+◌, ◌<◌, min, max, Bool, Option, Some, None, List, ◌++◌, length, refl, ap, sym, ◌∙◌, subst, arith}
 use Rattle.exceptions.specs.Exceptions.{Exc}
-use Rattle.input_lines.specs.declared.part.Part.{Part}
 use Rattle.cancel_scopes.specs.Sight.{seen}
 use Rattle.input_lines.specs.declared.kernel.Kernel.{Kernel}
 use Rattle.cancel_scopes.specs.Tree.{outer_of}
@@ -34,7 +34,7 @@ use Rattle.task_machine.specs.Stacked.{AreAt, AwaitsEvent}
 use Rattle.task_machine.specs.Standing.{BodyEnds, now_for}
 use Rattle.task_machine.specs.States.{state_of}
 use Rattle.task_machine.specs.Stops.{Numbers, IsTaskState, IsReturned, StopsAs}
-use Rattle.task_machine.specs.Tasks.{scope_of}
+use Rattle.task_machine.specs.Tasks.{scope_of, lent_of}
 use Rattle.task_machine.specs.Waking.{wake_in, IsInRangeTaskState}
 use Rattle.task_machine.specs.Worlds.{label_at, event_at}
 use Rattle.task_machine.proofs.Stacked.{one_of, seen_at}
@@ -55,7 +55,7 @@ use Rattle.run_refinement.proofs.Turned.{state_turned}
 -- ---- what a stop says
 
 -- where the task stopped corresponds to its blocked state and to what was returned, now
-pub record IsReturnedNow (clock there : Clock) (numbers : Numbers) (book : NurseryBook) (part : Part) (stop : Stop) (task_state : TaskState)
+pub record IsReturnedNow (clock there : Clock) (numbers : Numbers) (book : NurseryBook) (part : Lent) (stop : Stop) (task_state : TaskState)
     (t : ℕ)
     (cancelled_from : Table) (ps : List Place) (s : Stopped) : Type 0 where
   pub blocks_on : IsTaskState numbers book task_state s
@@ -63,7 +63,7 @@ pub record IsReturnedNow (clock there : Clock) (numbers : Numbers) (book : Nurse
   pub now : StopsAt there t cancelled_from (Some s) ps
 
 -- how the code stopped and how the definitions did, put together in one record
-returned_now : (clock there : Clock) (numbers : Numbers) (book : NurseryBook) (part : Part) (stop : Stop) (task_state : TaskState) (t : ℕ)
+returned_now : (clock there : Clock) (numbers : Numbers) (book : NurseryBook) (part : Lent) (stop : Stop) (task_state : TaskState) (t : ℕ)
     (cancelled_from : Table) (ps : List Place) (o : Option Stopped) (s : Stopped) → o ≡ Some s →
     StopsAs clock numbers book part stop task_state o → StopsAt there t cancelled_from o ps →
     IsReturnedNow clock there numbers book part stop task_state t cancelled_from ps s
@@ -72,7 +72,7 @@ returned_now clock there numbers book part stop task_state t cancelled_from ps o
     record { blocks_on = both.0; returned = both.1; now = subst (λ (x : Option Stopped). StopsAt there t cancelled_from x ps) e now }
 
 -- a task that ended did so now
-pub ends_now : (clock there : Clock) (numbers : Numbers) (book : NurseryBook) (part : Part) (stop : Stop) (task_state : TaskState) (t : ℕ)
+pub ends_now : (clock there : Clock) (numbers : Numbers) (book : NurseryBook) (part : Lent) (stop : Stop) (task_state : TaskState) (t : ℕ)
     (cancelled_from : Table) (ps : List Place) (s : Stopped) →
     IsReturnedNow clock there numbers book part stop task_state t cancelled_from ps s → (q : Started) → q.rest.stopped ≡ s → EndsAs stop t q
 ends_now clock there numbers book part (Ask request) task_state t cancelled_from ps s h q e = tt
@@ -105,14 +105,14 @@ record WaitsIn (world : World) (task : Task) (task_state : TaskState) (s : Stopp
   pub some : HasEvent s ps
 
 -- and what the stop says is so
-says_now : (clock there : Clock) (numbers : Numbers) (book : NurseryBook) (part : Part) (stop : Stop) (task_state : TaskState) (t : ℕ)
+says_now : (clock there : Clock) (numbers : Numbers) (book : NurseryBook) (part : Lent) (stop : Stop) (task_state : TaskState) (t : ℕ)
     (cancelled_from : Table) (ps : List Place) (s : Stopped) →
     IsReturnedNow clock there numbers book part stop task_state t cancelled_from ps s → (world : World) (task : Task) → task.task_state ≡ task_state →
-    task.part ≡ part → world.tick ≡ t → world.clock ≡ clock → there ≡ clock →
+    lent_of task ≡ part → world.tick ≡ t → world.clock ≡ clock → there ≡ clock →
     AreAt (label_at world) (event_at world) cancelled_from (outer_of world.scopes (scope_of task)) ps → IsInRangeTaskState task_state → book ≡ world.book →
     BodyEnds task_state book → WaitsIn world task task_state s ps → StopSays world task stop
 says_now clock there numbers book part (Ask request) (Asked kernel purpose) t cancelled_from ps s h world task e of tick ticking same at in_range held ends w =
-    record { purpose = purpose; task_state = e ∙ ap (λ (k : Kernel). Asked k purpose) (sym h.returned.0); part = h.returned.1 ∙ sym of }
+    record { purpose = purpose; task_state = e ∙ ap (λ (k : Kernel). Asked k purpose) (sym h.returned.0); buffer = h.returned.1 ∙ ap (λ (l : Lent). l.input) (sym of); range = h.returned.2 ∙ ap (λ (l : Lent). l.range) (sym of) }
 says_now clock there numbers book part (Ask request) _ t cancelled_from ps s h world task e of tick ticking same at in_range held ends w = absurd h.returned
 says_now clock there numbers book part (Sleep due) (Asleep paced ticks since) t cancelled_from ps (asleep p n u) h world task e of tick ticking same
     at
@@ -210,18 +210,18 @@ module _ (k : Table) (job : Job) (input : List ℕ) (t m s : ℕ) (old new : Run
         started = turn.took.started ∙ ap (λ (ts : List Task). ts ++ turn.took.tasks) x.none_left
 
     module _ (T : Turning k job input t m s old new c.numbers before after stop c.interleaving) where
-      returned : IsReturnedNow old.world.clock (c.interleaving.at s).here.clock T.took.numbers_after new.world.book before.part stop
+      returned : IsReturnedNow old.world.clock (c.interleaving.at s).here.clock T.took.numbers_after new.world.book (lent_of after) stop
           after.task_state t (cancelled_from_after c.interleaving.cancelled_from T.move.made)
           T.move.places T.stopped
       returned =
-          returned_now old.world.clock (c.interleaving.at s).here.clock T.took.numbers_after new.world.book before.part stop after.task_state t
+          returned_now old.world.clock (c.interleaving.at s).here.clock T.took.numbers_after new.world.book (lent_of after) stop after.task_state t
           (cancelled_from_after c.interleaving.cancelled_from T.move.made) T.move.places
           T.move.stopped T.stopped T.stops T.took.moves.1
           T.promise.stops
 
       now : EndsAs stop t (T.is.at s)
       now =
-          ends_now old.world.clock (c.interleaving.at s).here.clock T.took.numbers_after new.world.book before.part stop after.task_state t
+          ends_now old.world.clock (c.interleaving.at s).here.clock T.took.numbers_after new.world.book (lent_of after) stop after.task_state t
           (cancelled_from_after c.interleaving.cancelled_from T.move.made) T.move.places
           T.stopped returned (T.is.at s)
           (ap (λ (q : Started). q.rest.stopped) T.of_task)
@@ -250,10 +250,10 @@ module _ (k : Table) (job : Job) (input : List ℕ) (t m s : ℕ) (old new : Run
 
       says : StopSays new.world after stop
       says =
-          says_now old.world.clock (c.interleaving.at s).here.clock T.took.numbers_after new.world.book before.part stop after.task_state t
+          says_now old.world.clock (c.interleaving.at s).here.clock T.took.numbers_after new.world.book (lent_of after) stop after.task_state t
           (cancelled_from_after c.interleaving.cancelled_from T.move.made) T.move.places
           T.stopped returned new.world after refl
-          (ap (λ (z : Task). z.part) T.code.stays) (ap (λ (w : World). w.tick) T.code.world ∙ c.tick)
+          refl (ap (λ (w : World). w.tick) T.code.world ∙ c.tick)
           (ap (λ (w : World). w.clock) T.code.world) (sym (ap (λ (h : Here). h.clock) (c.follows s before T.code.task).here)) T.took.places
           T.code.in_range refl T.took.last waits
 

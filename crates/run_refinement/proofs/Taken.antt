@@ -1,4 +1,5 @@
 -- A turn of the code, with all that is known of it.
+use Rattle.task_machine.specs.Tasks.{lent_of}
 use Rattle.std.proofs.Common.{◌≡◌, ℕ, suc, ◌<◌, Option, Some, None, List, [], ◌∷◌, ◌++◌, length, refl, ap, ◌∙◌, subst, arith}
 use Rattle.std.specs.List.{slice_get}
 use Rattle.job_tree.specs.Tree.{Tree as Job}
@@ -96,7 +97,7 @@ turning k job input t m s old new before after wake stop settled names starting 
       code = code;
       below = less;
       fits = fits;
-      over = λ id e. settled_from before.task_state before.part old.world.book wake id code.goes.fits e;
+      over = λ id e. settled_from before.task_state (lent_of before) old.world.book wake id code.goes.fits e;
       wake = w;
       own = now.own;
       owns = refl;
@@ -153,7 +154,7 @@ turning k job input t m s old new before after wake stop settled names starting 
         (now_at_tick wake (state_of before old.world) t c.tick) f.here f.frames turn.took
 
     at_stop : (x : rest.Stopped) × (o.stopped ≡ Some x) × IsTaskState took.numbers_after new.world.book after.task_state x
-    at_stop = stop_of old.world.clock took.numbers_after new.world.book before.part stop after.task_state o took.moves
+    at_stop = stop_of old.world.clock took.numbers_after new.world.book (lent_of after) stop after.task_state o took.moves
 
     promise : TurnsOver q.stop now q.here c.interleaving.cancelled_from w q.rest q.places q.count o
     promise =

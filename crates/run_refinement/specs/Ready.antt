@@ -18,7 +18,7 @@ use Rattle.task_machine.specs.declared.world.World.{World}
 use Rattle.task_machine.specs.Events.{set_by, wait_ends}
 use Rattle.task_machine.specs.Fitting.{blocks_of, waits_of}
 use Rattle.task_machine.specs.Standing.{HasNurseryOf}
-use Rattle.task_machine.specs.Tasks.{scope_of}
+use Rattle.task_machine.specs.Tasks.{scope_of, lent_of}
 use Rattle.task_machine.specs.Waking.{WakesFrom}
 use Rattle.task_machine.specs.Worlds.{event_at}
 use Rattle.run_refinement.specs.RunState.{RunState}
@@ -43,7 +43,7 @@ IsTimely world scope task_state wake = Unit {0}
 
 -- a task may continue so, in the world's moment
 pub record MayGo (world : World) (task : Task) (wake : Wake) : Type 0 where
-  pub fits : WakesFrom task.task_state task.part world.book wake
+  pub fits : WakesFrom task.task_state (lent_of task) world.book wake
   pub timely : IsTimely world (scope_of task) task.task_state wake
 
 -- A task in that scope does not continue before moment u: it begins then or later; a sleeper is due then or later, and sees no

@@ -1,6 +1,7 @@
 -- A turn of one task of the program, as the code has it, without the definitions; and what its stop says.
 use Rattle.std.specs.Prelude.{◌≡◌, ◌≢◌, ℕ, suc, ◌+◌, ◌<◌, ◌≤◌, ◌^◌, Bool, false, Some, List, [], ◌++◌, length, slice_get}
 use Rattle.std.specs.Option.{option_map}
+use Rattle.input_lines.specs.Part.{buffer_of, range_of}
 use Rattle.exceptions.specs.Held.{exc_of}
 use Rattle.cancel_scopes.specs.Sight.{Tick, seen}
 use Rattle.cancel_scopes.specs.Tree.{outer_of}
@@ -23,7 +24,7 @@ use Rattle.task_machine.specs.declared.task.Task.{Task}
 use Rattle.task_machine.specs.declared.world.World.{World}
 use Rattle.task_machine.specs.Fitting.{Fits, waits_of}
 use Rattle.task_machine.specs.Standing.{TurnsAs}
-use Rattle.task_machine.specs.Tasks.{scope_of}
+use Rattle.task_machine.specs.Tasks.{scope_of, lent_of}
 use Rattle.task_machine.specs.Waking.{IsInRangeTaskState}
 use Rattle.task_machine.specs.Worlds.{event_at}
 use Rattle.run_refinement.specs.RunState.{RunState, Refines}
@@ -77,11 +78,12 @@ pub record TakesTurn (t m s : ℕ) (old new : RunState) (before after : Task) (w
 
 -- ---- what a stop says
 
--- a task requests that on its part
+-- a task requests that on the part that it has
 pub record Asks (task : Task) (request : Request) : Type 0 where
   pub purpose : Purpose
   pub task_state : task.task_state ≡ Asked request.kernel purpose
-  pub part : request.part ≡ task.part
+  pub buffer : buffer_of request.part ≡ (lent_of task).input
+  pub range : range_of request.part ≡ (lent_of task).range
 
 -- where a moment is a tick, a task falls asleep only if it sees nothing
 abbrev pub IsUnseen : Clock → Bool → Type 0

@@ -1,4 +1,5 @@
 -- What moves of the code do to scopes, as acts.
+use Rattle.task_machine.specs.Frames.{Lent}
 use Rattle.std.proofs.Common.{◌≡◌, ◌≢◌, ◌⊎◌, inl, inr, ◌==◌, ℕ, zero, suc, Bool, true, false, Option, Some, None, List, [], ◌∷◌, ◌++◌, refl, ap, sym, ◌∙◌, subst}
 use Rattle.std.proofs.lemmas.Bool.{eqb-true, eq-eqb}
 use Rattle.std.proofs.lemmas.List.Elements.{All-nil, All-cons, All-append, All-head, All-tail}
@@ -13,7 +14,6 @@ use Rattle.job_meaning.specs.declared.clock.Clock.{Clock}
 use Rattle.job_meaning.specs.Walk.{Here, label_over}
 use Rattle.job_meaning.specs.Rest.{Event, noted, signs, enters, starts, starts_over, Stopped, to_begin, asking, asleep, waiting_for, giving_up, awaiting, at_end}
 use Rattle.nursery_book.specs.declared.book.NurseryBook.{NurseryBook}
-use Rattle.input_lines.specs.declared.part.Part.{Part}
 use Rattle.input_lines.specs.Lines.{Span}
 use Rattle.turn_semantics.specs.Midway.{Place, label_among, Move}
 use Rattle.turn_semantics.specs.Steps.{signs_to, home_among, signs_home}
@@ -63,7 +63,7 @@ task_states_not numbers book (Awaits id since) (at_end u e) not h = absurd h
 task_states_not numbers book Over s not h = refl
 
 -- after a move that does not stop to wait for children the task waits for no nursery
-pub waits_not : (clock : Clock) (numbers : Numbers) (book : NurseryBook) (part : Part) (goes : Moved) (task_state : TaskState) (o : Move) →
+pub waits_not : (clock : Clock) (numbers : Numbers) (book : NurseryBook) (part : Lent) (goes : Moved) (task_state : TaskState) (o : Move) →
     WaitsNot o.stopped →
     MovesAs clock numbers book part goes task_state o →
     waits_by goes task_state ≡ None

@@ -66,7 +66,7 @@ blocks_onto (rest.steps_left ss ∷ fs) bs = blocks_onto fs bs
 blocks_onto (rest.in_scope fail ∷ fs) bs = blocks_onto fs (a_scope ∷ bs)
 blocks_onto (rest.in_event ∷ fs) bs = blocks_onto fs (a_scope ∷ bs)
 blocks_onto (rest.in_nursery ns ∷ fs) bs = blocks_onto fs (key_in ns ++ bs)
-blocks_onto (rest.in_repeat pass left body ∷ fs) bs = blocks_onto fs bs
+blocks_onto (rest.in_repeat pass left cuts body ∷ fs) bs = blocks_onto fs bs
 blocks_onto (rest.in_try handler cleanup ∷ fs) bs = blocks_onto fs bs
 blocks_onto (rest.in_handler others cleanup ∷ fs) bs = blocks_onto fs bs
 blocks_onto (rest.in_cleanup outcome ∷ fs) bs = blocks_onto fs bs
@@ -81,7 +81,7 @@ onto_keys (Steps steps ∷ fs) outer bs = onto_keys fs (frame_of own_keys (Steps
 onto_keys (Scope fail ∷ fs) outer bs = onto_keys fs (rest.in_scope fail ∷ outer) bs
 onto_keys (Event ∷ fs) outer bs = onto_keys fs (rest.in_event ∷ outer) bs
 onto_keys (Nursery id ∷ fs) outer bs = onto_keys fs (rest.in_nursery (id ∷ []) ∷ outer) bs
-onto_keys (Repeat pass left body ∷ fs) outer bs = onto_keys fs (frame_of own_keys (Repeat pass left body) ∷ outer) bs
+onto_keys (Repeat pass left cuts body ∷ fs) outer bs = onto_keys fs (frame_of own_keys (Repeat pass left cuts body) ∷ outer) bs
 onto_keys (Try handler cleanup ∷ fs) outer bs = onto_keys fs (frame_of own_keys (Try handler cleanup) ∷ outer) bs
 onto_keys (Handler others cleanup ∷ fs) outer bs = onto_keys fs (frame_of own_keys (Handler others cleanup) ∷ outer) bs
 onto_keys (Cleanup outcome ∷ fs) outer bs = onto_keys fs (frame_of own_keys (Cleanup outcome) ∷ outer) bs
@@ -178,22 +178,22 @@ takes_onward b u whole f exc goes popped none stays same step =
 
 -- ---- a task in a pass of a `repeat`
 
-pass_blocks : (pass left : ℕ) (body : tree.Steps) (fs : List rest.Frame) (ps : List Place) (exc : Option Exc) →
-    blocks_onto (step_pass pass left body fs ps exc).frames [] ≡ blocks_onto fs []
-pass_blocks pass left body fs ps (Some e) = refl
-pass_blocks pass zero body fs ps None = refl
-pass_blocks pass (suc k) body fs ps None = refl
+pass_blocks : (pass left : ℕ) (cuts : Option ℕ) (body : tree.Steps) (fs : List rest.Frame) (ps : List Place) (exc : Option Exc) →
+    blocks_onto (step_pass pass left cuts body fs ps exc).frames [] ≡ blocks_onto fs []
+pass_blocks pass left cuts body fs ps (Some e) = refl
+pass_blocks pass zero cuts body fs ps None = refl
+pass_blocks pass (suc k) cuts body fs ps None = refl
 
 -- a pass of the code that has ended is one step of the definitions: the next one begins, or none
-pub takes_pass : (b u : State) (whole : List Frame) (pass left : ℕ) (body : Bor tree.Steps) (exc goes : Option held.Exc) →
-    whole ≡ b.frames ++ Repeat pass left body ∷ [] → u ≡ with_frames b u.frames →
-    ((numbers : Numbers) (ps : List Place) → step_pass pass left body.now (frames_of numbers b.frames) ps (option_map exc_of exc)
+pub takes_pass : (b u : State) (whole : List Frame) (pass left : ℕ) (cuts : Option ℕ) (body : Bor tree.Steps) (exc goes : Option held.Exc) →
+    whole ≡ b.frames ++ Repeat pass left cuts body ∷ [] → u ≡ with_frames b u.frames →
+    ((numbers : Numbers) (ps : List Place) → step_pass pass left cuts body.now (frames_of numbers b.frames) ps (option_map exc_of exc)
     ≡ onward (frames_of numbers u.frames) ps (option_map exc_of goes)) →
     StepsAs (with_frames b whole) u (option_map exc_of exc) (On goes)
-takes_pass b u whole pass left body exc goes popped stays step =
-    takes_onward b u whole (Repeat pass left body) (option_map exc_of exc) goes popped refl stays
+takes_pass b u whole pass left cuts body exc goes popped stays step =
+    takes_onward b u whole (Repeat pass left cuts body) (option_map exc_of exc) goes popped refl stays
     (blocks_same b.frames u.frames (sym (ap (λ (o : Move). blocks_onto o.frames []) (step own_keys []))
-    ∙ pass_blocks pass left body.now (frames_of own_keys b.frames) [] (option_map exc_of exc)))
+    ∙ pass_blocks pass left cuts body.now (frames_of own_keys b.frames) [] (option_map exc_of exc)))
     (λ cancelled_from numbers ps count. step numbers ps)
 
 -- ---- a task in a `try`

@@ -1,4 +1,7 @@
 -- A step of the code that is one of the steps of a block, as the definitions' step: one lemma for each kind.
+use Rattle.input_lines.specs.declared.part.Part.{Part}
+use Rattle.input_lines.specs.Part.{buffer_of, range_of}
+use Rattle.input_lines.specs.Lines.{Range}
 use Rattle.std.proofs.Common.{◌≡◌, ℕ, Bool, true, false, Option, Some, None, List, [], ◌∷◌, ◌++◌, refl, ap, sym, ◌∙◌, subst}
 use Rattle.turn_semantics.specs.Lists.{IsAmong}
 use Rattle.cancel_scopes.specs.Sight.{Tick}
@@ -15,7 +18,7 @@ use Rattle.job_meaning.specs.Log.{Table}
 use Rattle.job_meaning.specs.Moments.{due}
 use Rattle.job_meaning.specs.Walk.{Here}
 use Rattle.job_meaning.specs.Rest as rest
-use Rattle.job_meaning.specs.Rest.{inside, path_in, asking}
+use Rattle.job_meaning.specs.Rest.{inside, path_in, part_in, asking}
 use Rattle.nursery_book.specs.declared.book.NurseryBook.{NurseryBook}
 use Rattle.turn_semantics.specs.Midway.{Place, label_among, Move}
 use Rattle.turn_semantics.specs.Names.{names_at, AreNew, IsNew, NewIn}
@@ -31,9 +34,9 @@ use Rattle.task_machine.specs.Frames.{frame_of, frames_of}
 use Rattle.task_machine.specs.Stacked.{AreAt, AwaitsEvent}
 use Rattle.task_machine.specs.Standing.{AtStep, before_step, HasBlock, Stands, Took, StepsAs, with_frames}
 use Rattle.task_machine.specs.Started.{StartsOne, StartsOver}
-use Rattle.task_machine.specs.States.{State, here_at, now_at, path_at, scope_at, stack_in}
+use Rattle.task_machine.specs.States.{State, here_at, now_at, path_at, scope_at, stack_in, lent_at}
 use Rattle.task_machine.specs.Stops.{Numbers, MovesAs}
-use Rattle.task_machine.proofs.FrameLemmas.{frames_pushed, path_inside}
+use Rattle.task_machine.proofs.FrameLemmas.{frames_pushed, path_inside, cuts_inside}
 use Rattle.task_machine.proofs.Acting.{WaitsElse, waits_else}
 use Rattle.task_machine.proofs.Blocks.{IsScope}
 use Rattle.task_machine.proofs.Tooks.{LeavesAlone, took_onward, took_task_states, took_sleep, took_wait, took_cancel, took_set}
@@ -65,9 +68,12 @@ module _ (b : State) (first : Step) (a : AtStep b first) where
   -- its passes
   pub inside_is : (numbers : Numbers) → inside (frames_of numbers a.outer) (here_at b) ≡ here_inside b
   inside_is numbers =
-      ap (λ (path : List ℕ). record (here_at b) { path = path })
+      ap (λ (path : List ℕ). record (here_at b) { part = part_in (buffer_of b.part) (frames_of numbers a.outer) (range_of b.part); path = path })
       (ap (λ (gs : List rest.Frame). path_in gs b.label.indices) (sym (frames_put numbers))
       ∙ path_inside numbers b.frames b.label.indices)
+      ∙ ap (λ (lent : Range). record (here_at b) { part = lent; path = path_at b })
+      (ap (λ (gs : List rest.Frame). part_in (buffer_of b.part) gs (range_of b.part)) (sym (frames_put numbers))
+      ∙ cuts_inside numbers b.frames (buffer_of b.part) (range_of b.part))
 
   -- what the definitions do for the step
   abbrev step_there : Table → Numbers → List Place → ℕ → Move
@@ -112,7 +118,7 @@ module _ (b : State) (first : Step) (a : AtStep b first) where
       u ≡ record b { task_state = u.task_state } →
       ((cancelled_from : Table) (numbers : Numbers) (book : NurseryBook) (fs : List rest.Frame) (ps : List Place) →
       AreAt b.labels b.events cancelled_from (stack_in b) ps →
-      MovesAs b.clock numbers book b.part goes u.task_state (sleeps b.clock cancelled_from false ticks b.tick fs ps)) →
+      MovesAs b.clock numbers book (lent_at b) goes u.task_state (sleeps b.clock cancelled_from false ticks b.tick fs ps)) →
       StepsAs (before_step b first a) u None goes
   takes_sleeps s u goes ticks is known stays sleep =
       takes_on u goes
@@ -134,7 +140,7 @@ module _ (b : State) (first : Step) (a : AtStep b first) where
       ((fs : List rest.Frame) (ps : List Place) → LeavesAlone (move fs ps) fs ps) →
       ((fs : List rest.Frame) (ps : List Place) → WaitsElse (move fs ps).stopped) → u ≡ record b { task_state = u.task_state } →
       ((numbers : Numbers) (book : NurseryBook) (fs : List rest.Frame) (ps : List Place) →
-      MovesAs b.clock numbers book b.part goes u.task_state (move fs ps)) →
+      MovesAs b.clock numbers book (lent_at b) goes u.task_state (move fs ps)) →
       StepsAs (before_step b first a) u None goes
   takes_alone s u goes move is known alone others stays moves =
       takes_on u goes
@@ -155,7 +161,7 @@ module _ (b : State) (first : Step) (a : AtStep b first) where
   pub takes_wait : (u : State) (goes : Moved) (name : List ℕ) → first ≡ code.Wait name → u ≡ record b { task_state = u.task_state } →
       ((cancelled_from : Table) (numbers : Numbers) (book : NurseryBook) (fs : List rest.Frame) (ps : List Place) →
       AreAt b.labels b.events cancelled_from (stack_in b) ps →
-      MovesAs b.clock numbers book b.part goes u.task_state (waits_on (label_among true name ps) name b.tick fs ps)
+      MovesAs b.clock numbers book (lent_at b) goes u.task_state (waits_on (label_among true name ps) name b.tick fs ps)
       × AwaitsEvent b.labels (stack_in b) (waits_on (label_among true name ps) name b.tick fs ps).stopped u.task_state ps) →
       StepsAs (before_step b first a) u None goes
   takes_wait u goes name is stays wait =
@@ -274,15 +280,15 @@ module _ (b : State) (first : Step) (a : AtStep b first) where
       (are : AreLoops ls) (apart : HasBlock id (blocks_of fs) → ⊥) (world : u ≡ record b { book = u.book; started = u.started })
       (in_range : AreInRange body) where
     -- one child is started; no other block of the task has the nursery
-    pub takes_start : first ≡ code.Start name None body → StartsOne b u id (label_there b name) b.part body →
-        StepsAs (before_step b first a) u None (On None)
-    takes_start is starts =
+    pub takes_start : first ≡ code.Start name None body → (part : Part) → buffer_of part ≡ buffer_of b.part → range_of part ≡ (lent_at b).range →
+        StartsOne b u id (label_there b name) part body → StepsAs (before_step b first a) u None (On None)
+    takes_start is part input_is range_is starts =
         takes_on u (On None)
         (λ cancelled_from numbers ps count stands new.
         subst (λ (o : Move). Took (before_step b first a) u (On None) cancelled_from numbers o)
         (sym (on_known (code.Start name None body) is cancelled_from numbers ps count))
         (took_start b whole fs ls a.outer id a.left u cancelled_from numbers None ps stands are within a.held blocks_put apart world name body count
-        in_range starts))
+        in_range part input_is range_is starts))
 
     -- and one for each of the cuts of its part
     pub takes_start_over : (k : ℕ) → first ≡ code.Start name (Some k) body → StartsOver b u id name k body k →
@@ -316,17 +322,17 @@ module _ (b : State) (first : Step) (a : AtStep b first) where
       ∙ ap (λ (gs : List rest.Frame). onward gs ps None) (sym (held numbers)))))
 
   -- a `repeat` of the code that begins is one step of the definitions, whether it has a pass or not
-  pub takes_repeat : (u : State) (times : ℕ) (body : tree.Steps) → first ≡ code.Repeat times body → u ≡ with_frames b u.frames →
+  pub takes_repeat : (u : State) (times : ℕ) (over : Bool) (body : tree.Steps) → first ≡ code.Repeat times over body → u ≡ with_frames b u.frames →
       blocks_of u.frames ≡ blocks_of b.frames →
-      ((numbers : Numbers) (ps : List Place) → begins_passes times body (frames_of numbers b.frames) ps
+      ((numbers : Numbers) (ps : List Place) → begins_passes times over body (frames_of numbers b.frames) ps
       ≡ onward (frames_of numbers u.frames) ps None) →
       StepsAs (before_step b first a) u None (On None)
-  takes_repeat u times body is stays blocks begins =
+  takes_repeat u times over body is stays blocks begins =
       takes_on u (On None)
       (λ cancelled_from numbers ps count stands new.
       subst (λ (v : State). Took (before_step b first a) v (On None) cancelled_from numbers
       (step_there cancelled_from numbers ps count)) (sym stays)
       (took_onward b whole cancelled_from numbers None ps stands u.frames None _ (blocks ∙ blocks_put)
-      (on_known (code.Repeat times body) is cancelled_from numbers ps count
-      ∙ ap (λ (gs : List rest.Frame). begins_passes times body gs ps) (sym (frames_put numbers))
+      (on_known (code.Repeat times over body) is cancelled_from numbers ps count
+      ∙ ap (λ (gs : List rest.Frame). begins_passes times over body gs ps) (sym (frames_put numbers))
       ∙ begins numbers ps)))

@@ -110,7 +110,8 @@ module _ (fs : List Frame) (at : ℕ) (s : Searches fs (suc at)) (f : Frame) (go
 
       by_last : (g : Frame) → l.last ≡ g → IsTrue (in_body (frame_of (λ id. []) g ∷ frames_of (λ id. []) l.before)) → Searches fs at
       by_last (Steps steps) e b = on (Steps steps) e s.are b
-      by_last (Repeat pass left body) e b = on (Repeat pass left body) e s.are b
+      by_last (Repeat pass left None body) e b = on (Repeat pass left None body) e s.are b
+      by_last (Repeat pass left (Some k) body) e b = absurd (let f : false ≡ true = b in cc)
       by_last (Nursery id) e b = absurd (none id (same ∙ e))
       by_last (Scope fail) e b = absurd (let f : false ≡ true = b in cc)
       by_last Event e b = absurd (let f : false ≡ true = b in cc)

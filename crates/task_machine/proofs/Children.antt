@@ -32,6 +32,6 @@ takes_children b u first name over body h a is world s in_range = by_over over i
     by_over : (o : Option ℕ) → first ≡ code.Start name o body → StartsAll b u s.id name o body →
         StepsAs (before_step b first a) u None (On None)
     by_over None e started =
-        takes_start b first a u s.at.outer around.loops s.id name body around.is around.are other world in_range e started
+        takes_start b first a u s.at.outer around.loops s.id name body around.is around.are other world in_range e started.0 started.1 started.2 started.3
     by_over (Some k) e started =
         takes_start_over b first a u s.at.outer around.loops s.id name body around.is around.are other world in_range k e started

@@ -1,11 +1,15 @@
 -- Frames that the code holds, the innermost last.
-use Rattle.std.proofs.Common.{◌≡◌, ℕ, List, [], ◌∷◌, ◌++◌, refl, ap, ◌∙◌}
+use Rattle.std.proofs.Common.{◌≡◌, ℕ, ◌<◌, Some, None, List, [], ◌∷◌, ◌++◌, refl, ap, ◌∙◌, arith}
+use Rattle.std.specs.Prelude.{All}
+use Rattle.std.proofs.lemmas.List.Elements.{All-nil, All-cons}
+use Rattle.input_lines.specs.Lines.{Range}
+use Rattle.job_meaning.specs.Walk.{part_in_pass}
 use Rattle.job_meaning.specs.Rest as rest
-use Rattle.job_meaning.specs.Rest.{path_in}
+use Rattle.job_meaning.specs.Rest.{path_in, part_in}
 use Rattle.task_machine.specs.declared.frame.Frame.{Frame}
 use Rattle.task_machine.specs.declared.frame.Frame.TheVariants.{Steps, Scope, Event, Nursery, Repeat, Try, Handler, Cleanup}
-use Rattle.task_machine.specs.Fitting.{Block, a_scope, a_nursery, blocks_of, block_in}
-use Rattle.task_machine.specs.Frames.{frame_of, frames_onto, frames_of, passes_onto}
+use Rattle.task_machine.specs.Fitting.{Block, a_scope, a_nursery, blocks_of, block_in, AreInRangeFrames, HasCut}
+use Rattle.task_machine.specs.Frames.{frame_of, frames_onto, frames_of, passes_onto, cuts_onto}
 
 onto_push : (children : ℕ → List ℕ) (fs : List Frame) (f : Frame) (outer : List rest.Frame) →
     frames_onto children (fs ++ f ∷ []) outer ≡ frame_of children f ∷ frames_onto children fs outer
@@ -31,7 +35,7 @@ blocks_pushed fs gs f e = ap blocks_of e ∙ by_frames fs
     by_frame (Scope fail) = refl
     by_frame Event = refl
     by_frame (Nursery id) = refl
-    by_frame (Repeat pass left body) = refl
+    by_frame (Repeat pass left cuts body) = refl
     by_frame (Try handler cleanup) = refl
     by_frame (Handler others cleanup) = refl
     by_frame (Cleanup outcome) = refl
@@ -41,7 +45,7 @@ blocks_pushed fs gs f e = ap blocks_of e ∙ by_frames fs
     block_after b (Scope fail) bs = refl
     block_after b Event bs = refl
     block_after b (Nursery id) bs = refl
-    block_after b (Repeat pass left body) bs = refl
+    block_after b (Repeat pass left cuts body) bs = refl
     block_after b (Try handler cleanup) bs = refl
     block_after b (Handler others cleanup) bs = refl
     block_after b (Cleanup outcome) bs = refl
@@ -52,7 +56,7 @@ blocks_pushed fs gs f e = ap blocks_of e ∙ by_frames fs
     by_frames (Scope fail ∷ hs) = ap (λ (bs : List Block). a_scope ∷ bs) (by_frames hs) ∙ block_after a_scope f (blocks_of hs)
     by_frames (Event ∷ hs) = ap (λ (bs : List Block). a_scope ∷ bs) (by_frames hs) ∙ block_after a_scope f (blocks_of hs)
     by_frames (Nursery id ∷ hs) = ap (λ (bs : List Block). a_nursery id ∷ bs) (by_frames hs) ∙ block_after (a_nursery id) f (blocks_of hs)
-    by_frames (Repeat pass left body ∷ hs) = by_frames hs
+    by_frames (Repeat pass left cuts body ∷ hs) = by_frames hs
     by_frames (Try handler cleanup ∷ hs) = by_frames hs
     by_frames (Handler others cleanup ∷ hs) = by_frames hs
     by_frames (Cleanup outcome ∷ hs) = by_frames hs
@@ -64,8 +68,8 @@ path_onto numbers (Steps steps ∷ fs) outer path = path_onto numbers fs (frame_
 path_onto numbers (Scope fail ∷ fs) outer path = path_onto numbers fs (frame_of numbers (Scope fail) ∷ outer) path
 path_onto numbers (Event ∷ fs) outer path = path_onto numbers fs (frame_of numbers Event ∷ outer) path
 path_onto numbers (Nursery id ∷ fs) outer path = path_onto numbers fs (frame_of numbers (Nursery id) ∷ outer) path
-path_onto numbers (Repeat pass left body ∷ fs) outer path =
-    path_onto numbers fs (frame_of numbers (Repeat pass left body) ∷ outer) path
+path_onto numbers (Repeat pass left cuts body ∷ fs) outer path =
+    path_onto numbers fs (frame_of numbers (Repeat pass left cuts body) ∷ outer) path
 path_onto numbers (Try handler cleanup ∷ fs) outer path = path_onto numbers fs (frame_of numbers (Try handler cleanup) ∷ outer) path
 path_onto numbers (Handler others cleanup ∷ fs) outer path =
     path_onto numbers fs (frame_of numbers (Handler others cleanup) ∷ outer) path
@@ -75,6 +79,55 @@ path_onto numbers (Cleanup outcome ∷ fs) outer path = path_onto numbers fs (fr
 pub path_inside : (numbers : ℕ → List ℕ) (fs : List Frame) (path : List ℕ) → path_in (frames_of numbers fs) path ≡ passes_onto fs path
 path_inside numbers fs path = path_onto numbers fs [] path
 
+cuts_inner : (numbers : ℕ → List ℕ) (fs : List Frame) (outer : List rest.Frame) (input : List ℕ) (lent : Range) →
+    part_in input (frames_onto numbers fs outer) lent ≡ cuts_onto input fs (part_in input outer lent)
+cuts_inner numbers [] outer input lent = refl
+cuts_inner numbers (Steps steps ∷ fs) outer input lent = cuts_inner numbers fs (frame_of numbers (Steps steps) ∷ outer) input lent
+cuts_inner numbers (Scope fail ∷ fs) outer input lent = cuts_inner numbers fs (frame_of numbers (Scope fail) ∷ outer) input lent
+cuts_inner numbers (Event ∷ fs) outer input lent = cuts_inner numbers fs (frame_of numbers Event ∷ outer) input lent
+cuts_inner numbers (Nursery id ∷ fs) outer input lent = cuts_inner numbers fs (frame_of numbers (Nursery id) ∷ outer) input lent
+cuts_inner numbers (Repeat pass left cuts body ∷ fs) outer input lent =
+    cuts_inner numbers fs (frame_of numbers (Repeat pass left cuts body) ∷ outer) input lent
+cuts_inner numbers (Try handler cleanup ∷ fs) outer input lent = cuts_inner numbers fs (frame_of numbers (Try handler cleanup) ∷ outer) input lent
+cuts_inner numbers (Handler others cleanup ∷ fs) outer input lent =
+    cuts_inner numbers fs (frame_of numbers (Handler others cleanup) ∷ outer) input lent
+cuts_inner numbers (Cleanup outcome ∷ fs) outer input lent = cuts_inner numbers fs (frame_of numbers (Cleanup outcome) ∷ outer) input lent
+
+-- the part inside frames that the code holds is that inside the definitions' frames
+pub cuts_inside : (numbers : ℕ → List ℕ) (fs : List Frame) (input : List ℕ) (lent : Range) →
+    part_in input (frames_of numbers fs) lent ≡ cuts_onto input fs lent
+cuts_inside numbers fs input lent = cuts_inner numbers fs [] input lent
+
+-- the part inside frames that are inside others is that of theirs
+pub cuts_append : (fs gs : List Frame) (input : List ℕ) (lent : Range) → cuts_onto input (fs ++ gs) lent ≡ cuts_onto input gs (cuts_onto input fs lent)
+cuts_append [] gs input lent = refl
+cuts_append (Steps steps ∷ fs) gs input lent = cuts_append fs gs input lent
+cuts_append (Scope fail ∷ fs) gs input lent = cuts_append fs gs input lent
+cuts_append (Event ∷ fs) gs input lent = cuts_append fs gs input lent
+cuts_append (Nursery id ∷ fs) gs input lent = cuts_append fs gs input lent
+cuts_append (Repeat pass left cuts body ∷ fs) gs input lent = cuts_append fs gs input (part_in_pass input cuts pass lent)
+cuts_append (Try handler cleanup ∷ fs) gs input lent = cuts_append fs gs input lent
+cuts_append (Handler others cleanup ∷ fs) gs input lent = cuts_append fs gs input lent
+cuts_append (Cleanup outcome ∷ fs) gs input lent = cuts_append fs gs input lent
+
+-- the frames of a task that fits have a cut for each of their passes
+pub has_cuts : (fs : List Frame) (outer : List rest.Frame) → AreInRangeFrames (frames_onto (λ id. []) fs outer) →
+    All HasCut fs × AreInRangeFrames outer
+has_cuts [] outer h = (All-nil HasCut, h)
+has_cuts (f ∷ fs) outer h =
+    let r = has_cuts fs (frame_of (λ id. []) f ∷ outer) h in let q = one f outer r.1 in (All-cons HasCut f fs q.0 r.0, q.1)
+  where
+    one : (g : Frame) (gs : List rest.Frame) → AreInRangeFrames (frame_of (λ id. []) g ∷ gs) → HasCut g × AreInRangeFrames gs
+    one (Steps steps) gs k = (tt, k.1)
+    one (Scope fail) gs k = (tt, k)
+    one Event gs k = (tt, k)
+    one (Nursery id) gs k = (tt, k)
+    one (Repeat pass left None body) gs k = (tt, k.3)
+    one (Repeat pass left (Some n) body) gs k = ((let e : pass < n = omega (arith, k.2.0) in e, k.2.1), k.3)
+    one (Try handler cleanup) gs k = (tt, k.2)
+    one (Handler others cleanup) gs k = (tt, k.1)
+    one (Cleanup outcome) gs k = (tt, k)
+
 -- the path inside frames that are inside others is their path on that of the others
 pub path_append : (fs gs : List Frame) (path : List ℕ) → passes_onto (fs ++ gs) path ≡ passes_onto gs (passes_onto fs path)
 path_append [] gs path = refl
@@ -82,7 +135,7 @@ path_append (Steps steps ∷ fs) gs path = path_append fs gs path
 path_append (Scope fail ∷ fs) gs path = path_append fs gs path
 path_append (Event ∷ fs) gs path = path_append fs gs path
 path_append (Nursery id ∷ fs) gs path = path_append fs gs path
-path_append (Repeat pass left body ∷ fs) gs path = path_append fs gs (path ++ pass ∷ [])
+path_append (Repeat pass left cuts body ∷ fs) gs path = path_append fs gs (path ++ pass ∷ [])
 path_append (Try handler cleanup ∷ fs) gs path = path_append fs gs path
 path_append (Handler others cleanup ∷ fs) gs path = path_append fs gs path
 path_append (Cleanup outcome ∷ fs) gs path = path_append fs gs path

@@ -13,7 +13,7 @@ use Rattle.task_machine.proofs.Blocks.{blocks_append}
 loops_blocks : (ls : List Frame) → AreLoops ls → blocks_of ls ≡ []
 loops_blocks [] a = refl
 loops_blocks (Steps steps ∷ ls) a = loops_blocks ls a
-loops_blocks (Repeat pass left body ∷ ls) a = loops_blocks ls a
+loops_blocks (Repeat pass left cuts body ∷ ls) a = loops_blocks ls a
 loops_blocks (_ ∷ ls) a = absurd a
 
 -- so the nursery is the innermost block
@@ -24,7 +24,7 @@ body_blocks fs ls id a =
 loops_first : (ls ms : List Frame) → AreLoops (ls ++ ms) → AreLoops ls
 loops_first [] ms a = tt
 loops_first (Steps steps ∷ ls) ms a = loops_first ls ms a
-loops_first (Repeat pass left body ∷ ls) ms a = loops_first ls ms a
+loops_first (Repeat pass left cuts body ∷ ls) ms a = loops_first ls ms a
 loops_first (_ ∷ ls) ms a = absurd a
 
 -- the frames that enclose the steps of a block are in the body of a nursery, perhaps in passes there
@@ -75,8 +75,8 @@ pub started_onto : (numbers : ℕ → List ℕ) (added : List ℕ) (ls : List Fr
     with_started added (frames_onto numbers ls gs) ≡ frames_onto numbers ls (with_started added gs)
 started_onto numbers added [] gs a = refl
 started_onto numbers added (Steps steps ∷ ls) gs a = started_onto numbers added ls (frame_of numbers (Steps steps) ∷ gs) a
-started_onto numbers added (Repeat pass left body ∷ ls) gs a =
-    started_onto numbers added ls (frame_of numbers (Repeat pass left body) ∷ gs) a
+started_onto numbers added (Repeat pass left cuts body ∷ ls) gs a =
+    started_onto numbers added ls (frame_of numbers (Repeat pass left cuts body) ∷ gs) a
 started_onto numbers added (_ ∷ ls) gs a = absurd a
 
 -- frames that are no blocks are the same, however children are numbered
@@ -84,6 +84,6 @@ pub loops_onto : (numbers more : ℕ → List ℕ) (ls : List Frame) (gs : List 
     frames_onto more ls gs ≡ frames_onto numbers ls gs
 loops_onto numbers more [] gs a = refl
 loops_onto numbers more (Steps steps ∷ ls) gs a = loops_onto numbers more ls (frame_of numbers (Steps steps) ∷ gs) a
-loops_onto numbers more (Repeat pass left body ∷ ls) gs a =
-    loops_onto numbers more ls (frame_of numbers (Repeat pass left body) ∷ gs) a
+loops_onto numbers more (Repeat pass left cuts body ∷ ls) gs a =
+    loops_onto numbers more ls (frame_of numbers (Repeat pass left cuts body) ∷ gs) a
 loops_onto numbers more (_ ∷ ls) gs a = absurd a

@@ -1,6 +1,6 @@
 -- Moves of the code, as those of the definitions.
+use Rattle.task_machine.specs.Frames.{Lent}
 use Rattle.std.proofs.Common.{◌≡◌, ℕ, zero, suc, Bool, true, false, Some, None, List, refl, sym, ◌∙◌, subst}
-use Rattle.input_lines.specs.declared.part.Part.{Part}
 use Rattle.cancel_scopes.specs.Sight.{seen}
 use Rattle.cancel_scopes.specs.Tree as scopes
 use Rattle.exceptions.specs.Exceptions.{cancelled}
@@ -46,7 +46,7 @@ module _ (clock : Clock) (labels : Labels) (events : Events) (cancelled_from : T
       (subst (λ (k : ℕ). let o = falls_asleep by_ticks false paced k t fs ps in (None ≡ o.exc) × (o.stopped ≡ None)) (sym none)
       (refl, refl)))
 
-  module _ (numbers : Numbers) (book : NurseryBook) (part : Part) (goes : Moved) (task_state : TaskState)
+  module _ (numbers : Numbers) (book : NurseryBook) (part : Lent) (goes : Moved) (task_state : TaskState)
       (stops : goes ≡ Stops (Sleep (wakes_at clock n t))) (state : task_state ≡ Asleep paced n t) where
     -- a task that sleeps stops where the definitions do, if they do
     stops_asleep : (o : Move) → MovesAs clock numbers book part (Stops (Sleep (wakes_at clock n t))) (Asleep paced n t) o →

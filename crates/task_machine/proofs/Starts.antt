@@ -4,6 +4,9 @@ use Rattle.std.proofs.lemmas.List.{append-nil}
 use Rattle.std.specs.Option.{IsSomeAnd}
 use Rattle.input_lines.specs.Part.{buffer_of, range_of}
 use Rattle.input_lines.specs.Cuts.{cut_of}
+use Rattle.input_lines.specs.Giving.{part_cut, cut_count, cuts_given, GivesCut}
+use Rattle.input_lines.specs.Lines.{Range}
+use Rattle.input_lines.specs.declared.cuts.Cuts.{Cuts}
 use Rattle.input_lines.specs.declared.part.Part.{Part}
 use Rattle.exceptions.specs.Exceptions.{Label}
 use Rattle.job_tree.specs.Tree.{Steps}
@@ -13,7 +16,7 @@ use Rattle.task_machine.specs.declared.stop.TaskState.TheVariants.{ToBegin}
 use Rattle.task_machine.specs.declared.task.Home.{Home}
 use Rattle.task_machine.specs.declared.task.Task.{Task}
 use Rattle.task_machine.specs.Started.{IsChild, running_children, home_at, begins_in, StartsOne, StartsOver}
-use Rattle.task_machine.specs.States.{State, path_at}
+use Rattle.task_machine.specs.States.{State, path_at, lent_at}
 use Rattle.task_machine.proofs.Stacked.{one_of}
 
 home_is : (id index scope len n : ℕ) → index ≡ len → scope ≡ n →
@@ -88,11 +91,22 @@ starts_none s id k name body P has = by_nursery (nursery_at s.book id) refl has
           children = refl;
         }
 
+-- the cut that an iterator over cuts returned, by the part that it cuts
+pub cut_given : (before after : Cuts) (given : Part) (input : List ℕ) (whole : Range) (k i : ℕ) → GivesCut before given after →
+    buffer_of (part_cut before) ≡ input → range_of (part_cut before) ≡ whole → cut_count before ≡ k → cuts_given before ≡ i →
+    range_of given ≡ cut_of input whole k i
+cut_given before after given input whole k i g same_input same_range many at =
+    g.range
+    ∙ ap (λ (x : List ℕ). cut_of x (range_of (part_cut before)) (cut_count before) (cuts_given before)) same_input
+    ∙ ap (λ (x : Range). cut_of input x (cut_count before) (cuts_given before)) same_range
+    ∙ ap (λ (n : ℕ). cut_of input whole n (cuts_given before)) many
+    ∙ ap (λ (n : ℕ). cut_of input whole k n) at
+
 -- with one child more, on the next cut, one more of the children over cuts is started
 pub starts_more : (s m u : State) (id k i : ℕ) (name : List ℕ) (label : Label) (part : Part) (body : Steps) →
     begins_in m ≡ begins_in s → StartsOver s m id name k body i → StartsOne m u id label part body →
     label ≡ record { name = name; indices = path_at s ++ i ∷ [] } →
-    buffer_of part ≡ buffer_of s.part → range_of part ≡ cut_of (buffer_of s.part) (range_of s.part) k i →
+    buffer_of part ≡ buffer_of s.part → range_of part ≡ cut_of (buffer_of s.part) (lent_at s).range k i →
     StartsOver s u id name k body (suc i)
 starts_more s m u id k i name label part body begins h g named input cut =
     record {

@@ -2,7 +2,6 @@
 use Rattle.std.proofs.Common.{◌≡◌, ◌⊎◌, inl, inr, ℕ, Option, Some, None, List, [], ◌∷◌, ◌++◌, append_assoc, refl, ap, ◌∙◌, sym, subst}
 use Rattle.std.specs.Prelude.{IsSome}
 use Rattle.std.specs.Option.{IsSomeAnd}
-use Rattle.input_lines.specs.declared.part.Part.{Part}
 use Rattle.exceptions.specs.declared.exc.Exc as held
 use Rattle.exceptions.specs.Exceptions.{Exc}
 use Rattle.nursery_book.specs.Nursery.{Nursery as Members}
@@ -22,7 +21,7 @@ use Rattle.task_machine.specs.declared.task.Task.{Task}
 use Rattle.task_machine.specs.declared.world.World.{World}
 use Rattle.task_machine.specs.States.{state_of}
 use Rattle.task_machine.specs.Fitting.{Block, blocks_of, waits_of, IsMine, Opened}
-use Rattle.task_machine.specs.Frames.{frame_of, frames_onto, frames_of}
+use Rattle.task_machine.specs.Frames.{frame_of, frames_onto, frames_of, Lent}
 use Rattle.task_machine.specs.Labels.{Labels}
 use Rattle.task_machine.specs.Left.{keys_in}
 use Rattle.task_machine.specs.Standing.{HasBlock, HasNurseryOf}
@@ -47,7 +46,7 @@ Keyed P now (rest.in_event ∷ fs) [] = ⊥
 Keyed P now (rest.in_event ∷ fs) (k ∷ ks) = Keyed P now fs ks
 Keyed P now (rest.in_nursery children ∷ fs) [] = ⊥
 Keyed P now (rest.in_nursery children ∷ fs) (k ∷ ks) = ((id : ℕ) × (children ≡ now id) × P id k) × Keyed P now fs ks
-Keyed P now (rest.in_repeat pass left body ∷ fs) ks = Keyed P now fs ks
+Keyed P now (rest.in_repeat pass left cuts body ∷ fs) ks = Keyed P now fs ks
 Keyed P now (rest.in_try handler cleanup ∷ fs) ks = Keyed P now fs ks
 Keyed P now (rest.in_handler others cleanup ∷ fs) ks = Keyed P now fs ks
 Keyed P now (rest.in_cleanup outcome ∷ fs) ks = Keyed P now fs ks
@@ -100,8 +99,8 @@ keyed_onto P now labels book (Nursery id ∷ fs) (o ∷ own) waits outer ks has 
     (keyed_onto P now labels book fs own waits (rest.in_nursery (now id) ∷ outer) (o.id ∷ ks)
     (λ key x i n. has key x (one_after key id (blocks_of fs) waits i) n) h.2
     ((id, refl, has id o (inl (inl refl)) (is_scope labels (λ n. n.body ≡ None) (nursery_at book id) o h.0)), k))
-keyed_onto P now labels book (Repeat pass left body ∷ fs) own waits outer ks has h k =
-    keyed_onto P now labels book fs own waits (frame_of now (Repeat pass left body) ∷ outer) ks has h k
+keyed_onto P now labels book (Repeat pass left cuts body ∷ fs) own waits outer ks has h k =
+    keyed_onto P now labels book fs own waits (frame_of now (Repeat pass left cuts body) ∷ outer) ks has h k
 keyed_onto P now labels book (Try handler cleanup ∷ fs) own waits outer ks has h k =
     keyed_onto P now labels book fs own waits (frame_of now (Try handler cleanup) ∷ outer) ks has h k
 keyed_onto P now labels book (Handler others cleanup ∷ fs) own waits outer ks has h k =
@@ -119,7 +118,7 @@ keyed_by P now labels book fs own waits ks has h = keyed_onto P now labels book 
 -- ---- how a task stopped
 
 -- a task that stopped at its end returned so
-pub returned_end : (clock : Clock) (numbers : Numbers) (book : NurseryBook) (part : Part) (stop : Stop) (task_state : TaskState) (u : ℕ)
+pub returned_end : (clock : Clock) (numbers : Numbers) (book : NurseryBook) (part : Lent) (stop : Stop) (task_state : TaskState) (u : ℕ)
     (e : Option Exc) →
     IsTaskState numbers book task_state (at_end u e) →
     IsReturned clock part stop task_state (at_end u e) → (exc : Option held.Exc) × (stop ≡ Ended exc)

@@ -1,6 +1,5 @@
 -- What a wake says of a nursery that was waited for, where the move of a stop stops, and tasks without blocks.
 use Rattle.std.proofs.Common.{◌≡◌, true, ℕ, Option, Some, None, List, [], ◌∷◌, refl, subst}
-use Rattle.input_lines.specs.declared.part.Part.{Part}
 use Rattle.job_tree.specs.Tree.{Steps}
 use Rattle.job_meaning.specs.declared.clock.Clock.{Clock}
 use Rattle.job_meaning.specs.Rest.{Stopped}
@@ -18,12 +17,12 @@ use Rattle.task_machine.specs.declared.stop.Stop.{Stop}
 use Rattle.task_machine.specs.declared.stop.Wake.{Wake}
 use Rattle.task_machine.specs.declared.stop.Wake.TheVariants.{Begin, Due, Seen, Answer, Settled}
 use Rattle.task_machine.specs.Fitting.{blocks_of, waits_of}
-use Rattle.task_machine.specs.Frames.{frame_of, frames_onto, frames_of}
+use Rattle.task_machine.specs.Frames.{frame_of, frames_onto, frames_of, Lent}
 use Rattle.task_machine.specs.Stops.{Numbers, IsTaskState, StopsAs, MovesAs}
 use Rattle.task_machine.specs.Waking.{WakesFrom}
 
 -- it is settled
-pub settled_from : (task_state : TaskState) (part : Part) (book : NurseryBook) (wake : Wake) (id : ℕ) → WakesFrom task_state part book wake →
+pub settled_from : (task_state : TaskState) (part : Lent) (book : NurseryBook) (wake : Wake) (id : ℕ) → WakesFrom task_state part book wake →
     waits_of task_state ≡ Some id →
     HasNursery book id (λ n. is_settled n ≡ true)
 settled_from (ToBegin at) part book wake id h e = absurd (let f : None ≡ Some id = e in cc)
@@ -41,7 +40,7 @@ settled_from (Awaits key since) part book Settled id h e =
 settled_from Over part book wake id h e = absurd (let f : None ≡ Some id = e in cc)
 
 -- where the move of the definitions stops
-pub stop_of : (clock : Clock) (numbers : Numbers) (book : NurseryBook) (part : Part) (stop : Stop) (task_state : TaskState) (o : Move) →
+pub stop_of : (clock : Clock) (numbers : Numbers) (book : NurseryBook) (part : Lent) (stop : Stop) (task_state : TaskState) (o : Move) →
     MovesAs clock numbers book part (Stops stop) task_state o →
     (s : Stopped) × (o.stopped ≡ Some s) × IsTaskState numbers book task_state s
 stop_of clock numbers book part stop task_state o h = by_stop o.stopped refl h.1
@@ -75,7 +74,7 @@ no_blocks_begun children (f ∷ []) body e = by_frame f e
     by_frame (frames.Scope fail) e = absurd (let g : rest.in_scope fail ≡ rest.steps_left body = cc in cc)
     by_frame frames.Event e = absurd (let g : rest.in_event ≡ rest.steps_left body = cc in cc)
     by_frame (frames.Nursery id) e = absurd (let g : rest.in_nursery (children id) ≡ rest.steps_left body = cc in cc)
-    by_frame (frames.Repeat pass left body) e = refl
+    by_frame (frames.Repeat pass left cuts body) e = refl
     by_frame (frames.Try handler cleanup) e = refl
     by_frame (frames.Handler others cleanup) e = refl
     by_frame (frames.Cleanup outcome) e = refl

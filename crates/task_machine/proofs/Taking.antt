@@ -36,11 +36,11 @@ use Rattle.task_machine.specs.declared.stop.Moved.TheVariants.{On, Stops}
 use Rattle.task_machine.specs.declared.task.Task.{Task}
 use Rattle.task_machine.specs.Acts.{Acts, no_act, scoping_in}
 use Rattle.task_machine.specs.Fitting.{Block, blocks_of}
-use Rattle.task_machine.specs.Frames.{frames_of}
+use Rattle.task_machine.specs.Frames.{frames_of, Lent}
 use Rattle.task_machine.specs.Stacked.{AreAt}
 use Rattle.task_machine.specs.Standing.{HasBlock, HasNurseryOf, waits_by, Stands, IsBegun, AreBegun, BeginsAt, Grown, Grow, IsOfOther, EndsBy, Owns, Covers, ChangesNurseries, Took, midway_at}
-use Rattle.task_machine.specs.Stops.{Numbers, StopsAs, MovesAs, OwnAfter}
-use Rattle.task_machine.specs.States.{State, stack_in}
+use Rattle.task_machine.specs.Stops.{Numbers, MovesAs, OwnAfter}
+use Rattle.task_machine.specs.States.{State, stack_in, lent_at}
 use Rattle.task_machine.proofs.Acting.{has_or_not, acts_append, acts_stay}
 use Rattle.task_machine.proofs.Begins.{begins_more, begins_last}
 use Rattle.task_machine.proofs.Cancelled.{own_on, own_then}
@@ -287,13 +287,12 @@ all_begun_on clock begins at gs between after mid new blocks waits grow kept (t 
 )
 
 -- how the second of two moves continues is how both do
-moves_then : (clock : Clock) (numbers : Numbers) (book : NurseryBook) (was part : Part) (goes : Moved) (task_state : TaskState)
-    (o q : Move) → part ≡ was →
-    MovesAs clock numbers book part goes task_state q →
-    MovesAs clock numbers book was goes task_state (then_move None o q)
-moves_then clock numbers book was part (On exc) task_state o q e h = h
-moves_then clock numbers book was part (Stops stop) task_state o q e h =
-    (h.0, subst (λ (p : Part). StopsAs clock numbers book p stop task_state q.stopped) e h.1)
+moves_then : (clock : Clock) (numbers : Numbers) (book : NurseryBook) (lent : Lent) (goes : Moved) (task_state : TaskState)
+    (o q : Move) →
+    MovesAs clock numbers book lent goes task_state q →
+    MovesAs clock numbers book lent goes task_state (then_move None o q)
+moves_then clock numbers book lent (On exc) task_state o q h = h
+moves_then clock numbers book lent (Stops stop) task_state o q h = h
 
 -- what two moves do to nurseries, one after the other
 module _ (s m u : State) (waits : Option ℕ) (was between are : Numbers) (ts us : List Task) (bs cs : List Begun) (made : List Event)
@@ -396,8 +395,8 @@ took_both s m u exc goes cancelled_from numbers o q first second part clock tick
     places = subst (λ (f : Table). AreAt u.labels u.events f (stack_in u) q.places) (sym (cancelled_from_append o.made q.made cancelled_from)) second.places;
     event = second.event;
     moves =
-        moves_then s.clock second.numbers_after u.book s.part m.part goes u.task_state o q part
-        (subst (λ (c : Clock). MovesAs c second.numbers_after u.book m.part goes u.task_state q) clock second.moves);
+        moves_then s.clock second.numbers_after u.book (lent_at u) goes u.task_state o q
+        (subst (λ (c : Clock). MovesAs c second.numbers_after u.book (lent_at u) goes u.task_state q) clock second.moves);
     entries = first.entries ++ second.entries;
     noted = grew_twice s.entries m.entries u.entries first.entries second.entries first.noted second.noted;
     shown = noted_append s.clock (buffer_of s.part) first.entries second.entries o.made q.made first.shown

@@ -3,15 +3,15 @@ use Rattle.std.proofs.Common.{◌≡◌, ◌≢◌, ◌<◌, ℕ, zero, suc, ◌
 use Rattle.std.proofs.Math.Nat.{suc-mul}
 use Rattle.std.proofs.lemmas.List.{length-set}
 use Rattle.std.proofs.lemmas.Option.{none-some}
-use Rattle.std.specs.Prelude.{IsSome}
+use Rattle.std.specs.Prelude.{IsSome, is_some, All}
 use Rattle.std.specs.Option.{IsSomeAnd, option_map}
 use Rattle.std.specs.List.{last_or}
 use Rattle.cancel_scopes.specs.Sight.{Tick}
 use Rattle.cancel_scopes.specs.Tree.{Tree, IsChain, IsOwn, IsApart}
 use Rattle.job_meaning.specs.Rest as rest
 use Rattle.job_tree.specs.declared.limits.TheConstants.{MAX_PASSES}
-use Rattle.job_tree.specs.InRange.{AreInRange, IsInRangeHandler, IsInRangeCleanup}
-use Rattle.job_tree.specs.Starting.{StartsIn, HandlerStarts, CleanupStarts}
+use Rattle.job_tree.specs.InRange.{AreInRange, IsInRangeHandler, IsInRangeCleanup, IsInRangePasses}
+use Rattle.job_tree.specs.Starting.{StartsIn, HandlerStarts, CleanupStarts, starts_in_pass}
 use Rattle.job_tree.specs.Tree.{Steps}
 use Rattle.job_tree.specs.Tree as tree
 use Rattle.exceptions.specs.Split.{named, keep, drop}
@@ -33,17 +33,17 @@ use Rattle.task_machine.specs.declared.task.Home.{Home}
 use Rattle.task_machine.specs.declared.task.Own.{Own}
 use Rattle.task_machine.specs.Acts.{Enters, Leaves, scoping_in}
 use Rattle.task_machine.specs.Entered.{EntersBlock, EntersNursery}
-use Rattle.task_machine.specs.Fitting.{Block, a_scope, a_nursery, blocks_of, IsMine, Opened, AreInRangeFrames, StartsFit, IsBlockOf, SameKeys, FitsIn, Fits, waits_of}
+use Rattle.task_machine.specs.Fitting.{Block, a_scope, a_nursery, blocks_of, IsMine, Opened, AreInRangeFrames, StartsFit, IsBlockOf, SameKeys, FitsIn, Fits, waits_of, AreInRangeCuts, HasCut}
 use Rattle.task_machine.specs.Frames.{frame_of, frames_of}
 use Rattle.task_machine.specs.Labels.{Labels}
 use Rattle.task_machine.specs.Left.{OwnFirst}
 use Rattle.task_machine.specs.Standing.{with_frames}
-use Rattle.task_machine.specs.States.{State, scope_at}
+use Rattle.task_machine.specs.States.{State, scope_at, lent_at}
 use Rattle.task_machine.specs.Waking.{WakesFrom}
 use Rattle.task_machine.proofs.Fits.{Ready, fits_frames}
 use Rattle.task_machine.proofs.Blocks.{blocks_append, IsScope, scope_block, range_inner, starts_inner}
 use Rattle.task_machine.proofs.Bodies.{body_block}
-use Rattle.task_machine.proofs.FrameLemmas.{frames_push}
+use Rattle.task_machine.proofs.FrameLemmas.{frames_push, has_cuts}
 use Rattle.task_machine.proofs.Kept.{fits_signed, fits_entered, fits_left, fits_awaits}
 use Rattle.task_machine.proofs.Leaves.{top_of}
 use Rattle.task_machine.proofs.OwnLemmas.{ids, last_pushed}
@@ -64,11 +64,11 @@ home_in s = option_map (λ (h : Home). h.scope) s.home
 -- ---- a scope that is left
 
 -- a task whose nursery is settled may leave its scope
-pub ready_awaits : (s : State) (id since : ℕ) → Laws s.tree → s.task_state ≡ Awaits id since → WakesFrom s.task_state s.part s.book Settled →
+pub ready_awaits : (s : State) (id since : ℕ) → Laws s.tree → s.task_state ≡ Awaits id since → WakesFrom s.task_state (lent_at s) s.book Settled →
     Fits s (waits_of s.task_state) → Ready (home_in s) s.own s.tree s.labels
 ready_awaits s id since laws is wake h =
     ready_settled s.frames id s.part (home_in s) s.own (length s.cancelled_from) s.tree s.labels s.book laws.chain laws.own laws.apart
-    (subst (λ (x : TaskState). WakesFrom x s.part s.book Settled) is wake) (subst (λ (x : TaskState). Fits s (waits_of x)) is h)
+    (subst (λ (x : TaskState). WakesFrom x (lent_at s) s.book Settled) is wake) (subst (λ (x : TaskState). Fits s (waits_of x)) is h)
 
 -- as many moments of cancellation as before
 same_cancelled_from : (s u : State) (l : Leaves (scoping_in s) (scoping_in u)) → length u.cancelled_from ≡ length s.cancelled_from
@@ -76,7 +76,7 @@ same_cancelled_from s u l = ap (λ (fs : List ScopeFrom). length fs) l.cancelled
 
 -- what holds of a task is kept when the nursery that it waited for is closed and its scope is left
 pub settled_fits : (s u : State) (book : NurseryBook) (id since : ℕ) → Laws s.tree → s.task_state ≡ Awaits id since →
-    WakesFrom s.task_state s.part s.book Settled → Fits s (waits_of s.task_state) → Updates s.book book id None →
+    WakesFrom s.task_state (lent_at s) s.book Settled → Fits s (waits_of s.task_state) → Updates s.book book id None →
     (l : Leaves (scoping_in s) (scoping_in u)) → OwnFirst u.tree (home_in s) u.own →
     u ≡ record s { own = u.own; cancelled_from = u.cancelled_from; entries = u.entries; tree = u.tree; labels = u.labels; events = u.events; book = book } → Fits u None
 settled_fits s u book id since laws is wake h ended l first stays =
@@ -85,7 +85,7 @@ settled_fits s u book id since laws is wake h ended l first stays =
     (fits_settled s.frames id s.part (home_in s) u.own l.scope (length s.cancelled_from) s.tree u.tree s.labels u.labels s.book book
     laws.chain laws.own laws.apart
     (top_of s.tree laws.chain laws.own (home_in s) s.own u.own l.scope l.taken (waits.runs.scope l.scope.id last) waits.runs.first last) l.closed
-    l.others l.unlabelled first (subst (λ (x : TaskState). WakesFrom x s.part s.book Settled) is wake) ended
+    l.others l.unlabelled first (subst (λ (x : TaskState). WakesFrom x (lent_at s) s.book Settled) is wake) ended
     (subst (λ (own : List Own). FitsIn s.frames s.part (home_in s) own (length s.cancelled_from) s.tree s.labels s.book (Some id)) l.taken waits)))
   where
     waits : Fits s (Some id)
@@ -284,61 +284,76 @@ popped_body labels book fs id own h =
 
 -- ---- a `repeat`
 
-passes_in_range : (count : ℕ) (body : Steps) (fs : List rest.Frame) (ps : List Place) → count ≤ MAX_PASSES → AreInRange body →
-    AreInRangeFrames fs → AreInRangeFrames (begins_passes count body fs ps).frames
-passes_in_range zero body fs ps few b m = m
-passes_in_range (suc k) body fs ps few b m = (b, (b, (let e : 0 + k ≤ MAX_PASSES = omega (arith, few) in e), m))
+-- a task that fits has a cut for each of its passes
+pub cuts_fit : (s : State) (waits : Option ℕ) → Fits s waits → All HasCut s.frames
+cuts_fit s waits fits = (has_cuts s.frames [] fits.runs.in_range).0
 
-passes_starts : (count : ℕ) (body : Steps) (fs : List rest.Frame) (ps : List Place) → StartsIn (in_body fs) body → StartsFit fs →
-    StartsFit (begins_passes count body fs ps).frames
-passes_starts zero body fs ps b m = m
-passes_starts (suc k) body fs ps b m = (b, (b, m))
+passes_in_range : (count : ℕ) (over : Bool) (body : Steps) (fs : List rest.Frame) (ps : List Place) → IsInRangePasses over count → AreInRange body →
+    AreInRangeFrames fs → AreInRangeFrames (begins_passes count over body fs ps).frames
+passes_in_range zero over body fs ps few b m = m
+passes_in_range (suc k) false body fs ps few b m = (b, (b, (let e : 0 + k ≤ MAX_PASSES = omega (arith, few) in e), tt, m))
+passes_in_range (suc k) true body fs ps few b m =
+    let e : 0 + k ≤ MAX_PASSES = omega (arith, few.1) in
+    let l : 0 + k < suc k = omega arith in
+    (b, (b, e, (l, few.1), m))
 
-passes_shorter : (count : ℕ) (body : Steps) (fs : List rest.Frame) (ps : List Place) →
-    frames_length (begins_passes count body fs ps).frames < 1 + count * (1 + turn_length body) + frames_length fs
-passes_shorter zero body fs ps = omega arith
-passes_shorter (suc k) body fs ps = let e = suc-mul k (1 + turn_length body) in omega (arith, e)
+passes_starts : (count : ℕ) (over : Bool) (body : Steps) (fs : List rest.Frame) (ps : List Place) →
+    StartsIn (starts_in_pass over (in_body fs)) body → StartsFit fs → StartsFit (begins_passes count over body fs ps).frames
+passes_starts zero over body fs ps b m = m
+passes_starts (suc k) false body fs ps b m = (b, (b, m))
+passes_starts (suc k) true body fs ps b m = (b, (b, m))
+
+passes_shorter : (count : ℕ) (over : Bool) (body : Steps) (fs : List rest.Frame) (ps : List Place) →
+    frames_length (begins_passes count over body fs ps).frames < 1 + count * (1 + turn_length body) + frames_length fs
+passes_shorter zero over body fs ps = omega arith
+passes_shorter (suc k) over body fs ps = let e = suc-mul k (1 + turn_length body) in omega (arith, e)
 
 -- a `repeat` has begun: the task still fits
-pub repeat_fits : (count : ℕ) (body : Steps) (s u : State) → Fits s None → count ≤ MAX_PASSES → AreInRange body →
-    StartsIn (in_body (frames_of (λ id. []) s.frames)) body →
+pub repeat_fits : (count : ℕ) (over : Bool) (body : Steps) (s u : State) → Fits s None → IsInRangePasses over count → AreInRange body →
+    StartsIn (starts_in_pass over (in_body (frames_of (λ id. []) s.frames))) body →
     blocks_of u.frames ≡ blocks_of s.frames →
-    begins_passes count body (frames_of (λ id. []) s.frames) [] ≡ onward (frames_of (λ id. []) u.frames) [] None →
+    begins_passes count over body (frames_of (λ id. []) s.frames) [] ≡ onward (frames_of (λ id. []) u.frames) [] None →
     u ≡ with_frames s u.frames → Fits u None
-repeat_fits count body s u fits few b starts blocks step stays =
+repeat_fits count over body s u fits few b starts blocks step stays =
     frames_fit s s.frames u fits blocks
     (subst AreInRangeFrames (ap (λ (o : Move). o.frames) step)
-    (passes_in_range count body (frames_of (λ id. []) s.frames) [] few b fits.runs.in_range))
+    (passes_in_range count over body (frames_of (λ id. []) s.frames) [] few b fits.runs.in_range))
     (subst StartsFit (ap (λ (o : Move). o.frames) step)
-    (passes_starts count body (frames_of (λ id. []) s.frames) [] starts fits.runs.starts)) stays
+    (passes_starts count over body (frames_of (λ id. []) s.frames) [] starts fits.runs.starts)) stays
 
 -- a `repeat` that has begun has fewer steps left than its step had
-pub repeat_length : (count : ℕ) (body : Steps) (fs gs : List Frame) →
-    begins_passes count body (frames_of (λ id. []) fs) [] ≡ onward (frames_of (λ id. []) gs) [] None →
+pub repeat_length : (count : ℕ) (over : Bool) (body : Steps) (fs gs : List Frame) →
+    begins_passes count over body (frames_of (λ id. []) fs) [] ≡ onward (frames_of (λ id. []) gs) [] None →
     frames_length (frames_of (λ id. []) gs) < 1 + count * (1 + turn_length body) + frames_length (frames_of (λ id. []) fs)
-repeat_length count body fs gs step =
-    let e = passes_shorter count body (frames_of (λ id. []) fs) [] in
+repeat_length count over body fs gs step =
+    let e = passes_shorter count over body (frames_of (λ id. []) fs) [] in
     let f = ap (λ (o : Move). frames_length o.frames) step in
     omega (arith, e, f)
 
-pass_in_range : (pass left : ℕ) (body : Steps) (fs : List rest.Frame) (ps : List Place) (exc : Option Exc) → AreInRange body →
-    pass + left ≤ MAX_PASSES → AreInRangeFrames fs → AreInRangeFrames (step_pass pass left body fs ps exc).frames
-pass_in_range pass left body fs ps (Some e) b few m = m
-pass_in_range pass zero body fs ps None b few m = m
-pass_in_range pass (suc k) body fs ps None b few m = (b, (b, (let e : suc pass + k ≤ MAX_PASSES = omega (arith, few) in e), m))
+next_cuts : (pass k : ℕ) (cuts : Option ℕ) → AreInRangeCuts (pass + suc k) cuts → AreInRangeCuts (suc pass + k) cuts
+next_cuts pass k None h = tt
+next_cuts pass k (Some n) h = (let e : suc pass + k < n = omega (arith, h.0) in e, h.1)
 
-pass_starts : (pass left : ℕ) (body : Steps) (fs : List rest.Frame) (ps : List Place) (exc : Option Exc) →
-    StartsIn (in_body fs) body → StartsFit fs → StartsFit (step_pass pass left body fs ps exc).frames
-pass_starts pass left body fs ps (Some e) b m = m
-pass_starts pass zero body fs ps None b m = m
-pass_starts pass (suc k) body fs ps None b m = (b, (b, m))
+pass_in_range : (pass left : ℕ) (cuts : Option ℕ) (body : Steps) (fs : List rest.Frame) (ps : List Place) (exc : Option Exc) → AreInRange body →
+    pass + left ≤ MAX_PASSES → AreInRangeCuts (pass + left) cuts → AreInRangeFrames fs →
+    AreInRangeFrames (step_pass pass left cuts body fs ps exc).frames
+pass_in_range pass left cuts body fs ps (Some e) b few enough m = m
+pass_in_range pass zero cuts body fs ps None b few enough m = m
+pass_in_range pass (suc k) cuts body fs ps None b few enough m =
+    (b, (b, (let e : suc pass + k ≤ MAX_PASSES = omega (arith, few) in e), next_cuts pass k cuts enough, m))
+
+pass_starts : (pass left : ℕ) (cuts : Option ℕ) (body : Steps) (fs : List rest.Frame) (ps : List Place) (exc : Option Exc) →
+    StartsIn (starts_in_pass (is_some cuts) (in_body fs)) body → StartsFit fs → StartsFit (step_pass pass left cuts body fs ps exc).frames
+pass_starts pass left cuts body fs ps (Some e) b m = m
+pass_starts pass zero cuts body fs ps None b m = m
+pass_starts pass (suc k) cuts body fs ps None b m = (b, (b, m))
 
 -- a pass that has ended leaves fewer steps
-pub pass_shorter : (pass left : ℕ) (body : Steps) (fs : List rest.Frame) (ps : List Place) (exc : Option Exc) →
-    frames_length (step_pass pass left body fs ps exc).frames < frames_length (rest.in_repeat pass left body ∷ fs)
-pass_shorter pass left body fs ps (Some e) = omega arith
-pass_shorter pass zero body fs ps None = omega arith
-pass_shorter pass (suc k) body fs ps None = let e = suc-mul k (1 + turn_length body) in omega (arith, e)
+pub pass_shorter : (pass left : ℕ) (cuts : Option ℕ) (body : Steps) (fs : List rest.Frame) (ps : List Place) (exc : Option Exc) →
+    frames_length (step_pass pass left cuts body fs ps exc).frames < frames_length (rest.in_repeat pass left cuts body ∷ fs)
+pass_shorter pass left cuts body fs ps (Some e) = omega arith
+pass_shorter pass zero cuts body fs ps None = omega arith
+pass_shorter pass (suc k) cuts body fs ps None = let e = suc-mul k (1 + turn_length body) in omega (arith, e)
 
 -- a frame that is no block has ended, and the task continues where the definitions do, with frames that can run: it still fits
 stepped_fits : (s u : State) (f : Frame) (o : Move) (exc : Option Exc) → blocks_of (f ∷ []) ≡ [] →
@@ -349,19 +364,19 @@ stepped_fits s u f o exc none h step in_range starts blocks stays =
     (subst AreInRangeFrames (ap (λ (x : Move). x.frames) step) in_range) (subst StartsFit (ap (λ (x : Move). x.frames) step) starts) stays
 
 -- a pass of a `repeat` has ended: the task still fits
-pub passed_fits : (pass left : ℕ) (body : Steps) (s u : State) (f : Frame) (exc after_exc : Option Exc) → blocks_of (f ∷ []) ≡ [] →
-    frame_of (λ id. []) f ≡ rest.in_repeat pass left body → Fits (with_frames s (s.frames ++ f ∷ [])) None →
-    step_pass pass left body (frames_of (λ id. []) s.frames) [] exc ≡ onward (frames_of (λ id. []) u.frames) [] after_exc →
+pub passed_fits : (pass left : ℕ) (cuts : Option ℕ) (body : Steps) (s u : State) (f : Frame) (exc after_exc : Option Exc) → blocks_of (f ∷ []) ≡ [] →
+    frame_of (λ id. []) f ≡ rest.in_repeat pass left cuts body → Fits (with_frames s (s.frames ++ f ∷ [])) None →
+    step_pass pass left cuts body (frames_of (λ id. []) s.frames) [] exc ≡ onward (frames_of (λ id. []) u.frames) [] after_exc →
     blocks_of u.frames ≡ blocks_of s.frames → u ≡ with_frames s u.frames → Fits u None
-passed_fits pass left body s u f exc after_exc none is fits step blocks stays =
-    stepped_fits s u f (step_pass pass left body (frames_of (λ id. []) s.frames) [] exc) after_exc none fits step
-    (pass_in_range pass left body (frames_of (λ id. []) s.frames) [] exc in_range.0 in_range.1 in_range.2)
-    (pass_starts pass left body (frames_of (λ id. []) s.frames) [] exc starts.0 starts.1) blocks stays
+passed_fits pass left cuts body s u f exc after_exc none is fits step blocks stays =
+    stepped_fits s u f (step_pass pass left cuts body (frames_of (λ id. []) s.frames) [] exc) after_exc none fits step
+    (pass_in_range pass left cuts body (frames_of (λ id. []) s.frames) [] exc in_range.0 in_range.1 in_range.2 in_range.3)
+    (pass_starts pass left cuts body (frames_of (λ id. []) s.frames) [] exc starts.0 starts.1) blocks stays
   where
-    in_range : AreInRangeFrames (rest.in_repeat pass left body ∷ frames_of (λ id. []) s.frames)
+    in_range : AreInRangeFrames (rest.in_repeat pass left cuts body ∷ frames_of (λ id. []) s.frames)
     in_range = subst (λ (x : rest.Frame). AreInRangeFrames (x ∷ frames_of (λ id. []) s.frames)) is (in_range_with s f fits)
 
-    starts : StartsFit (rest.in_repeat pass left body ∷ frames_of (λ id. []) s.frames)
+    starts : StartsFit (rest.in_repeat pass left cuts body ∷ frames_of (λ id. []) s.frames)
     starts = subst (λ (x : rest.Frame). StartsFit (x ∷ frames_of (λ id. []) s.frames)) is (starts_with s f fits)
 
 -- ---- a `try`

@@ -38,12 +38,12 @@ use Rattle.task_machine.specs.Acts.{Acts, Leaves, scoping_in}
 use Rattle.task_machine.specs.Entered.{CancelsAt, SetsAt}
 use Rattle.task_machine.specs.Exits.{ExitsFrom, ExitsAt, LeavesEventAt, FailsAt}
 use Rattle.task_machine.specs.Fitting.{Block, a_scope, a_nursery, blocks_of}
-use Rattle.task_machine.specs.Frames.{frames_of}
+use Rattle.task_machine.specs.Frames.{frames_of, lent_by}
 use Rattle.task_machine.specs.Noted.{IsSlice, shown_made, AreNoted}
 use Rattle.task_machine.specs.Labels.{Events, scope_named}
 use Rattle.task_machine.specs.Stacked.{AreAt, AwaitsEvent}
 use Rattle.task_machine.specs.Standing.{HasBlock, HasNurseryOf, waits_by, Stands, AreBegun, ChangesNurseries, Took, with_frames}
-use Rattle.task_machine.specs.States.{State, here_at, now_at, scope_at, stack_in}
+use Rattle.task_machine.specs.States.{State, here_at, now_at, scope_at, stack_in, lent_at}
 use Rattle.task_machine.specs.Stops.{Numbers, MovesAs, OwnAfter}
 use Rattle.task_machine.proofs.Acting.{WaitsNot, waits_not, WaitsElse, waits_else, no_acts, found_signed, home_signed, found_set, closed_acts, left_acts}
 use Rattle.task_machine.proofs.Cancelled.{own_same, own_signed, ends_none}
@@ -146,7 +146,7 @@ module _ (b : State) (whole : List Frame) (cancelled_from : Table) (numbers : Nu
   pub took_quiet : (u : State) (goes : Moved) (o : Move) (entries : List Entry) → IsQuiet b whole u entries →
       AreNoted b.clock (buffer_of b.part) entries o.made → o.begun ≡ [] → frames_of numbers u.frames ≡ o.frames →
       AreAt u.labels u.events (cancelled_from_after cancelled_from o.made) (stack_in u) o.places →
-      AwaitsEvent u.labels (stack_in u) o.stopped u.task_state o.places → MovesAs b.clock numbers u.book b.part goes u.task_state o →
+      AwaitsEvent u.labels (stack_in u) o.stopped u.task_state o.places → MovesAs b.clock numbers u.book (lent_at u) goes u.task_state o →
       waits_by goes u.task_state ≡ None → Acts b.tick (scoping_in b) o.made (scoping_in u) →
       OwnAfter b.clock b.cancelled u.cancelled o.made o.stopped →
       Took (with_frames b whole) u goes cancelled_from numbers o
@@ -178,14 +178,14 @@ module _ (b : State) (whole : List Frame) (cancelled_from : Table) (numbers : Nu
   -- the task stops, or continues, with other frames of the same blocks and another blocked state
   pub took_task_states : (fs : List Frame) (h : TaskState) (goes : Moved) (o : Move) → blocks_of fs ≡ blocks_of whole →
       o.frames ≡ frames_of numbers fs → o.places ≡ ps → o.made ≡ [] → o.begun ≡ [] → WaitsNot o.stopped →
-      MovesAs b.clock numbers b.book b.part goes h o → AwaitsEvent b.labels (stack_in b) o.stopped h o.places →
+      MovesAs b.clock numbers b.book (lent_by b.part fs) goes h o → AwaitsEvent b.labels (stack_in b) o.stopped h o.places →
       Took (with_frames b whole) (record b { frames = fs; task_state = h }) goes cancelled_from numbers o
   took_task_states fs h goes o same gs around made none not moves event =
       let u : State = record b { frames = fs; task_state = h } in
       took_quiet u goes o [] (quiet_by b whole u refl refl refl same)
       (none_noted b.clock (buffer_of b.part) o.made (ap (λ (es : List rest.Event). shown_made b.clock (buffer_of b.part) es) made)) none
       (sym gs) at event moves
-      (waits_not b.clock numbers b.book b.part goes h o not moves) (no_acts b.tick (scoping_in b) (scoping_in b) o.made made refl)
+      (waits_not b.clock numbers b.book (lent_by b.part fs) goes h o not moves) (no_acts b.tick (scoping_in b) (scoping_in b) o.made made refl)
       (own_same b.clock b.cancelled b.cancelled o.made o.stopped made refl)
     where
       at : AreAt b.labels b.events (cancelled_from_after cancelled_from o.made) (stack_in b) o.places
@@ -205,7 +205,7 @@ module _ (b : State) (whole : List Frame) (cancelled_from : Table) (numbers : Nu
   -- a task that stops or continues as the sleep of the definitions does makes that move
   pub took_sleep : (h : TaskState) (goes : Moved) (paced : Bool) (ticks : ℕ) → blocks_of b.frames ≡ blocks_of whole →
       (AreAt b.labels b.events cancelled_from (stack_in b) ps →
-      MovesAs b.clock numbers b.book b.part goes h (sleeps b.clock cancelled_from paced ticks b.tick (frames_of numbers b.frames) ps)) →
+      MovesAs b.clock numbers b.book (lent_at b) goes h (sleeps b.clock cancelled_from paced ticks b.tick (frames_of numbers b.frames) ps)) →
       Took (with_frames b whole) (record b { task_state = h }) goes cancelled_from numbers
       (sleeps b.clock cancelled_from paced ticks b.tick (frames_of numbers b.frames) ps)
   took_sleep h goes paced ticks same sleep =
@@ -220,7 +220,7 @@ module _ (b : State) (whole : List Frame) (cancelled_from : Table) (numbers : Nu
   -- a task that stops or continues as the wait of the definitions does makes that move
   pub took_wait : (h : TaskState) (goes : Moved) (name : List ℕ) → blocks_of b.frames ≡ blocks_of whole →
       (AreAt b.labels b.events cancelled_from (stack_in b) ps →
-      MovesAs b.clock numbers b.book b.part goes h (waits_on (label_among true name ps) name b.tick (frames_of numbers b.frames) ps)
+      MovesAs b.clock numbers b.book (lent_at b) goes h (waits_on (label_among true name ps) name b.tick (frames_of numbers b.frames) ps)
       × AwaitsEvent b.labels (stack_in b) (waits_on (label_among true name ps) name b.tick (frames_of numbers b.frames) ps).stopped h ps) →
       Took (with_frames b whole) (record b { task_state = h }) goes cancelled_from numbers
       (waits_on (label_among true name ps) name b.tick (frames_of numbers b.frames) ps)

@@ -42,7 +42,7 @@ block_frame numbers (Steps steps) body e = ap (λ (ss : tree.Steps). rest.steps_
 block_frame numbers (Scope fail) body e = absurd e
 block_frame numbers Event body e = absurd e
 block_frame numbers (Nursery id) body e = absurd e
-block_frame numbers (Repeat pass left block) body e = absurd e
+block_frame numbers (Repeat pass left cuts block) body e = absurd e
 block_frame numbers (Try handler cleanup) body e = absurd e
 block_frame numbers (Handler others cleanup) body e = absurd e
 block_frame numbers (Cleanup outcome) body e = absurd e
@@ -52,7 +52,7 @@ no_block (Steps steps) body e = refl
 no_block (Scope fail) body e = absurd e
 no_block Event body e = absurd e
 no_block (Nursery id) body e = absurd e
-no_block (Repeat pass left block) body e = absurd e
+no_block (Repeat pass left cuts block) body e = absurd e
 no_block (Try handler cleanup) body e = absurd e
 no_block (Handler others cleanup) body e = absurd e
 no_block (Cleanup outcome) body e = absurd e
@@ -108,8 +108,8 @@ onto_others numbers more (Nursery id ∷ fs) outer same =
     ap (λ (ns : List ℕ). frames_onto more fs (rest.in_nursery ns ∷ outer)) (same id (inl refl))
     ∙ onto_others numbers more fs (rest.in_nursery (numbers id) ∷ outer)
     (λ key h. same key (inr h))
-onto_others numbers more (Repeat pass left body ∷ fs) outer same =
-    onto_others numbers more fs (frame_of numbers (Repeat pass left body) ∷ outer) same
+onto_others numbers more (Repeat pass left cuts body ∷ fs) outer same =
+    onto_others numbers more fs (frame_of numbers (Repeat pass left cuts body) ∷ outer) same
 onto_others numbers more (Try handler cleanup ∷ fs) outer same =
     onto_others numbers more fs (frame_of numbers (Try handler cleanup) ∷ outer) same
 onto_others numbers more (Handler others cleanup ∷ fs) outer same =

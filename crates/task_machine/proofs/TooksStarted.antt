@@ -1,4 +1,5 @@
 -- A task that starts children in the nursery whose body it is in, as a move of the definitions.
+use Rattle.input_lines.specs.declared.part.Part.{Part}
 use Rattle.std.proofs.Common.{◌≡◌, ◌⊎◌, inl, inr, ◌==◌, ℕ, zero, suc, ◌+◌, ◌<◌, ◌≤◌, nat_lt, Bool, true, false, Option, Some, None, List, [], ◌∷◌, ◌++◌, length, length-append, refl, ap, sym, ◌∙◌, subst, arith}
 use Rattle.std.proofs.lemmas.Bool.{eqb-true, eq-eqb}
 use Rattle.std.proofs.lemmas.Bool.Decides.{nat_tests}
@@ -41,7 +42,7 @@ use Rattle.task_machine.specs.Frames.{frames_onto, frames_of}
 use Rattle.task_machine.specs.Stacked.{AreAt}
 use Rattle.task_machine.specs.Standing.{HasBlock, HasNurseryOf, Stands, IsBegun, AreBegun, BeginsAt, Took, with_frames}
 use Rattle.task_machine.specs.Started.{IsChild, running_children, home_at, begins_in, StartsOne, AreChildren, StartsOver}
-use Rattle.task_machine.specs.States.{State, here_at, now_at, path_at, stack_in}
+use Rattle.task_machine.specs.States.{State, here_at, now_at, path_at, stack_in, lent_at}
 use Rattle.task_machine.specs.Stops.{Numbers}
 use Rattle.task_machine.proofs.Acting.{block_of, start_acts, starts_acts}
 use Rattle.task_machine.proofs.Begins.{begins_more}
@@ -56,7 +57,7 @@ use Rattle.task_machine.proofs.TooksEntered.{with_numbers, numbers_put, numbers_
 
 -- where a task is inside its passes, as its steps see it
 abbrev pub here_inside : State → Here
-here_inside s = record (here_at s) { path = path_at s }
+here_inside s = record (here_at s) { part = (lent_at s).range; path = path_at s }
 
 -- where a child was started, of its home
 abbrev home_in : Option Home → Option (ℕ × ℕ)
@@ -369,11 +370,11 @@ begun_first more book blocks waits self id n name k body ps first got scope has 
     subst (λ (ts : List Task). AreBegun self.clock (begins_in self) more book blocks waits ts
     (begun_over name (here_inside self) k body ps first (suc i))) (sym c.2)
     (begun_more self.clock (begins_in self) more book blocks waits c.0 (c.1 ∷ []) (begun_over name (here_inside self) k body ps first i)
-    (begun_one (first + i) (here_in (label_over name (here_inside self) i) (cut_of (buffer_of self.part) (range_of self.part) k i)
+    (begun_one (first + i) (here_in (label_over name (here_inside self) i) (cut_of (buffer_of self.part) (lent_at self).range k i)
     (here_inside self)) body ps ∷ [])
     (begun_first more book blocks waits self id n name k body ps first got scope has in_range i (omega (arith, few)) c.0 c.3) (
       begun_child self.clock (begins_in self) more book blocks waits c.1 (label_over name (here_inside self) i) (buffer_of self.part)
-          (cut_of (buffer_of self.part) (range_of self.part) k i) body id i n ps
+          (cut_of (buffer_of self.part) (lent_at self).range k i) body id i n ps
           (first + i) c.4
           (got i (omega (arith, few))) (scope i (omega (arith, few))) has in_range,
       tt,
@@ -392,7 +393,7 @@ begins_over self id n name k body ps first (suc i) tasks c at number e =
     (got_either (consecutive first i) ((first + i) ∷ []) at number e))
   where
     last : Begun
-    last = begun_one (first + i) (here_in (label_over name (here_inside self) i) (cut_of (buffer_of self.part) (range_of self.part) k i)
+    last = begun_one (first + i) (here_in (label_over name (here_inside self) i) (cut_of (buffer_of self.part) (lent_at self).range k i)
         (here_inside self)) body ps
 
     by_part : (slice_get (consecutive first i) at ≡ Some number → BeginsAt id (length n.children + at) number c.0
@@ -425,18 +426,19 @@ module _ (b : State) (whole fs ls outer : List Frame) (id : ℕ) (left : Bor (Li
     (apart : HasBlock id (blocks_of fs) → ⊥) (world : u ≡ record b { book = u.book; started = u.started }) (name : List ℕ)
     (body : tree.Steps) (count : ℕ) (in_range : AreInRange body) where
   -- one child is started
-  pub took_start : StartsOne b u id (record { name = name; indices = path_at b }) b.part body →
+  pub took_start : (part : Part) → buffer_of part ≡ buffer_of b.part → range_of part ≡ (lent_at b).range →
+      StartsOne b u id (record { name = name; indices = path_at b }) part body →
       Took (with_frames b whole) u (On None) cancelled_from numbers
       (step_on cancelled_from (now_at b) (here_inside b) (tree.start name None body) (steps_of left.now)
       (frames_of numbers outer) ps count)
-  took_start s =
+  took_start part input_is range_is s =
       took_starts b whole fs ls outer id left u cancelled_from numbers stopped ps stands are within held same apart world s.nursery (None ∷ []) (count ∷ []) (s.task ∷ [])
-      (begun_one count (here_in (label_here name (here_inside b)) (range_of b.part) (here_inside b)) body ps ∷ [])
+      (begun_one count (here_in (label_here name (here_inside b)) (lent_at b).range (here_inside b)) body ps ∷ [])
       (starts count (label_here name (here_inside b)) (begins_in b) ∷ [])
       s.was s.book (All-cons (λ (e : End). e ≡ None) None [] refl (All-nil (λ (e : End). e ≡ None))) refl
       s.started (
         begun_child b.clock (begins_in b) more u.book (blocks_of b.frames) None s.task (label_here name (here_inside b)) (buffer_of b.part)
-            (range_of b.part) body id 0 s.nursery ps count s.child got
+            (lent_at b).range body id 0 s.nursery ps count child got
             (subst (λ (o : Option Members). IsSomeAnd o (λ m. (m.scope ≡ s.nursery.scope)
             × (slice_get m.children (length s.nursery.children + 0) ≡ Some None)))
             (sym s.book.changed) (refl, got_after s.nursery.children (None ∷ []) 0 (length s.nursery.children + 0) refl))
@@ -447,9 +449,16 @@ module _ (b : State) (whole fs ls outer : List Frame) (id : ℕ) (left : Bor (Li
       more : Numbers
       more = with_numbers numbers id (numbers id ++ count ∷ [])
 
+      child : IsChild (begins_in b) s.task (label_here name (here_inside b)) (buffer_of b.part) (lent_at b).range body (home_at id s.nursery 0)
+      child =
+          subst (λ (input : List ℕ). IsChild (begins_in b) s.task (label_here name (here_inside b)) input (lent_at b).range body
+          (home_at id s.nursery 0)) input_is
+          (subst (λ (r : Range). IsChild (begins_in b) s.task (label_here name (here_inside b)) (buffer_of part) r body
+          (home_at id s.nursery 0)) range_is s.child)
+
       begins : (i number : ℕ) → slice_get (count ∷ []) i ≡ Some number →
           BeginsAt id (length s.nursery.children + i) number (s.task ∷ [])
-          (begun_one count (here_in (label_here name (here_inside b)) (range_of b.part) (here_inside b)) body ps ∷ [])
+          (begun_one count (here_in (label_here name (here_inside b)) (lent_at b).range (here_inside b)) body ps ∷ [])
       begins zero number e = inl (ap (λ (h : Option Home). home_in h) s.child.home_is, same_Some count number e)
       begins (suc i) number e = absurd (none-some number e)
 

@@ -67,7 +67,7 @@ pub started_waiters : (s u : State) (name : List ℕ) (over : Option ℕ) (body 
 started_waiters s u name over body h = by_over over h.started
   where
     by_over : (o : Option ℕ) → StartsAll s u h.id name o body → SameWaiters s.book u.book
-    by_over None x = grown_waiters s.book u.book h.id x.nursery _ x.was x.book refl refl
+    by_over None x = grown_waiters s.book u.book h.id x.3.nursery _ x.3.was x.3.book refl refl
     by_over (Some k) x = grown_waiters s.book u.book h.id x.nursery _ x.was x.book refl refl
 
 -- where no nursery was opened, none was by another task

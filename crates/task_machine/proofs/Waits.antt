@@ -1,10 +1,10 @@
 -- A task that waits for an event: when its wait ends, and whether it is at a checkpoint, as the definitions say by the places.
+use Rattle.task_machine.specs.Frames.{Lent}
 use Rattle.std.proofs.Common.{◌≡◌, ◌⊎◌, inl, inr, ℕ, zero, suc, Bool, true, false, not, ◌&&◌, ◌==◌, Option, Some, None, List, [], ◌∷◌, refl, ap, sym, ◌∙◌, subst}
 use Rattle.std.proofs.lemmas.Bool.{eqb-true}
 use Rattle.std.specs.Option.{option_map}
 use Rattle.std.specs.Str.{bytes_eq}
 use Rattle.turn_semantics.specs.Lists.{IsAmong}
-use Rattle.input_lines.specs.declared.part.Part.{Part}
 use Rattle.cancel_scopes.specs.Sight.{Tick, Level}
 use Rattle.cancel_scopes.specs.Tree as scopes
 use Rattle.exceptions.specs.Exceptions.{Label}
@@ -116,7 +116,7 @@ seen_asleep clock cancelled_from t false (suc n) since fs ps = ap (λ (b : Bool)
 
 -- at a checkpoint it gives up, and otherwise it raises
 module _ (clock : Clock) (labels : Labels) (events : Events) (cancelled_from : Table) (st : scopes.Stack) (ps : List Place) (numbers : Numbers)
-    (book : NurseryBook) (part : Part) (t : ℕ) (a : AreAt labels events cancelled_from st ps) (own : OwnNames (names_at ps)) where
+    (book : NurseryBook) (part : Lent) (t : ℕ) (a : AreAt labels events cancelled_from st ps) (own : OwnNames (names_at ps)) where
   pub sees_as : (task_state : TaskState) (stopped : Stopped) → AwaitsEvent labels st (Some stopped) task_state ps →
       WakesFrom task_state part book Seen → IsTaskState numbers book task_state stopped → (fs : List rest.Frame) →
       sees_from clock cancelled_from t stopped fs ps ≡ gives_up_if (at_checkpoint clock events task_state) t fs ps
@@ -150,7 +150,7 @@ module _ (clock : Clock) (labels : Labels) (events : Events) (cancelled_from : T
 -- ---- a wait that begins
 
 module _ (clock : Clock) (labels : Labels) (events : Events) (name : List ℕ) (st : scopes.Stack) (t : ℕ) (numbers : Numbers)
-    (book : NurseryBook) (part : Part) (cancelled_from : Table) (fs : List rest.Frame) (ps : List Place) (a : AreAt labels events cancelled_from st ps) where
+    (book : NurseryBook) (part : Lent) (cancelled_from : Table) (fs : List rest.Frame) (ps : List Place) (a : AreAt labels events cancelled_from st ps) where
   -- where there is no event of the name, the task continues
   pub waits_none : (task_state : TaskState) → scope_named true labels events name st ≡ None →
       MovesAs clock numbers book part (On None) task_state (waits_on (label_among true name ps) name t fs ps)

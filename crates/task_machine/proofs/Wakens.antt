@@ -38,7 +38,7 @@ use Rattle.task_machine.specs.Fitting.{blocks_of}
 use Rattle.task_machine.specs.Frames.{frames_of}
 use Rattle.task_machine.specs.Stacked.{AreAt, IsKey, AwaitsEvent}
 use Rattle.task_machine.specs.Standing.{Wakens, wake_at, HasBlock, Stands, IsOfOther, Took}
-use Rattle.task_machine.specs.States.{State, here_at, now_at, stack_in}
+use Rattle.task_machine.specs.States.{State, here_at, now_at, stack_in, lent_at}
 use Rattle.task_machine.specs.Stops.{Numbers, kernel_in, purpose_in, IsTaskState, MovesAs}
 use Rattle.task_machine.specs.Waking.{WakesFrom}
 use Rattle.task_machine.specs.Worlds.{NotesWait}
@@ -139,14 +139,14 @@ wakes_due s paced ticks since sleeps_so =
 
 -- ---- a task that sees a cancellation
 
-module _ (s : State) (fits : WakesFrom s.task_state s.part s.book Seen) where
+module _ (s : State) (fits : WakesFrom s.task_state (lent_at s) s.book Seen) where
   -- what the definitions do
   seen_so : (cancelled_from : Table) (numbers : Numbers) (stopped : Stopped) (ps : List Place) → Stands s cancelled_from numbers (Some stopped) ps →
       IsTaskState numbers s.book s.task_state stopped →
       wake_of cancelled_from (now_at s) (here_at s) sees stopped (frames_of numbers s.frames) ps
       ≡ gives_up_if (at_checkpoint s.clock s.events s.task_state) s.tick (frames_of numbers s.frames) ps
   seen_so cancelled_from numbers stopped ps stands h =
-      sees_as s.clock s.labels s.events cancelled_from (stack_in s) ps numbers s.book s.part s.tick stands.places stands.own s.task_state stopped
+      sees_as s.clock s.labels s.events cancelled_from (stack_in s) ps numbers s.book (lent_at s) s.tick stands.places stands.own s.task_state stopped
       stands.event fits h (frames_of numbers s.frames)
 
   -- it raises if it is not at a checkpoint
@@ -221,7 +221,7 @@ module _ (s : State) (kernel : Kernel) (purpose : Purpose) (asked : s.task_state
   -- no line was there that was needed: it raises
   pub wakes_missing : (goes : Moved) (name : List ℕ) → purpose_in purpose ≡ ask.needs name →
       ((numbers : Numbers) (book : NurseryBook) (fs : List rest.Frame) (ps : List Place) →
-      MovesAs s.clock numbers book s.part goes s.task_state
+      MovesAs s.clock numbers book (lent_at s) goes s.task_state
       (onward fs ps (Some (raised name s.label (tick_of s.clock s.tick))))) →
       Wakens s s goes (has_answer ask.missing)
   wakes_missing goes name for_name raises cancelled_from numbers stopped ps stands task_state =
@@ -237,7 +237,7 @@ module _ (s : State) (kernel : Kernel) (purpose : Purpose) (asked : s.task_state
       u ≡ record s { task_state = u.task_state } →
       ((cancelled_from : Table) (numbers : Numbers) (book : NurseryBook) (fs : List rest.Frame) (ps : List Place) →
       AreAt s.labels s.events cancelled_from (stack_in s) ps →
-      MovesAs s.clock numbers book s.part goes u.task_state (sleeps s.clock cancelled_from true ticks s.tick fs ps)) →
+      MovesAs s.clock numbers book (lent_at s) goes u.task_state (sleeps s.clock cancelled_from true ticks s.tick fs ps)) →
       Wakens s u goes (has_answer (ask.counted n))
   wakes_counted u goes k n ticks by_count long stays sleep cancelled_from numbers stopped ps stands task_state =
       let gs = frames_of numbers s.frames in

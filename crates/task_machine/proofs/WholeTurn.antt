@@ -9,7 +9,6 @@ use Rattle.job_meaning.specs.Moments.{Now}
 use Rattle.job_meaning.specs.Walk.{Here}
 use Rattle.job_meaning.specs.Rest as rest
 use Rattle.job_meaning.specs.Rest.{Stopped, to_begin, asking, asleep, waiting_for, giving_up, awaiting, at_end}
-use Rattle.input_lines.specs.declared.part.Part.{Part}
 use Rattle.nursery_book.specs.declared.book.NurseryBook.{NurseryBook}
 use Rattle.turn_semantics.specs.Midway.{Place, Midway, Move, then_move, own_after, now_after}
 use Rattle.turn_semantics.specs.Placed.{PlacedAfter}
@@ -25,9 +24,9 @@ use Rattle.task_machine.specs.declared.stop.Moved.TheVariants.{On, Stops}
 use Rattle.task_machine.specs.declared.stop.Stop.{Stop}
 use Rattle.task_machine.specs.declared.stop.Wake.{Wake}
 use Rattle.task_machine.specs.declared.stop.Wake.TheVariants.{Begin, Due, Seen, Answer, Settled}
-use Rattle.task_machine.specs.Frames.{frames_of}
+use Rattle.task_machine.specs.Frames.{frames_of, Lent}
 use Rattle.task_machine.specs.Standing.{Stands, Took, StopsAfter, wake_at, TookTo, now_for, woken_at, TookTurn}
-use Rattle.task_machine.specs.States.{State, here_at, now_at}
+use Rattle.task_machine.specs.States.{State, here_at, now_at, lent_at}
 use Rattle.task_machine.specs.Stops.{Numbers, IsTaskState, StopsAs}
 use Rattle.task_machine.specs.Waking.{WakesFrom, wake_in}
 use Rattle.task_machine.proofs.Cancelled.{own_on}
@@ -35,7 +34,7 @@ use Rattle.task_machine.proofs.Taking.{took_then}
 use Rattle.task_machine.proofs.TurnGoes.{now_is}
 
 -- a wake that fits the blocked state is possible after the stop
-pub can_wake : (task_state : TaskState) (part : Part) (book : NurseryBook) (numbers : Numbers) (w : Wake) (s : Stopped) → WakesFrom task_state part book w →
+pub can_wake : (task_state : TaskState) (part : Lent) (book : NurseryBook) (numbers : Numbers) (w : Wake) (s : Stopped) → WakesFrom task_state part book w →
     IsTaskState numbers book task_state s → CanWake (wake_in book task_state w) s
 can_wake (ToBegin x) part book numbers Begin to_begin f h = from_start
 can_wake (ToBegin x) part book numbers Begin (asking l q) f h = absurd h
@@ -199,7 +198,7 @@ at_once s u w stop cancelled_from numbers ps count stopped took =
       took = subst (λ (p : Move). TookTo s u stop cancelled_from numbers p) (sym (then_none o.stopped o _ took.moves.1)) took;
     }
   where
-    then_none : (x : Option Stopped) (o q : Move) → StopsAs s.clock took.numbers_after u.book s.part stop u.task_state x →
+    then_none : (x : Option Stopped) (o q : Move) → StopsAs s.clock took.numbers_after u.book (lent_at u) stop u.task_state x →
         then_move x o q ≡ o
     then_none None o q h = absurd h
     then_none (Some x) o q h = refl

@@ -1,14 +1,13 @@
 -- What holds of a task and its world between moves: the remaining steps can run, and its scopes and nurseries are open.
-use Rattle.std.specs.Prelude.{◌≡◌, ◌≢◌, ◌⊎◌, ℕ, zero, suc, ◌+◌, ◌<◌, ◌≤◌, List, [], ◌∷◌, ◌++◌, Option, Some, None, IsSome, All, length, map, slice_get}
+use Rattle.std.specs.Prelude.{◌≡◌, ◌≢◌, ◌⊎◌, ℕ, zero, suc, ◌+◌, ◌<◌, ◌≤◌, List, [], ◌∷◌, ◌++◌, Option, Some, None, IsSome, is_some, All, length, map, slice_get}
 use Rattle.std.specs.Option.{ForSome, option_map}
 use Rattle.std.specs.List.{last_or}
-use Rattle.job_tree.specs.Starting.{StartsIn, HandlerStarts, CleanupStarts}
+use Rattle.job_tree.specs.Starting.{starts_in_pass, StartsIn, HandlerStarts, CleanupStarts}
 use Rattle.job_tree.specs.Tree as tree
 use Rattle.turn_semantics.specs.Placed.{in_body}
-use Rattle.job_tree.specs.declared.limits.TheConstants.{MAX_PASSES}
+use Rattle.job_tree.specs.declared.limits.TheConstants.{MAX_COPIES, MAX_PASSES}
 use Rattle.job_tree.specs.InRange.{AreInRange, IsInRangeHandler, IsInRangeCleanup}
-use Rattle.input_lines.specs.Lines.{bytes_of}
-use Rattle.input_lines.specs.Part.{buffer_of, range_of}
+use Rattle.input_lines.specs.Part.{buffer_of}
 use Rattle.input_lines.specs.declared.part.Part.{Part}
 use Rattle.cancel_scopes.specs.Tree.{Stack, Tree, stack_of, IsOpen}
 use Rattle.nursery_book.specs.Nursery.{End, Nursery as Members}
@@ -28,6 +27,11 @@ use Rattle.task_machine.specs.Stacked.{IsKey}
 use Rattle.task_machine.specs.Labels.{Labels}
 use Rattle.task_machine.specs.States.{State}
 
+-- there are enough cuts for all passes of a `repeat over`, but not too many
+abbrev pub AreInRangeCuts : (last : ℕ) → (cuts : Option ℕ) → Type 0
+AreInRangeCuts last None = Unit {0}
+AreInRangeCuts last (Some k) = (last < k) × (k ≤ MAX_COPIES)
+
 -- all numbers of the steps and of the passes that are left are in range
 abbrev pub AreInRangeFrames : List rest.Frame → Type 0
 AreInRangeFrames [] = Unit {0}
@@ -35,10 +39,16 @@ AreInRangeFrames (rest.steps_left ss ∷ fs) = AreInRange ss × AreInRangeFrames
 AreInRangeFrames (rest.in_scope fail ∷ fs) = AreInRangeFrames fs
 AreInRangeFrames (rest.in_event ∷ fs) = AreInRangeFrames fs
 AreInRangeFrames (rest.in_nursery children ∷ fs) = AreInRangeFrames fs
-AreInRangeFrames (rest.in_repeat pass left body ∷ fs) = AreInRange body × (pass + left ≤ MAX_PASSES) × AreInRangeFrames fs
+AreInRangeFrames (rest.in_repeat pass left cuts body ∷ fs) =
+    AreInRange body × (pass + left ≤ MAX_PASSES) × AreInRangeCuts (pass + left) cuts × AreInRangeFrames fs
 AreInRangeFrames (rest.in_try handler cleanup ∷ fs) = IsInRangeHandler handler × IsInRangeCleanup cleanup × AreInRangeFrames fs
 AreInRangeFrames (rest.in_handler others cleanup ∷ fs) = IsInRangeCleanup cleanup × AreInRangeFrames fs
 AreInRangeFrames (rest.in_cleanup outcome ∷ fs) = AreInRangeFrames fs
+
+-- the code has a cut for the pass of a `repeat over`
+abbrev pub HasCut : Frame → Type 0
+HasCut (Repeat pass left (Some k) body) = (pass < k) × (k ≤ MAX_COPIES)
+HasCut _ = Unit {0}
 
 -- each `start` that is left is directly in a nursery, or in a `repeat` there
 abbrev pub StartsFit : List rest.Frame → Type 0
@@ -47,7 +57,7 @@ StartsFit (rest.steps_left ss ∷ fs) = StartsIn (in_body fs) ss × StartsFit fs
 StartsFit (rest.in_scope fail ∷ fs) = StartsFit fs
 StartsFit (rest.in_event ∷ fs) = StartsFit fs
 StartsFit (rest.in_nursery children ∷ fs) = StartsFit fs
-StartsFit (rest.in_repeat pass left body ∷ fs) = StartsIn (in_body fs) body × StartsFit fs
+StartsFit (rest.in_repeat pass left cuts body ∷ fs) = StartsIn (starts_in_pass (is_some cuts) (in_body fs)) body × StartsFit fs
 StartsFit (rest.in_try handler cleanup ∷ fs) = HandlerStarts handler × CleanupStarts cleanup × StartsFit fs
 StartsFit (rest.in_handler others cleanup ∷ fs) = CleanupStarts cleanup × StartsFit fs
 StartsFit (rest.in_cleanup outcome ∷ fs) = StartsFit fs
@@ -58,7 +68,7 @@ HasBody (tree.scope name deadline shield fail body) = Unit {0}
 HasBody (tree.nursery name deadline shield body) = Unit {0}
 HasBody (tree.event name body) = Unit {0}
 HasBody (tree.start name over body) = Unit {0}
-HasBody (tree.repeat count body) = Unit {0}
+HasBody (tree.repeat count over body) = Unit {0}
 HasBody (tree.attempt body handler cleanup) = Unit {0}
 HasBody _ = ⊥
 
@@ -74,7 +84,7 @@ blocks_of (Steps steps ∷ fs) = blocks_of fs
 blocks_of (Scope fail ∷ fs) = a_scope ∷ blocks_of fs
 blocks_of (Event ∷ fs) = a_scope ∷ blocks_of fs
 blocks_of (Nursery id ∷ fs) = a_nursery id ∷ blocks_of fs
-blocks_of (Repeat pass left body ∷ fs) = blocks_of fs
+blocks_of (Repeat pass left cuts body ∷ fs) = blocks_of fs
 blocks_of (Try handler cleanup ∷ fs) = blocks_of fs
 blocks_of (Handler others cleanup ∷ fs) = blocks_of fs
 blocks_of (Cleanup outcome ∷ fs) = blocks_of fs
@@ -83,7 +93,7 @@ blocks_of (Cleanup outcome ∷ fs) = blocks_of fs
 abbrev pub AreLoops : List Frame → Type 0
 AreLoops [] = Unit {0}
 AreLoops (Steps steps ∷ fs) = AreLoops fs
-AreLoops (Repeat pass left body ∷ fs) = AreLoops fs
+AreLoops (Repeat pass left cuts body ∷ fs) = AreLoops fs
 AreLoops (_ ∷ fs) = ⊥
 
 -- the innermost frame is in the body of this nursery, perhaps in a `repeat` there
@@ -99,7 +109,7 @@ block_in (Steps steps) bs = bs
 block_in (Scope fail) bs = bs ++ a_scope ∷ []
 block_in Event bs = bs ++ a_scope ∷ []
 block_in (Nursery id) bs = bs ++ a_nursery id ∷ []
-block_in (Repeat pass left body) bs = bs
+block_in (Repeat pass left cuts body) bs = bs
 block_in (Try handler cleanup) bs = bs
 block_in (Handler others cleanup) bs = bs
 block_in (Cleanup outcome) bs = bs
@@ -183,14 +193,14 @@ pub record CanRun
     pub cancelled_from : All (λ (o : Own). o.at < entered) own
     pub opened : Opened labels book (blocks_of frames) own waits
 
--- What holds of it between moves: this, a part that is not too long, and that scopes of other tasks are inside its own only while a
+-- What holds of it between moves: this, an input that is not too long, and that scopes of other tasks are inside its own only while a
 -- child of it runs.
 pub record FitsIn
     (frames : List Frame) (part : Part) (within : Option ℕ) (own : List Own) (entered : ℕ) (tree : Tree) (labels : Labels)
     (book : NurseryBook) (waits : Option ℕ) : Type 0
   where
     pub runs : CanRun frames within own entered tree labels book waits
-    pub small : length (bytes_of (buffer_of part) (range_of part)) ≤ MAX_INPUT
+    pub small : length (buffer_of part) ≤ MAX_INPUT
     pub others : OthersRun tree book (blocks_of frames) own waits
 
 abbrev pub Fits : State → Option ℕ → Type 0

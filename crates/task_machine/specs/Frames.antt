@@ -5,6 +5,10 @@ use Rattle.std.specs.Option.{option_map, option_copied}
 use Rattle.job_tree.specs.Blocks.{steps_of, handled_of, cleaned_of}
 use Rattle.exceptions.specs.Held.{exc_of}
 use Rattle.exceptions.specs.declared.exc.Exc as held
+use Rattle.input_lines.specs.Lines.{Range}
+use Rattle.input_lines.specs.Part.{buffer_of, range_of}
+use Rattle.input_lines.specs.declared.part.Part.{Part}
+use Rattle.job_meaning.specs.Walk.{part_in_pass}
 use Rattle.job_meaning.specs.Rest as rest
 use Rattle.task_machine.specs.declared.frame.Frame.{Frame}
 use Rattle.task_machine.specs.declared.frame.Frame.TheVariants.{Steps, Scope, Event, Nursery, Repeat, Try, Handler, Cleanup}
@@ -20,7 +24,7 @@ frame_of children (Steps steps) = rest.steps_left (steps_of steps.now)
 frame_of children (Scope fail) = rest.in_scope fail
 frame_of children Event = rest.in_event
 frame_of children (Nursery id) = rest.in_nursery (children id)
-frame_of children (Repeat pass left body) = rest.in_repeat pass left body.now
+frame_of children (Repeat pass left cuts body) = rest.in_repeat pass left cuts body.now
 frame_of children (Try handler cleanup) = rest.in_try (handled_of (option_copied handler)) (cleaned_of cleanup.now)
 frame_of children (Handler others cleanup) = rest.in_handler (option_map exc_of (unboxed_exc others)) (cleaned_of cleanup.now)
 frame_of children (Cleanup outcome) = rest.in_cleanup (option_map exc_of (unboxed_exc outcome))
@@ -33,6 +37,27 @@ frames_onto children (f ∷ fs) outer = frames_onto children fs (frame_of childr
 abbrev pub frames_of : (ℕ → List ℕ) → List Frame → List rest.Frame
 frames_of children fs = frames_onto children fs []
 
+-- the part of an input that a task has at some point
+pub record Lent : Type 0 where
+  pub input : List ℕ
+  pub range : Range
+
+-- the range of the part inside these frames, outermost first: each pass of a `repeat over` has its cut
+abbrev pub cuts_onto : List ℕ → List Frame → Range → Range
+cuts_onto input [] lent = lent
+cuts_onto input (Steps steps ∷ fs) lent = cuts_onto input fs lent
+cuts_onto input (Scope fail ∷ fs) lent = cuts_onto input fs lent
+cuts_onto input (Event ∷ fs) lent = cuts_onto input fs lent
+cuts_onto input (Nursery id ∷ fs) lent = cuts_onto input fs lent
+cuts_onto input (Repeat pass left cuts body ∷ fs) lent = cuts_onto input fs (part_in_pass input cuts pass lent)
+cuts_onto input (Try handler cleanup ∷ fs) lent = cuts_onto input fs lent
+cuts_onto input (Handler others cleanup ∷ fs) lent = cuts_onto input fs lent
+cuts_onto input (Cleanup outcome ∷ fs) lent = cuts_onto input fs lent
+
+-- what a task with this part has inside these frames
+abbrev pub lent_by : Part → List Frame → Lent
+lent_by part fs = record { input = buffer_of part; range = cuts_onto (buffer_of part) fs (range_of part) }
+
 -- the path of indices inside these frames, outermost first: each pass of a `repeat` adds its number
 abbrev pub passes_onto : List Frame → List ℕ → List ℕ
 passes_onto [] path = path
@@ -40,7 +65,7 @@ passes_onto (Steps steps ∷ fs) path = passes_onto fs path
 passes_onto (Scope fail ∷ fs) path = passes_onto fs path
 passes_onto (Event ∷ fs) path = passes_onto fs path
 passes_onto (Nursery id ∷ fs) path = passes_onto fs path
-passes_onto (Repeat pass left body ∷ fs) path = passes_onto fs (path ++ pass ∷ [])
+passes_onto (Repeat pass left cuts body ∷ fs) path = passes_onto fs (path ++ pass ∷ [])
 passes_onto (Try handler cleanup ∷ fs) path = passes_onto fs path
 passes_onto (Handler others cleanup ∷ fs) path = passes_onto fs path
 passes_onto (Cleanup outcome ∷ fs) path = passes_onto fs path

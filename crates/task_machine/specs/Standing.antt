@@ -40,7 +40,7 @@ use Rattle.task_machine.specs.Fitting.{Block, a_scope, a_nursery, blocks_of, wai
 use Rattle.task_machine.specs.Frames.{frames_of}
 use Rattle.task_machine.specs.Stacked.{AreAt, AwaitsEvent}
 use Rattle.task_machine.specs.Stops.{Numbers, IsTaskState, MovesAs, OwnAfter}
-use Rattle.task_machine.specs.States.{State, here_at, now_at, stack_in}
+use Rattle.task_machine.specs.States.{State, here_at, lent_at, now_at, stack_in}
 use Rattle.task_machine.specs.Tasks.{home_of}
 use Rattle.task_machine.specs.Waking.{wake_in}
 
@@ -200,7 +200,7 @@ pub record Took (before after : State) (moved : Moved) (cancelled_from : Table) 
   pub frames_after : frames_of numbers_after after.frames ≡ o.frames
   pub places : AreAt after.labels after.events (cancelled_from_after cancelled_from o.made) (stack_in after) o.places
   pub event : AwaitsEvent after.labels (stack_in after) o.stopped after.task_state o.places
-  pub moves : MovesAs before.clock numbers_after after.book before.part moved after.task_state o
+  pub moves : MovesAs before.clock numbers_after after.book (lent_at after) moved after.task_state o
   pub entries : List Entry
   pub noted : after.entries ≡ before.entries ++ entries
   pub shown : AreNoted before.clock (buffer_of before.part) entries o.made

@@ -16,7 +16,7 @@ use Rattle.task_machine.specs.declared.task.Task.{Task}
 use Rattle.task_machine.specs.Fitting.{InBody}
 use Rattle.task_machine.specs.Frames.{frames_of}
 use Rattle.task_machine.specs.Stops.{Numbers}
-use Rattle.task_machine.specs.States.{State, path_at}
+use Rattle.task_machine.specs.States.{State, path_at, lent_at}
 
 -- a task that was started with this label on this range of an input: it begins these steps in this moment, at this home
 pub record IsChild (at : ℕ) (task : Task) (label : Label) (input : List ℕ) (range : Range) (body : Steps) (home : Home) : Type 0 where
@@ -59,7 +59,7 @@ AreChildren s id n name k body tasks zero = tasks ≡ []
 AreChildren s id n name k body tasks (suc i) =
     (before : List Task) × (last : Task) × (tasks ≡ before ++ last ∷ []) × AreChildren s id n name k body before i
     × IsChild (begins_in s) last (record { name = name; indices = path_at s ++ i ∷ [] }) (buffer_of s.part)
-    (cut_of (buffer_of s.part) (range_of s.part) k i) body
+    (cut_of (buffer_of s.part) (lent_at s).range k i) body
     (home_at id n i)
 
 -- the given number of them were started
@@ -73,7 +73,9 @@ pub record StartsOver (before after : State) (id : ℕ) (name : List ℕ) (k : �
 
 -- the children of a `start`, in the nursery in whose body the task is
 abbrev pub StartsAll : State → State → ℕ → List ℕ → Option ℕ → Steps → Type 0
-StartsAll before after id name None body = StartsOne before after id (record { name = name; indices = path_at before }) before.part body
+StartsAll before after id name None body =
+    (part : Part) × (buffer_of part ≡ buffer_of before.part) × (range_of part ≡ (lent_at before).range)
+    × StartsOne before after id (record { name = name; indices = path_at before }) part body
 StartsAll before after id name (Some k) body = StartsOver before after id name k body k
 
 pub record StartsChildren (before after : State) (name : List ℕ) (over : Option ℕ) (body : Steps) : Type 0 where

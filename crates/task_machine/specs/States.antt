@@ -18,7 +18,7 @@ use Rattle.task_machine.specs.declared.task.Home.{Home}
 use Rattle.task_machine.specs.declared.task.Own.{Own}
 use Rattle.task_machine.specs.declared.task.Task.{Task}
 use Rattle.task_machine.specs.declared.world.World.{World}
-use Rattle.task_machine.specs.Frames.{passes_onto}
+use Rattle.task_machine.specs.Frames.{passes_onto, Lent, lent_by}
 use Rattle.task_machine.specs.Labels.{Labels, Events}
 use Rattle.task_machine.specs.Worlds.{label_at, event_at}
 
@@ -74,6 +74,10 @@ here_at s = record { clock = s.clock; input = buffer_of s.part; part = range_of 
 -- the path of indices of what the task enters or starts: its own, followed by the numbers of the passes that it is in
 abbrev pub path_at : State → List ℕ
 path_at s = passes_onto s.frames s.label.indices
+
+-- the part of the input that the task has: its own, cut for each pass of a `repeat over` that it is in
+abbrev pub lent_at : State → Lent
+lent_at s = lent_by s.part s.frames
 
 -- the innermost scope that encloses the task: the last that it opened itself, or else that of its home nursery
 abbrev pub scope_at : State → Option ℕ

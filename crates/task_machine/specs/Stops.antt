@@ -2,7 +2,7 @@
 use Rattle.std.specs.Prelude.{◌≡◌, ℕ, suc, List, Option, Some, None}
 use Rattle.std.specs.Option.{option_map}
 use Rattle.exceptions.specs.Held.{exc_of}
-use Rattle.input_lines.specs.declared.part.Part.{Part}
+use Rattle.input_lines.specs.Part.{buffer_of, range_of}
 use Rattle.input_lines.specs.declared.kernel.Kernel.{Kernel}
 use Rattle.input_lines.specs.declared.kernel.Kernel.TheVariants.{Find, Head, Longest, Need, Count}
 use Rattle.nursery_book.specs.declared.book.NurseryBook.{NurseryBook}
@@ -14,6 +14,7 @@ use Rattle.job_meaning.specs.Rest.{Stopped, to_begin, asking, asleep, waiting_fo
 use Rattle.exceptions.specs.Exceptions.{Label}
 use Rattle.job_meaning.specs.Rest.{Event}
 use Rattle.turn_semantics.specs.Midway.{Move, own_after}
+use Rattle.task_machine.specs.Frames.{Lent}
 use Rattle.task_machine.specs.declared.stop.Stop.{Stop}
 use Rattle.task_machine.specs.declared.stop.Stop.TheVariants.{Ask, Sleep, WaitFor, GiveUp, Wait, Ended}
 use Rattle.task_machine.specs.declared.stop.TaskState.{TaskState}
@@ -53,25 +54,26 @@ IsTaskState numbers book Over (at_end u e) = Unit {0}
 IsTaskState numbers book _ _ = ⊥
 
 -- the stop that is returned to the caller, for a task on this part
-abbrev pub IsReturned : Clock → Part → Stop → TaskState → Stopped → Type 0
-IsReturned clock part (Ask request) (Asked kernel purpose) stopped = (request.kernel ≡ kernel) × (request.part ≡ part)
-IsReturned clock part (Sleep due) (Asleep paced ticks since) stopped = due ≡ wakes_at clock ticks since
-IsReturned clock part (WaitFor event) (Waiting key since) stopped = event ≡ key
-IsReturned clock part (GiveUp due) (GivingUp since) stopped = due ≡ suc since
-IsReturned clock part (Wait id) (Awaits nursery since) stopped = id ≡ nursery
-IsReturned clock part (Ended exc) Over (at_end u e) = option_map exc_of exc ≡ e
-IsReturned clock part _ _ _ = ⊥
+abbrev pub IsReturned : Clock → Lent → Stop → TaskState → Stopped → Type 0
+IsReturned clock lent (Ask request) (Asked kernel purpose) stopped =
+    (request.kernel ≡ kernel) × (buffer_of request.part ≡ lent.input) × (range_of request.part ≡ lent.range)
+IsReturned clock lent (Sleep due) (Asleep paced ticks since) stopped = due ≡ wakes_at clock ticks since
+IsReturned clock lent (WaitFor event) (Waiting key since) stopped = event ≡ key
+IsReturned clock lent (GiveUp due) (GivingUp since) stopped = due ≡ suc since
+IsReturned clock lent (Wait id) (Awaits nursery since) stopped = id ≡ nursery
+IsReturned clock lent (Ended exc) Over (at_end u e) = option_map exc_of exc ≡ e
+IsReturned clock lent _ _ _ = ⊥
 
-abbrev pub StopsAs : Clock → Numbers → NurseryBook → Part → Stop → TaskState → Option Stopped → Type 0
-StopsAs clock numbers book part stop task_state None = ⊥
-StopsAs clock numbers book part stop task_state (Some stopped) =
-    IsTaskState numbers book task_state stopped × IsReturned clock part stop task_state stopped
+abbrev pub StopsAs : Clock → Numbers → NurseryBook → Lent → Stop → TaskState → Option Stopped → Type 0
+StopsAs clock numbers book lent stop task_state None = ⊥
+StopsAs clock numbers book lent stop task_state (Some stopped) =
+    IsTaskState numbers book task_state stopped × IsReturned clock lent stop task_state stopped
 
 -- the code continues as a move does, with the same exception, or stops where it stops
-abbrev pub MovesAs : Clock → Numbers → NurseryBook → Part → Moved → TaskState → Move → Type 0
-MovesAs clock numbers book part (On exc) task_state o = (option_map exc_of exc ≡ o.exc) × (o.stopped ≡ None)
-MovesAs clock numbers book part (Stops stop) task_state o =
-    (o.exc ≡ None) × StopsAs clock numbers book part stop task_state o.stopped
+abbrev pub MovesAs : Clock → Numbers → NurseryBook → Lent → Moved → TaskState → Move → Type 0
+MovesAs clock numbers book lent (On exc) task_state o = (option_map exc_of exc ≡ o.exc) × (o.stopped ≡ None)
+MovesAs clock numbers book lent (Stops stop) task_state o =
+    (o.exc ≡ None) × StopsAs clock numbers book lent stop task_state o.stopped
 
 -- What the task has cancelled in this moment after a move: it matters while the task goes on, and while it asks a kernel.
 abbrev pub OwnAfter : Clock → List Label → List Label → List Event → Option Stopped → Type 0

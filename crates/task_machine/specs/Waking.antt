@@ -1,9 +1,8 @@
 -- How a task that stopped continues, in the code.
 use Rattle.std.specs.Prelude.{◌≡◌, ◌≤◌, ◌^◌, true, Option, Some, None, map}
 use Rattle.input_lines.specs.Part.{span_of}
-use Rattle.input_lines.specs.declared.part.Part.{Part}
 use Rattle.job_tree.specs.declared.limits.TheConstants.{MAX_PACE}
-use Rattle.input_lines.specs.Answers.{IsAnswer}
+use Rattle.input_lines.specs.Answers.{IsAnswerOn}
 use Rattle.input_lines.specs.declared.answers.Answer as held
 use Rattle.input_lines.specs.declared.answers.Answer.TheVariants as answers
 use Rattle.exceptions.specs.Exceptions.{Exc}
@@ -16,24 +15,25 @@ use Rattle.task_machine.specs.declared.stop.TaskState.{TaskState}
 use Rattle.task_machine.specs.declared.stop.TaskState.TheVariants.{ToBegin, Asked, Asleep, Waiting, GivingUp, Awaits, Over}
 use Rattle.task_machine.specs.declared.stop.Purpose.{Purpose}
 use Rattle.task_machine.specs.declared.stop.Purpose.TheVariants.{Shows, Needs, Paces}
+use Rattle.task_machine.specs.Frames.{Lent}
 use Rattle.task_machine.specs.declared.stop.Wake.{Wake}
 use Rattle.task_machine.specs.declared.stop.Wake.TheVariants.{Begin, Due, Seen, Answer, Settled}
 
 -- A wake fits what a task on this part stopped at: it begins once, an answer is that of the kernel asked, and a nursery that is
 -- waited for is settled. The moment of a task comes by which it has to wait: to begin, for its sleep, for its event, to give up, or for
 -- its nursery.
-abbrev pub WakesFrom : TaskState → Part → NurseryBook → Wake → Type 0
-WakesFrom (ToBegin at) part book Begin = Unit {0}
-WakesFrom (ToBegin at) part book Due = Unit {0}
-WakesFrom (Asleep paced ticks since) part book Due = Unit {0}
-WakesFrom (Asleep paced ticks since) part book Seen = Unit {0}
-WakesFrom (Waiting event since) part book Due = Unit {0}
-WakesFrom (Waiting event since) part book Seen = Unit {0}
-WakesFrom (GivingUp since) part book Due = Unit {0}
-WakesFrom (Awaits id since) part book Due = HasNursery book id (λ n. is_settled n ≡ true)
-WakesFrom (Asked kernel purpose) part book (Answer answer) = IsAnswer kernel part answer
-WakesFrom (Awaits id since) part book Settled = HasNursery book id (λ n. is_settled n ≡ true)
-WakesFrom task_state part book wake = ⊥
+abbrev pub WakesFrom : TaskState → Lent → NurseryBook → Wake → Type 0
+WakesFrom (ToBegin at) lent book Begin = Unit {0}
+WakesFrom (ToBegin at) lent book Due = Unit {0}
+WakesFrom (Asleep paced ticks since) lent book Due = Unit {0}
+WakesFrom (Asleep paced ticks since) lent book Seen = Unit {0}
+WakesFrom (Waiting event since) lent book Due = Unit {0}
+WakesFrom (Waiting event since) lent book Seen = Unit {0}
+WakesFrom (GivingUp since) lent book Due = Unit {0}
+WakesFrom (Awaits id since) lent book Due = HasNursery book id (λ n. is_settled n ≡ true)
+WakesFrom (Asked kernel purpose) lent book (Answer answer) = IsAnswerOn kernel lent.input lent.range answer
+WakesFrom (Awaits id since) lent book Settled = HasNursery book id (λ n. is_settled n ≡ true)
+WakesFrom task_state lent book wake = ⊥
 
 -- the divisor of a `pace` is in range
 abbrev pub IsInRangePurpose : Purpose → Type 0

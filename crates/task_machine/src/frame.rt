@@ -25,6 +25,8 @@ pub(crate) enum Frame<'a> {
         pass: u64,
         /// How many come after it.
         left: u64,
+        /// Into how many cuts a `repeat over` divides the part of the task: one for each pass.
+        cuts: Option<u64>,
         /// Its block.
         body: &'a Body,
     },

@@ -1,4 +1,4 @@
-ghost use Rattle.std.specs.Prelude.{◌≡◌, ◌≤◌, ℕ, ◌^◌, List, Some, None, IfOk};
+ghost use Rattle.std.specs.Prelude.{◌≡◌, ◌≤◌, ℕ, ◌^◌, List, Some, None, IfOk, All};
 ghost use Rattle.std.specs.Option.{ForSome};
 ghost use Rattle.exceptions.specs.Exceptions.{raised};
 ghost use Rattle.cancel_scopes.specs.Tree.{IsOpen, outer_of};
@@ -8,7 +8,8 @@ ghost use Rattle.job_meaning.specs.Rest.{Frame as Left, asking};
 ghost use Rattle.turn_semantics.specs.Midway.{Place};
 ghost use Rattle.turn_semantics.specs.Steps.{sleeps, onward, blocks_on};
 ghost use Rattle.task_machine.specs.Standing.{waits_by};
-ghost use Rattle.task_machine.specs.Tasks.{scope_of};
+ghost use Rattle.task_machine.specs.Fitting.{HasCut};
+ghost use Rattle.task_machine.specs.Tasks.{scope_of, lent_of};
 ghost use Rattle.task_machine.specs.Waking.{IsInRangeTaskState, IsInRangePurpose};
 ghost use Rattle.task_machine.specs.Worlds.{label_at, event_at};
 ghost use Rattle.task_machine.specs.Stacked.{AreAt};
@@ -40,7 +41,7 @@ impl<'a> Task<'a> {
         ensures waits { waits_by result self.new.task_state ≡ None }
         ensures sleeps { (cancelled_from : Table) (numbers : Numbers) (book : Book) (fs : List Left) (ps : List Place) →
             AreAt (label_at world.now) (event_at world.now) cancelled_from (outer_of world.now.scopes (scope_of self.old)) ps →
-            MovesAs world.now.clock numbers book self.old.part result self.new.task_state
+            MovesAs world.now.clock numbers book (lent_of self.old) result self.new.task_state
             (sleeps world.now.clock cancelled_from paced ticks world.now.tick fs ps) }
     {
         match world.clock() {
@@ -77,7 +78,7 @@ impl<'a> Task<'a> {
     pub(crate) fn raise(&self, name: Name, world: &World<'a>) -> Result<Moved<'a>, AllocError>
         ensures on { IfOk result (λ moved. waits_by moved self.now.task_state ≡ None) }
         ensures raises { IfOk result (λ moved. (numbers : Numbers) (book : Book) (fs : List Left) (ps : List Place) →
-            MovesAs world.now.clock numbers book self.now.part moved self.now.task_state
+            MovesAs world.now.clock numbers book (lent_of self.now) moved self.now.task_state
             (onward fs ps (Some (raised name self.now.label (tick_of world.now.clock world.now.tick))))) }
     {
         let task = self.label.copy(self.alloc)?;
@@ -88,19 +89,18 @@ impl<'a> Task<'a> {
         })))
     }
 
-    // Asks a kernel for an answer on the task's part.
+    // Asks a kernel for an answer on the part that the task has here.
     pub(crate) fn ask(&mut self, kernel: Kernel<'a>, purpose: Purpose) -> Moved<'a>
+        requires cuts { All HasCut self.old.frames.items }
         ensures stays { self.new ≡ record self.old { task_state = self.new.task_state } }
         ensures task_state { IsInRangePurpose purpose → IsInRangeTaskState self.new.task_state }
         ensures waits { waits_by result self.new.task_state ≡ None }
         ensures asks { (clock : Clock) (numbers : Numbers) (book : Book) (fs : List Left) (ps : List Place) →
-            MovesAs clock numbers book self.old.part result self.new.task_state
+            MovesAs clock numbers book (lent_of self.old) result self.new.task_state
             (blocks_on (asking (kernel_in kernel.entry) (purpose_in purpose)) fs ps) }
     {
         self.task_state = TaskState::Asked { kernel, purpose };
-        Moved::Stops(Stop::Ask(Request {
-            kernel,
-            part: self.part,
-        }))
+        let part = self.part_here();
+        Moved::Stops(Stop::Ask(Request { kernel, part }))
     }
 }

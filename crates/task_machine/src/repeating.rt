@@ -1,27 +1,36 @@
-ghost use Rattle.std.specs.Prelude.{◌≡◌, ◌+◌, ◌≤◌, List, [], ◌∷◌, None, OnOk, IfOk};
+ghost use Rattle.std.specs.Prelude.{◌≡◌, ◌+◌, ◌≤◌, List, [], ◌∷◌, None, All, OnOk, IfOk};
 ghost use Rattle.std.specs.Option.{option_map};
 ghost use Rattle.exceptions.specs.Held.{exc_of};
 ghost use Rattle.job_tree.specs.declared.limits.TheConstants.{MAX_PASSES};
 ghost use Rattle.turn_semantics.specs.Midway.{Place};
+ghost use Rattle.job_meaning.specs.Walk.{cuts_over};
 ghost use Rattle.turn_semantics.specs.Steps.{onward, begins_passes, step_pass};
 ghost use Rattle.task_machine.specs.Entered.{label_in};
-ghost use Rattle.task_machine.specs.Fitting.{blocks_of};
-ghost use Rattle.task_machine.specs.Frames.{frames_of, passes_onto};
+ghost use Rattle.input_lines.specs.Part.{buffer_of, range_of};
+ghost use Rattle.task_machine.specs.Fitting.{HasCut, blocks_of};
+ghost use Rattle.task_machine.specs.Tasks.{lent_of};
+ghost use Rattle.task_machine.specs.Frames.{cuts_onto, frames_of, passes_onto};
 ghost use Rattle.task_machine.specs.Stops.{Numbers};
 
 use crate::frame::Frame;
 use crate::task::Task;
 use exceptions::{Exc, Label};
+use input_lines::Part;
 use job_tree::{Body, Name};
 use std::alloc::AllocError;
 
 impl<'a> Task<'a> {
     // A `repeat` begins: its first pass, if it has one.
-    pub(crate) fn begin_passes(&mut self, count: u64, body: &'a Body) -> Result<(), AllocError>
+    pub(crate) fn begin_passes(
+        &mut self,
+        count: u64,
+        over: bool,
+        body: &'a Body,
+    ) -> Result<(), AllocError>
         ensures stays { OnOk result (self.new ≡ record self.old { frames = self.new.frames }) }
         ensures blocks { OnOk result (blocks_of self.new.frames.items ≡ blocks_of self.old.frames.items) }
         ensures step { OnOk result ((numbers : Numbers) (ps : List Place) →
-            begins_passes count body.now (frames_of numbers self.old.frames.items) ps
+            begins_passes count over body.now (frames_of numbers self.old.frames.items) ps
             ≡ onward (frames_of numbers self.new.frames.items) ps None) }
     {
         if count == 0 {
@@ -30,6 +39,7 @@ impl<'a> Task<'a> {
         self.push(Frame::Repeat {
             pass: 0,
             left: count - 1,
+            cuts: cuts_over(over, count),
             body,
         })?;
         self.push(Frame::Steps(body.as_slice()))?;
@@ -42,6 +52,7 @@ impl<'a> Task<'a> {
         &mut self,
         pass: u64,
         left: u64,
+        cuts: Option<u64>,
         body: &'a Body,
         exc: Option<Exc>,
     ) -> Result<Option<Exc>, AllocError>
@@ -49,7 +60,7 @@ impl<'a> Task<'a> {
         ensures stays { OnOk result (self.new ≡ record self.old { frames = self.new.frames }) }
         ensures blocks { OnOk result (blocks_of self.new.frames.items ≡ blocks_of self.old.frames.items) }
         ensures step { IfOk result (λ after. (numbers : Numbers) (ps : List Place) →
-            step_pass pass left body.now (frames_of numbers self.old.frames.items) ps (option_map exc_of exc)
+            step_pass pass left cuts body.now (frames_of numbers self.old.frames.items) ps (option_map exc_of exc)
             ≡ onward (frames_of numbers self.new.frames.items) ps (option_map exc_of after)) }
     {
         if let Some(exc) = exc {
@@ -61,6 +72,7 @@ impl<'a> Task<'a> {
         self.push(Frame::Repeat {
             pass: pass + 1,
             left: left - 1,
+            cuts,
             body,
         })?;
         self.push(Frame::Steps(body.as_slice()))?;
@@ -74,6 +86,51 @@ impl<'a> Task<'a> {
     {
         let label = self.label.with_name(self.alloc, name)?;
         label_inside(label, self.frames.as_slice())
+    }
+
+    // The part of the input at this point of the task: its own, or the cut of the pass of each `repeat over` that it is in.
+    pub(crate) fn part_here(&self) -> Part<'a>
+        requires { All HasCut self.now.frames.items }
+        ensures buffer { buffer_of result ≡ (lent_of self.now).input }
+        ensures range { range_of result ≡ (lent_of self.now).range }
+    {
+        part_inside(self.part, self.frames.as_slice())
+    }
+}
+
+// Into how many cuts the part is divided for this many passes, if it is.
+fn cuts_over(over: bool, count: u64) -> Option<u64>
+    ensures { result ≡ cuts_over over count }
+{
+    if over { Some(count) } else { None }
+}
+
+// The part inside frames, outermost first.
+fn part_inside<'a>(part: Part<'a>, frames: &[Frame]) -> Part<'a>
+    requires { All HasCut frames.now }
+    ensures buffer { buffer_of result ≡ buffer_of part.entry }
+    ensures range { range_of result ≡ cuts_onto (buffer_of part.entry) frames.now (range_of part.entry) }
+{
+    let mut inner = part;
+    'frames: for frame in frames {
+        inner = part_in_frame(inner, frame);
+    }
+    inner
+}
+
+// The cut for the pass, if the frame is that of a `repeat over`.
+fn part_in_frame<'a>(part: Part<'a>, frame: &Frame) -> Part<'a>
+    requires { HasCut frame.now }
+    ensures buffer { buffer_of result ≡ buffer_of part.entry }
+    ensures range { range_of result ≡ cuts_onto (buffer_of part.entry) (frame.now ∷ []) (range_of part.entry) }
+{
+    match frame {
+        Frame::Repeat {
+            pass,
+            cuts: Some(cuts),
+            ..
+        } => part.cut(*cuts as usize, *pass as usize),
+        _ => part,
     }
 }
 

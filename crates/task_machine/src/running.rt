@@ -122,8 +122,8 @@ impl<'a> Task<'a> {
                 self.begin_children(*name, *over, body, world)?;
                 Ok(Moved::On(None))
             }
-            Step::Repeat { count, body } => {
-                self.begin_passes(*count, body)?;
+            Step::Repeat { count, over, body } => {
+                self.begin_passes(*count, *over, body)?;
                 Ok(Moved::On(None))
             }
             Step::Try {

@@ -1,4 +1,4 @@
-ghost use Rattle.std.specs.Prelude.{◌≡◌, ◌≤◌, ◌<◌, ◌^◌, ◌++◌, ℕ, List, [], ◌∷◌, Some, None, OnOk, IfOk, IsTrue, length};
+ghost use Rattle.std.specs.Prelude.{◌≡◌, ◌≤◌, ◌<◌, ◌^◌, ◌++◌, ℕ, List, [], ◌∷◌, Some, None, OnOk, IfOk, IsTrue, All, length};
 ghost use Rattle.input_lines.specs.Part.{buffer_of, range_of};
 ghost use Rattle.exceptions.specs.Exceptions.{Label as Named};
 ghost use Rattle.job_meaning.specs.Rest.{steps_left};
@@ -6,7 +6,7 @@ ghost use Rattle.nursery_book.specs.Book.{HasNursery};
 ghost use Rattle.task_machine.specs.declared.stop.TaskState.TheVariants.{ToBegin};
 ghost use Rattle.job_tree.specs.InRange.{IsInRangeOver};
 ghost use Rattle.turn_semantics.specs.Placed.{in_body};
-ghost use Rattle.task_machine.specs.Fitting.{Fits, InBody};
+ghost use Rattle.task_machine.specs.Fitting.{Fits, HasCut, InBody};
 ghost use Rattle.task_machine.specs.Frames.{frames_of};
 ghost use Rattle.task_machine.specs.Stops.{Numbers};
 ghost use Rattle.task_machine.specs.Started.{StartsOne, StartsOver, StartsChildren};
@@ -88,7 +88,7 @@ impl<'a> Task<'a> {
         Ok(())
     }
 
-    // Starts a child for each cut of the task's part.
+    // Starts a child for each cut of the part that the task has here.
     pub(crate) fn start_over(
         &self,
         nursery: NurseryId,
@@ -97,6 +97,7 @@ impl<'a> Task<'a> {
         body: &'a Body,
         world: &mut World<'a>,
     ) -> Result<(), AllocError>
+        requires cuts { All HasCut self.now.frames.items }
         requires some { 1 ≤ copies }
         requires few { copies ≤ 64 }
         requires nursery { HasNursery world.old.book nursery (λ n. n.body ≡ None) }
@@ -105,7 +106,8 @@ impl<'a> Task<'a> {
         ensures started { OnOk result (StartsOver (state_of self.now world.old) (state_of self.now world.new) nursery name copies body.now
             copies) }
     {
-        let mut cuts = self.part.cuts(copies as usize);
+        let whole = self.part_here();
+        let mut cuts = whole.cuts(copies as usize);
         'copies: for i in 0..copies {
             let part = cuts.next_cut();
             let label = self.label_here(name)?.with_index(i)?;
@@ -114,7 +116,7 @@ impl<'a> Task<'a> {
         Ok(())
     }
 
-    // Starts the children of a `start`: one on the task's part, or one for each of `over` cuts.
+    // Starts the children of a `start`: one on the part that the task has here, or one for each of `over` cuts of it.
     pub(crate) fn begin_children(
         &self,
         name: Name,
@@ -134,7 +136,8 @@ impl<'a> Task<'a> {
         match over {
             None => {
                 let label = self.label_here(name)?;
-                self.start(nursery, label, self.part, body, world)?;
+                let part = self.part_here();
+                self.start(nursery, label, part, body, world)?;
             }
             Some(copies) => self.start_over(nursery, name, copies, body, world)?,
         }

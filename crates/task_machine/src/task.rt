@@ -61,11 +61,11 @@ pub struct Task<'a> {
 }
 
 impl<'a> Task<'a> {
-    /// Returns the root task of a job on a part of the input, which has at most `MAX_INPUT` bytes. All steps of the
+    /// Returns the root task of a job on a part of an input, which has at most `MAX_INPUT` bytes. All steps of the
     /// job are left to do, it is in no nursery and no scope, and it has noted nothing. The only error is that memory
     /// runs out.
     pub fn root(alloc: Global, job: &'a Job, part: Part<'a>) -> Result<Task<'a>, AllocError>
-        requires { length (bytes_of (buffer_of part) (range_of part)) ≤ MAX_INPUT }
+        requires { length (buffer_of part) ≤ MAX_INPUT }
         ensures label { IfOk result (λ task. task.label ≡ record { name = job.now.name; indices = [] }) }
         ensures part { IfOk result (λ task. task.part ≡ part.entry) }
         ensures home { IfOk result (λ task. task.home ≡ None) }

@@ -10,6 +10,7 @@ ghost use Rattle.task_machine.specs.declared.world.World.{World as WorldOf};
 ghost use Rattle.task_machine.specs.States.{state_of};
 ghost use Rattle.task_machine.specs.Waiters.{KeepsRest};
 ghost use Rattle.task_machine.specs.Waking.{WakesFrom, IsInRangeTaskState};
+ghost use Rattle.task_machine.specs.Tasks.{lent_of};
 
 use crate::boxing::unbox_exc;
 use crate::frame::Frame;
@@ -42,7 +43,7 @@ impl<'a> Task<'a> {
         requires fits { Fits (state_of self.old world.old) (waits_of self.old.task_state) }
         requires tick { world.old.tick ≤ 2 ^ 62 }
         requires task_state { IsInRangeTaskState self.old.task_state }
-        requires wake { WakesFrom self.old.task_state self.old.part world.old.book wake }
+        requires wake { WakesFrom self.old.task_state (lent_of self.old) world.old.book wake }
         ensures keeps { OnOk result (KeepsRest me self.old self.new world.old world.new) }
         ensures fits { OnOk result (Fits (state_of self.new world.new) (waits_of self.new.task_state)) }
         ensures turn { IfOk result (λ stop. TurnsAs (state_of self.old world.old) (state_of self.new world.new) wake.entry stop) }
@@ -130,8 +131,13 @@ impl<'a> Task<'a> {
                 Ok(Moved::On(exc))
             }
             Frame::Nursery { id } => Ok(self.end_body(id, exc, world)),
-            Frame::Repeat { pass, left, body } => {
-                let exc = self.next_pass(pass, left, body, exc)?;
+            Frame::Repeat {
+                pass,
+                left,
+                cuts,
+                body,
+            } => {
+                let exc = self.next_pass(pass, left, cuts, body, exc)?;
                 Ok(Moved::On(exc))
             }
             Frame::Try { handler, cleanup } => {

@@ -13,7 +13,7 @@ ghost use Rattle.task_machine.specs.Noted.{entry_of};
 ghost use Rattle.task_machine.specs.Stacked.{AreAt, AwaitsEvent};
 ghost use Rattle.task_machine.specs.Standing.{waits_by};
 ghost use Rattle.task_machine.specs.Stops.{Numbers, MovesAs};
-ghost use Rattle.task_machine.specs.Tasks.{scope_of};
+ghost use Rattle.task_machine.specs.Tasks.{scope_of, lent_of};
 ghost use Rattle.task_machine.specs.Waking.{IsInRangeTaskState};
 ghost use Rattle.task_machine.specs.Worlds.{label_at, event_at, NotesWait};
 
@@ -49,7 +49,7 @@ impl<'a> Task<'a> {
         ensures waits { waits_by result self.new.task_state ≡ None }
         ensures moves { (cancelled_from : Table) (numbers : Numbers) (book : Book) (fs : List Left) (ps : List Place) →
             AreAt (label_at world.now) (event_at world.now) cancelled_from (outer_of world.now.scopes (scope_of self.old)) ps →
-            MovesAs world.now.clock numbers book self.old.part result self.new.task_state
+            MovesAs world.now.clock numbers book (lent_of self.old) result self.new.task_state
             (waits_on (label_among true name ps) name world.now.tick fs ps)
             × AwaitsEvent (label_at world.now) (outer_of world.now.scopes (scope_of self.old))
             (waits_on (label_among true name ps) name world.now.tick fs ps).stopped self.new.task_state ps }

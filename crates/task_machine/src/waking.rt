@@ -12,7 +12,7 @@ ghost use Rattle.turn_semantics.specs.Wakes.{has_answer, sees, settles};
 ghost use Rattle.task_machine.specs.Fitting.{Fits, waits_of};
 ghost use Rattle.task_machine.specs.Standing.{waits_by, Wakens};
 ghost use Rattle.task_machine.specs.States.{state_of};
-ghost use Rattle.task_machine.specs.Tasks.{scope_of};
+ghost use Rattle.task_machine.specs.Tasks.{scope_of, lent_of};
 ghost use Rattle.task_machine.specs.Waiters.{SameWaiters};
 ghost use Rattle.task_machine.specs.Waking.{WakesFrom, wake_in, answer_in, settled_exc, IsInRangeTaskState, IsInRangePurpose};
 
@@ -36,7 +36,7 @@ impl<'a> Task<'a> {
         requires fits { Fits (state_of self.old world.old) (waits_of self.old.task_state) }
         requires tick { world.old.tick ≤ 2 ^ 62 }
         requires task_state { IsInRangeTaskState self.old.task_state }
-        requires wake { WakesFrom self.old.task_state self.old.part world.old.book wake }
+        requires wake { WakesFrom self.old.task_state (lent_of self.old) world.old.book wake }
         ensures stays { OnOk result (self.new
             ≡ record self.old { own = self.new.own; task_state = self.new.task_state; entries = self.new.entries; cancelled_from = self.new.cancelled_from }) }
         ensures world { OnOk result (world.new
@@ -68,7 +68,7 @@ impl<'a> Task<'a> {
     // The moment of the task has come.
     fn come_due(&mut self, world: &mut World<'a>) -> Result<Moved<'a>, AllocError>
         requires fits { Fits (state_of self.old world.old) (waits_of self.old.task_state) }
-        requires wake { WakesFrom self.old.task_state self.old.part world.old.book wakes.Due }
+        requires wake { WakesFrom self.old.task_state (lent_of self.old) world.old.book wakes.Due }
         ensures stays { OnOk result (self.new
             ≡ record self.old { own = self.new.own; entries = self.new.entries; cancelled_from = self.new.cancelled_from }) }
         ensures world { OnOk result (world.new
@@ -100,7 +100,7 @@ impl<'a> Task<'a> {
     fn see(&mut self, world: &World<'a>) -> Moved<'a>
         requires tick { world.now.tick ≤ 2 ^ 62 }
         requires task_state { IsInRangeTaskState self.old.task_state }
-        requires wake { WakesFrom self.old.task_state self.old.part world.now.book wakes.Seen }
+        requires wake { WakesFrom self.old.task_state (lent_of self.old) world.now.book wakes.Seen }
         ensures stays { self.new ≡ record self.old { task_state = self.new.task_state } }
         ensures task_state { IsInRangeTaskState self.new.task_state }
         ensures waits { waits_by result self.new.task_state ≡ None }
@@ -121,10 +121,10 @@ impl<'a> Task<'a> {
         world: &World<'a>,
     ) -> Result<Moved<'a>, AllocError>
         requires scope { ForSome (scope_of self.old) (IsOpen world.now.scopes) }
-        requires small { length (bytes_of (buffer_of self.old.part) (range_of self.old.part)) ≤ MAX_INPUT }
+        requires small { length (buffer_of self.old.part) ≤ MAX_INPUT }
         requires tick { world.now.tick ≤ 2 ^ 62 }
         requires task_state { IsInRangeTaskState self.old.task_state }
-        requires wake { WakesFrom self.old.task_state self.old.part world.now.book (wakes.Answer answer) }
+        requires wake { WakesFrom self.old.task_state (lent_of self.old) world.now.book (wakes.Answer answer) }
         ensures stays { OnOk result (self.new ≡ record self.old { task_state = self.new.task_state; entries = self.new.entries }) }
         ensures task_state { OnOk result (IsInRangeTaskState self.new.task_state) }
         ensures waits { IfOk result (λ moved. waits_by moved self.new.task_state ≡ None) }
@@ -189,7 +189,7 @@ impl<'a> Task<'a> {
     // The nursery that the task waits for is settled: it is left with the group of what its members raised.
     fn settle(&mut self, world: &mut World<'a>) -> Result<Moved<'a>, AllocError>
         requires fits { Fits (state_of self.old world.old) (waits_of self.old.task_state) }
-        requires wake { WakesFrom self.old.task_state self.old.part world.old.book wakes.Settled }
+        requires wake { WakesFrom self.old.task_state (lent_of self.old) world.old.book wakes.Settled }
         ensures stays { OnOk result (self.new
             ≡ record self.old { own = self.new.own; entries = self.new.entries; cancelled_from = self.new.cancelled_from }) }
         ensures world { OnOk result (world.new

@@ -6,6 +6,7 @@ use Rattle.exceptions.specs.Held.{exc_of}
 use Rattle.exceptions.specs.declared.exc.Exc as held
 use Rattle.task_table.specs.declared.live.Live.{Live}
 use Rattle.task_table.specs.Live.{live_at}
+use Rattle.task_machine.specs.Tasks.{lent_of}
 use Rattle.task_machine.specs.States.{state_of}
 use Rattle.task_machine.specs.declared.stop.Stop.{Stop}
 use Rattle.task_machine.specs.declared.stop.Wake.{Wake}
@@ -168,7 +169,7 @@ pub record Starts (old new : TaskTable) (parent : ℕ) (started : Task) (tick id
 pub record MayTurn (world : World) (task : Task) (from : Wake) : Type 0 where
   pub fits : Fits (state_of task world) (waits_of task.task_state)
   pub in_range : IsInRangeTaskState task.task_state
-  pub wake : WakesFrom task.task_state task.part world.book from
+  pub wake : WakesFrom task.task_state (lent_of task) world.book from
 
 -- The task with an id had its turn, in which it stopped so. The others stay.
 pub record HasTurn (old new : TaskTable) (was now : World) (id : ℕ) (wake : Wake) (stop : Stop) : Type 0 where

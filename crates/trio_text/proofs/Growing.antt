@@ -12,7 +12,7 @@ use Rattle.trio_text.specs.Uses.{Known, among, known_of, classes_of}
 use Rattle.trio_text.specs.Needs.{uses_of}
 use Rattle.trio_text.specs.Tasks.{tasks_of, tasks_in, handled_tasks, cleaned_tasks, function_head, HasFunction, HasFunctions}
 use Rattle.trio_text.specs.Lines.{margin, deeper, with_line, with_gap, with_used, with_nested_block, with_nested_call}
-use Rattle.trio_text.specs.Statements.{class_of, handled_class, with_call, with_text, with_find, with_need, with_cancel, with_set, with_wait, with_statement, with_plain, is_plain, scope_kind, plain_scope, with_timed_scope, with_scope_call, with_setting, with_scope, with_opened, with_deadline_from, with_deadline, with_nursery, with_event, with_task, with_start, with_starts, with_repeat, with_handling}
+use Rattle.trio_text.specs.Statements.{class_of, handled_class, with_call, with_text, with_find, with_need, with_cancel, with_set, with_wait, with_statement, with_plain, is_plain, scope_kind, plain_scope, with_timed_scope, with_scope_call, with_setting, with_scope, with_opened, with_deadline_from, with_deadline, with_nursery, with_event, with_task, with_start, with_cuts, with_starts, with_repeat, with_each_part, with_each_cut, with_handling}
 use Rattle.trio_text.specs.Program.{IsProgram, header, imports, classes, helpers, footer, with_root, with_start_time}
 use Rattle.trio_text.specs.Blocks.{OrPass, Inside, Tried, Finally, Apart, with_nested_try, with_nested_calls, Writes, WritesStep, WritesHandler, WritesTry}
 
@@ -252,24 +252,37 @@ unfolding with_start
 longer_start level around name end a =
     more a _ end (more a _ (name_text name) (more a _ (codes ".start_soon(") (more a _ (name_text around) (more a a (margin level) (same a)))))
 
+longer_cuts : (level count : ℕ) (a : List ℕ) → Longer a (with_cuts level count a)
+unfolding with_cuts
+longer_cuts level count a =
+    let b = (a ++ codes "\n") ++ margin level in
+    more a _ (codes ":\n")
+    (along a b _ (more a _ (margin level) (more a a (codes "\n") (same a))) (longer_call (codes "for cut in over(part, ") count b))
+
 longer_starts : (level : ℕ) (around name : List ℕ) (over : Option ℕ) (a : List ℕ) → Longer a (with_starts level around name over a)
 unfolding with_starts
 longer_starts level around name None a =
     let b = a ++ codes "\n" in
     along a b _ (more a a (codes "\n") (same a)) (longer_start level around name (codes ")\n") b)
 longer_starts level around name (Some copies) a =
-    let b = (a ++ codes "\n") ++ margin level in
-    let d = with_call (codes "for cut in over(part, ") copies b in
-    let e = d ++ codes ":\n" in
-    along a b _ (more a _ (margin level) (more a a (codes "\n") (same a)))
-    (along b d _ (longer_call (codes "for cut in over(part, ") copies b)
-    (along d e _ (more d d (codes ":\n") (same d)) (longer_start (deeper level) around name (codes ", cut)\n") e)))
+    let b = with_cuts level copies a in
+    along a b _ (longer_cuts level copies a) (longer_start (deeper level) around name (codes ", cut)\n") b)
 
 longer_repeat : (level count : ℕ) (a : List ℕ) → Longer a (with_repeat level count a)
 unfolding with_repeat
 longer_repeat level count a =
     let b = a ++ margin level in
     more a _ (codes ":\n") (along a b _ (more a a (margin level) (same a)) (longer_call (codes "for _ in range(") count b))
+
+longer_each_part : (level : ℕ) (a : List ℕ) → Longer a (with_each_part level a)
+unfolding with_each_part
+longer_each_part level a = along a (with_gap a) _ (longer_gap a) (longer_line level (codes "async def each_part(part):") (with_gap a))
+
+longer_each_cut : (level count : ℕ) (a : List ℕ) → Longer a (with_each_cut level count a)
+unfolding with_each_cut
+longer_each_cut level count a =
+    let b = with_cuts level count a in
+    along a b _ (longer_cuts level count a) (longer_line (deeper level) (codes "await each_part(cut)") b)
 
 longer_handling : (known : Known) (level : ℕ) (name a : List ℕ) → Longer a (with_handling known level name a)
 unfolding with_handling
@@ -404,10 +417,16 @@ mutual
       (grows_then (tasks_of body) is.middle inner.middle b
       (block body (Writes known around body) (writes_grow known around body) (deeper level) is.middle inner.middle inner.starts)
       (adds inner.middle (with_starts level around name over inner.middle) b (longer_starts level around name over inner.middle) inner.ends))
-  step_grows known around (repeat count body) level a b is =
+  step_grows known around (repeat count false body) level a b is =
       then_grows (tasks_of body) a is.middle b
       (adds a (with_repeat level count a) is.middle (longer_repeat level count a) is.starts)
       (block body (Writes known around body) (writes_grow known around body) (deeper level) is.middle b is.ends)
+  step_grows known around (repeat count true body) level a b is =
+      let inner = is.ends in
+      then_grows (tasks_of body) a is.middle b (adds a (with_each_part level a) is.middle (longer_each_part level a) is.starts)
+      (grows_then (tasks_of body) is.middle inner.middle b
+      (block body (Writes known around body) (writes_grow known around body) (deeper level) is.middle inner.middle inner.starts)
+      (adds inner.middle (with_each_cut level count inner.middle) b (longer_each_cut level count inner.middle) inner.ends))
   step_grows known around (attempt body handler cleanup) level a b is =
       any_try_grows known around cleanup (tasks_of body ++ handled_tasks handler)
       (Tried (Inside (OrPass body (Writes known around body))) (WritesHandler known around handler))

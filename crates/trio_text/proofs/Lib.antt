@@ -2,3 +2,4 @@ pub mod Fronts
 pub mod Growing
 pub mod Naming
 pub mod Needing
+pub mod Passing

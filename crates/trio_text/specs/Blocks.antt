@@ -1,11 +1,11 @@
 -- What the program has for the steps of a block: a piece of text for each of them, in order. Whether a block or a cleanup gets a
 -- function of its own, as deeply nested ones do, is left open.
-use Rattle.std.specs.Prelude.{ℕ, List, ◌++◌, ◌⊎◌, codes}
+use Rattle.std.specs.Prelude.{ℕ, true, false, List, ◌++◌, ◌⊎◌, codes}
 use Rattle.job_tree.specs.Tree.{Step, scope, nursery, event, start, repeat, attempt, Steps, stop, step, Handled, unhandled, except, Cleaned, uncleaned, finally}
 use Rattle.trio_text.specs.Uses.{Known}
 use Rattle.trio_text.specs.Pieces.{Adds, AddsNothing, Then}
 use Rattle.trio_text.specs.Lines.{deeper, with_line, with_nested_block, with_nested_call}
-use Rattle.trio_text.specs.Statements.{with_plain, with_scope, with_nursery, with_event, with_task, with_starts, with_repeat, with_handling}
+use Rattle.trio_text.specs.Statements.{with_plain, with_scope, with_nursery, with_event, with_task, with_starts, with_repeat, with_each_part, with_each_cut, with_handling}
 
 -- the steps of a block, or `pass` where it has none
 abbrev pub OrPass : Steps → (ℕ → List ℕ → List ℕ → Type 0) → ℕ → List ℕ → List ℕ → Type 0
@@ -56,8 +56,12 @@ abbrev mutual
   WritesStep known around (start name over body) level =
       Then (Adds (with_task level name over)) (Then (Inside (OrPass body (Writes known around body)) (deeper level))
       (Adds (with_starts level around name over)))
-  WritesStep known around (repeat count body) level =
+  WritesStep known around (repeat count false body) level =
       Then (Adds (with_repeat level count)) (Inside (OrPass body (Writes known around body)) (deeper level))
+  -- each pass over a part of the input is a call of a function
+  WritesStep known around (repeat count true body) level =
+      Then (Adds (with_each_part level)) (Then (Inside (OrPass body (Writes known around body)) (deeper level))
+      (Adds (with_each_cut level count)))
   WritesStep known around (attempt body handler cleanup) level =
       WritesTry known around cleanup (Tried (Inside (OrPass body (Writes known around body))) (WritesHandler known around handler)) level
   WritesStep known around s level = Adds (with_plain known level s)

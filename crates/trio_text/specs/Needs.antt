@@ -50,7 +50,7 @@ abbrev mutual
   uses_in (nursery name deadline shield body) = any_use (deadline_use deadline) (uses_of body)
   uses_in (event name body) = uses_of body
   uses_in (start name over body) = any_use (record no_uses { over = is_some over }) (uses_of body)
-  uses_in (repeat count body) = uses_of body
+  uses_in (repeat count over body) = any_use (record no_uses { over = over }) (uses_of body)
   uses_in (attempt body handler cleanup) = any_use (any_use (uses_of body) (handled_uses handler)) (cleaned_uses cleanup)
   uses_in s = plain_uses s
 

@@ -132,15 +132,26 @@ with_task level name over before =
 unfoldable pub with_start : ℕ → List ℕ → List ℕ → List ℕ → List ℕ → List ℕ
 with_start level around name end before = before ++ margin level ++ name_text around ++ codes ".start_soon(" ++ name_text name ++ end
 
+-- an empty line, and the line that begins a loop over the parts of the input
+unfoldable pub with_cuts : ℕ → ℕ → List ℕ → List ℕ
+with_cuts level count before = with_call (codes "for cut in over(part, ") count (before ++ codes "\n" ++ margin level) ++ codes ":\n"
+
 -- the lines that start a task, or one task for each part of the input
 unfoldable pub with_starts : ℕ → List ℕ → List ℕ → Option ℕ → List ℕ → List ℕ
 with_starts level around name None before = with_start level around name (codes ")\n") (before ++ codes "\n")
-with_starts level around name (Some copies) before = with_start (deeper level) around name (codes ", cut)\n")
-    (with_call (codes "for cut in over(part, ") copies (before ++ codes "\n" ++ margin level) ++ codes ":\n")
+with_starts level around name (Some copies) before = with_start (deeper level) around name (codes ", cut)\n") (with_cuts level copies before)
 
 -- the line that begins a loop
 unfoldable pub with_repeat : ℕ → ℕ → List ℕ → List ℕ
 with_repeat level count before = with_call (codes "for _ in range(") count (before ++ margin level) ++ codes ":\n"
+
+-- the line that begins the function of a pass of a `repeat over`
+unfoldable pub with_each_part : ℕ → List ℕ → List ℕ
+with_each_part level before = with_line level (codes "async def each_part(part):") (with_gap before)
+
+-- the lines that call it for each part of the input
+unfoldable pub with_each_cut : ℕ → ℕ → List ℕ → List ℕ
+with_each_cut level count before = with_line (deeper level) (codes "await each_part(cut)") (with_cuts level count before)
 
 -- the lines that begin a handler
 unfoldable pub with_handling : Known → ℕ → List ℕ → List ℕ → List ℕ

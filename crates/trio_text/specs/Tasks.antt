@@ -14,7 +14,7 @@ abbrev mutual
   tasks_in (nursery name deadline shield body) = tasks_of body
   tasks_in (event name body) = tasks_of body
   tasks_in (start name over body) = name ∷ tasks_of body
-  tasks_in (repeat count body) = tasks_of body
+  tasks_in (repeat count over body) = tasks_of body
   tasks_in (attempt body handler cleanup) = (tasks_of body ++ handled_tasks handler) ++ cleaned_tasks cleanup
   tasks_in s = []
 

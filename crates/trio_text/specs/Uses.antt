@@ -43,7 +43,7 @@ abbrev mutual
   exceptions_in (nursery name deadline shield body) = exceptions_of body
   exceptions_in (event name body) = exceptions_of body
   exceptions_in (start name over body) = exceptions_of body
-  exceptions_in (repeat count body) = exceptions_of body
+  exceptions_in (repeat count over body) = exceptions_of body
   exceptions_in (attempt body handler cleanup) = (exceptions_of body ++ handled_exceptions handler) ++ cleaned_exceptions cleanup
   exceptions_in s = plain_exceptions s
 
@@ -66,7 +66,7 @@ abbrev mutual
   nurseries_in (nursery name deadline shield body) = name ∷ nurseries_of body
   nurseries_in (event name body) = nurseries_of body
   nurseries_in (start name over body) = nurseries_of body
-  nurseries_in (repeat count body) = nurseries_of body
+  nurseries_in (repeat count over body) = nurseries_of body
   nurseries_in (attempt body handler cleanup) = (nurseries_of body ++ handled_nurseries handler) ++ cleaned_nurseries cleanup
   nurseries_in s = []
 

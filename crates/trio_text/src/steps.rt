@@ -1,5 +1,6 @@
 ghost use Rattle.std.specs.Prelude.{◌≡◌, ◌++◌, OnOk, codes};
 ghost use Rattle.job_tree.specs.Blocks.{cleaned_of, handled_of, step_of, steps_of};
+ghost use Rattle.job_tree.specs.Tree.{repeat};
 ghost use Rattle.trio_text.specs.Blocks.{Apart, Inside, OrPass, Tried, Writes, WritesHandler, WritesStep, WritesTry};
 ghost use Rattle.trio_text.specs.Uses.{known_in};
 
@@ -8,7 +9,7 @@ use crate::pieces::push_line;
 use crate::place::Place;
 use crate::scopes::{push_event, push_nursery, push_scope};
 use crate::statements::{push_handling, push_plain, push_repeat};
-use crate::tasks::{push_starts, push_task};
+use crate::tasks::{push_each_cut, push_each_part, push_starts, push_task};
 use crate::words::Words;
 use job_tree::{Body, Handler, Step};
 use std::alloc::AllocError;
@@ -104,10 +105,7 @@ fn push_step(out: &mut Vec<u8>, words: &Words, place: &Place, step: &Step) -> Re
             push_block(out, words, &place.in_function(), body)?;
             push_starts(out, place.level, place.nursery, *name, *over)
         }
-        Step::Repeat { count, body } => {
-            push_repeat(out, place.level, *count)?;
-            push_block(out, words, &place.inside(1), body)
-        }
+        Step::Repeat { count, over, body } => push_passes(out, words, place, *count, *over, body),
         Step::Try {
             body,
             handler,
@@ -115,6 +113,30 @@ fn push_step(out: &mut Vec<u8>, words: &Words, place: &Place, step: &Step) -> Re
         } => push_try(out, words, place, body, handler, cleanup),
         _ => push_plain(out, words, place.level, step),
     }
+}
+
+// Appends a `repeat`. Each pass over a part of the input is a call of a function.
+#[cycle(steps)]
+fn push_passes(
+    out: &mut Vec<u8>,
+    words: &Words,
+    place: &Place,
+    count: u64,
+    over: bool,
+    body: &Body,
+) -> Result<(), AllocError>
+    ensures { OnOk result (WritesStep (known_in words.now) place.now.nursery (repeat count over body.now) place.now.level
+        out.old.items out.new.items) }
+{
+    if over {
+        push_each_part(out, place.level)?;
+        push_block(out, words, &place.in_function(), body)?;
+        push_each_cut(out, place.level, count)?;
+        return Ok(());
+    }
+    push_repeat(out, place.level, count)?;
+    push_block(out, words, &place.inside(1), body)?;
+    Ok(())
 }
 
 #[cycle(steps)]

@@ -74,6 +74,7 @@ pub(crate) const TAKEN: &[&'static [u8]] = &[
     b"run_watched",
     b"show_lines",
     b"show_version",
+    b"each_part",
     b"nested_block",
     b"nested_cleanup",
     b"cut",

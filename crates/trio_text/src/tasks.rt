@@ -1,5 +1,5 @@
 ghost use Rattle.std.specs.Prelude.{◌≡◌, OnOk};
-ghost use Rattle.trio_text.specs.Statements.{parameters, with_start, with_starts, with_task};
+ghost use Rattle.trio_text.specs.Statements.{parameters, with_cuts, with_each_cut, with_each_part, with_start, with_starts, with_task};
 
 use crate::names::push_name;
 use crate::pieces::{begin, push_gap, push_line};
@@ -47,16 +47,45 @@ pub(crate) fn push_starts(
 ) -> Result<(), AllocError>
     ensures { OnOk result (out.new.items ≡ with_starts level around name over out.old.items) }
 {
-    out.extend_from_slice(b"\n")?;
     match over {
-        None => push_start(out, level, around, name, b")\n"),
+        None => {
+            out.extend_from_slice(b"\n")?;
+            push_start(out, level, around, name, b")\n")
+        }
         Some(copies) => {
-            begin(out, level)?;
-            push_call(out, b"for cut in over(part, ", copies)?;
-            out.extend_from_slice(b":\n")?;
+            push_cuts(out, level, copies)?;
             push_start(out, deeper(level), around, name, b", cut)\n")
         }
     }
+}
+
+// Appends an empty line, and the line that begins a loop over the parts of the input.
+#[tactic(auto, unfolding(crate::specs::Statements::with_cuts))]
+fn push_cuts(out: &mut Vec<u8>, level: usize, count: u64) -> Result<(), AllocError>
+    ensures { OnOk result (out.new.items ≡ with_cuts level count out.old.items) }
+{
+    out.extend_from_slice(b"\n")?;
+    begin(out, level)?;
+    push_call(out, b"for cut in over(part, ", count)?;
+    out.extend_from_slice(b":\n")
+}
+
+// Appends the line that begins the function of a pass of a `repeat over`.
+#[tactic(auto, unfolding(crate::specs::Statements::with_each_part))]
+pub(crate) fn push_each_part(out: &mut Vec<u8>, level: usize) -> Result<(), AllocError>
+    ensures { OnOk result (out.new.items ≡ with_each_part level out.old.items) }
+{
+    push_gap(out)?;
+    push_line(out, level, b"async def each_part(part):")
+}
+
+// Appends the lines that call that function for each part of the input.
+#[tactic(auto, unfolding(crate::specs::Statements::with_each_cut))]
+pub(crate) fn push_each_cut(out: &mut Vec<u8>, level: usize, count: u64) -> Result<(), AllocError>
+    ensures { OnOk result (out.new.items ≡ with_each_cut level count out.old.items) }
+{
+    push_cuts(out, level, count)?;
+    push_line(out, deeper(level), b"await each_part(cut)")
 }
 
 // Appends the line that starts a task in the nursery around it.

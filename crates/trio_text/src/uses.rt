@@ -99,7 +99,7 @@ fn uses_in(step: &Step) -> Uses
         Step::Start { over, body, .. } => {
             any_use(over_use(over.is_some()), uses_of(body.as_slice()))
         }
-        Step::Repeat { body, .. } => uses_of(body.as_slice()),
+        Step::Repeat { over, body, .. } => any_use(over_use(*over), uses_of(body.as_slice())),
         Step::Try {
             body,
             handler,
@@ -161,12 +161,12 @@ fn deadline_use(deadline: Deadline) -> Uses
     uses
 }
 
-// Returns what a started task needs, with copies or without.
-fn over_use(has_copies: bool) -> Uses
-    ensures { result ≡ record no_uses { over = has_copies } }
+// Returns what a started task or a `repeat` needs, which divides its part of the input or not.
+fn over_use(divides: bool) -> Uses
+    ensures { result ≡ record no_uses { over = divides } }
 {
     let mut uses = no_uses();
-    uses.over = has_copies;
+    uses.over = divides;
     uses
 }
 

@@ -1,10 +1,11 @@
 -- What each step of a turn makes, begins and leaves, case by case.
 use Rattle.std.proofs.Common.{◌≡◌, inl, inr, ℕ, zero, suc, ◌+◌, ◌-◌, ◌*◌, ◌≤◌, Bool, true, false, not, ◌&&◌, Option, Some, None, List, [], ◌∷◌, ◌++◌, length, refl, ap, sym, ◌∙◌, subst, arith}
+use Rattle.std.specs.Prelude.{is_some}
 use Rattle.std.specs.Str.{bytes_eq}
 use Rattle.turn_semantics.specs.Lists.{IsAmong}
 use Rattle.job_tree.specs.Tree.{Step, sleep, checkpoint, forever, pace, find, head, longest, need, raise, cancel, set_event, wait_for, scope, nursery, event, start, repeat, attempt, Steps, stop, step, Handled, unhandled, except, Cleaned, uncleaned, finally}
 use Rattle.job_tree.specs.Names.{size_of}
-use Rattle.job_tree.specs.Starting.{StartsIn, StartsAt, HandlerStarts, CleanupStarts}
+use Rattle.job_tree.specs.Starting.{starts_in_pass, StartsIn, StartsAt, HandlerStarts, CleanupStarts}
 use Rattle.input_lines.specs.Cuts.{cut_of}
 use Rattle.exceptions.specs.Exceptions.{Label, Exc, cancelled}
 use Rattle.exceptions.specs.Split.{named, keep, drop}
@@ -276,7 +277,7 @@ body_started more (in_nursery children ∷ fs) = refl
 body_started more (steps_left ss ∷ fs) = body_started more fs
 body_started more (in_scope fail ∷ fs) = refl
 body_started more (in_event ∷ fs) = refl
-body_started more (in_repeat pass left again ∷ fs) = body_started more fs
+body_started more (in_repeat pass left cuts again ∷ fs) = ap (starts_in_pass (is_some cuts)) (body_started more fs)
 body_started more (in_try handler cleanup ∷ fs) = refl
 body_started more (in_handler rest cleanup ∷ fs) = refl
 body_started more (in_cleanup outcome ∷ fs) = refl
@@ -290,8 +291,8 @@ placed_started more (steps_left ss ∷ fs) ps p =
     (subst (λ (x : Bool). StartsIn x ss) (sym (body_started more fs)) p.0, placed_started more fs ps p.1)
 placed_started more (in_scope fail ∷ fs) ps p = p
 placed_started more (in_event ∷ fs) ps p = p
-placed_started more (in_repeat pass left again ∷ fs) ps p =
-    (subst (λ (x : Bool). StartsIn x again) (sym (body_started more fs)) p.0, placed_started more fs ps p.1)
+placed_started more (in_repeat pass left cuts again ∷ fs) ps p =
+    (subst (λ (x : Bool). StartsIn (starts_in_pass (is_some cuts) x) again) (sym (body_started more fs)) p.0, placed_started more fs ps p.1)
 placed_started more (in_try handler cleanup ∷ fs) ps p = p
 placed_started more (in_handler rest cleanup ∷ fs) ps p = p
 placed_started more (in_cleanup outcome ∷ fs) ps p = p
@@ -303,7 +304,7 @@ home_started more (in_nursery children ∷ fs) (p ∷ ps) = refl
 home_started more (steps_left ss ∷ fs) ps = home_started more fs ps
 home_started more (in_scope fail ∷ fs) ps = refl
 home_started more (in_event ∷ fs) ps = refl
-home_started more (in_repeat pass left again ∷ fs) ps = home_started more fs ps
+home_started more (in_repeat pass left cuts again ∷ fs) ps = home_started more fs ps
 home_started more (in_try handler cleanup ∷ fs) ps = refl
 home_started more (in_handler rest cleanup ∷ fs) ps = refl
 home_started more (in_cleanup outcome ∷ fs) ps = refl
@@ -314,7 +315,7 @@ weight_started more (in_nursery children ∷ fs) = refl
 weight_started more (steps_left ss ∷ fs) = let e = weight_started more fs in omega arith
 weight_started more (in_scope fail ∷ fs) = refl
 weight_started more (in_event ∷ fs) = refl
-weight_started more (in_repeat pass left again ∷ fs) = let e = weight_started more fs in omega arith
+weight_started more (in_repeat pass left cuts again ∷ fs) = let e = weight_started more fs in omega arith
 weight_started more (in_try handler cleanup ∷ fs) = refl
 weight_started more (in_handler rest cleanup ∷ fs) = refl
 weight_started more (in_cleanup outcome ∷ fs) = refl
@@ -416,23 +417,27 @@ start_case now cancelled_from here name (Some k) body ss fs ps count i b p =
 -- ---- passes
 
 -- the first pass of a `repeat`
-passes_case : (clock : Clock) (t : ℕ) (cancelled_from : Table) (n : ℕ) (body : Steps) (w : ℕ) (home : List Place) (fs : List Frame) (ps : List Place) (count : ℕ) →
-    StartsIn (in_body fs) body → Placed fs ps → home_places fs ps ≡ home → 2 * (n * (1 + size_of body)) + frames_weight fs ≤ w →
-    Case clock t cancelled_from w home ps count (begins_passes n body fs ps)
-passes_case clock t cancelled_from zero body w home fs ps count b p h le = onward_case clock t cancelled_from _ _ fs ps None count p h (omega arith)
-passes_case clock t cancelled_from (suc k) body w home fs ps count b p h le =
+passes_case : (clock : Clock) (t : ℕ) (cancelled_from : Table) (n : ℕ) (over : Bool) (body : Steps) (w : ℕ) (home : List Place) (fs : List Frame) (ps : List Place) (count : ℕ) →
+    StartsIn (starts_in_pass over (in_body fs)) body → Placed fs ps → home_places fs ps ≡ home →
+    2 * (n * (1 + size_of body)) + frames_weight fs ≤ w →
+    Case clock t cancelled_from w home ps count (begins_passes n over body fs ps)
+passes_case clock t cancelled_from zero over body w home fs ps count b p h le = onward_case clock t cancelled_from _ _ fs ps None count p h (omega arith)
+passes_case clock t cancelled_from (suc k) false body w home fs ps count b p h le =
     let e = suc-mul k (1 + size_of body) in
-    onward_case clock t cancelled_from _ _ (steps_left body ∷ in_repeat 0 k body ∷ fs) ps None count (b, (b, p)) h (omega arith)
+    onward_case clock t cancelled_from _ _ (steps_left body ∷ in_repeat 0 k None body ∷ fs) ps None count (b, (b, p)) h (omega arith)
+passes_case clock t cancelled_from (suc k) true body w home fs ps count b p h le =
+    let e = suc-mul k (1 + size_of body) in
+    onward_case clock t cancelled_from _ _ (steps_left body ∷ in_repeat 0 k (Some (suc k)) body ∷ fs) ps None count (b, (b, p)) h (omega arith)
 
 -- a pass has ended
-pass_case : (clock : Clock) (t : ℕ) (cancelled_from : Table) (pass left : ℕ) (body : Steps) (fs : List Frame) (ps : List Place) (exc : Option Exc) (count : ℕ) →
-    StartsIn (in_body fs) body → Placed fs ps →
-    Case clock t cancelled_from (frames_weight (in_repeat pass left body ∷ fs)) (home_places fs ps) ps count (step_pass pass left body fs ps exc)
-pass_case clock t cancelled_from pass left body fs ps (Some e) count b p = onward_case clock t cancelled_from _ _ fs ps (Some e) count p refl (omega arith)
-pass_case clock t cancelled_from pass zero body fs ps None count b p = onward_case clock t cancelled_from _ _ fs ps None count p refl (omega arith)
-pass_case clock t cancelled_from pass (suc k) body fs ps None count b p =
+pass_case : (clock : Clock) (t : ℕ) (cancelled_from : Table) (pass left : ℕ) (cuts : Option ℕ) (body : Steps) (fs : List Frame) (ps : List Place) (exc : Option Exc) (count : ℕ) →
+    StartsIn (starts_in_pass (is_some cuts) (in_body fs)) body → Placed fs ps →
+    Case clock t cancelled_from (frames_weight (in_repeat pass left cuts body ∷ fs)) (home_places fs ps) ps count (step_pass pass left cuts body fs ps exc)
+pass_case clock t cancelled_from pass left cuts body fs ps (Some e) count b p = onward_case clock t cancelled_from _ _ fs ps (Some e) count p refl (omega arith)
+pass_case clock t cancelled_from pass zero cuts body fs ps None count b p = onward_case clock t cancelled_from _ _ fs ps None count p refl (omega arith)
+pass_case clock t cancelled_from pass (suc k) cuts body fs ps None count b p =
     let e = suc-mul k (1 + size_of body) in
-    onward_case clock t cancelled_from _ _ (steps_left body ∷ in_repeat (suc pass) k body ∷ fs) ps None count (b, (b, p)) refl (omega arith)
+    onward_case clock t cancelled_from _ _ (steps_left body ∷ in_repeat (suc pass) k cuts body ∷ fs) ps None count (b, (b, p)) refl (omega arith)
 
 -- ---- each kind of step, and of frame
 
@@ -469,8 +474,8 @@ step_case now cancelled_from here (nursery name d shield body) ss fs ps count a 
 step_case now cancelled_from here (event name body) ss fs ps count a b p =
     event_case here.clock now.at cancelled_from (label_here name here) body _ _ (steps_left ss ∷ fs) ps count a (b, p) refl (omega arith)
 step_case now cancelled_from here (start name over body) ss fs ps count a b p = start_case now cancelled_from here name over body ss fs ps count a.1 b p
-step_case now cancelled_from here (repeat n body) ss fs ps count a b p =
-    passes_case here.clock now.at cancelled_from n body _ _ (steps_left ss ∷ fs) ps count a (b, p) refl (omega arith)
+step_case now cancelled_from here (repeat n over body) ss fs ps count a b p =
+    passes_case here.clock now.at cancelled_from n over body _ _ (steps_left ss ∷ fs) ps count a (b, p) refl (omega arith)
 step_case now cancelled_from here (attempt body handler cleanup) ss fs ps count a b p =
     onward_case here.clock now.at cancelled_from _ _ (steps_left body ∷ in_try handler cleanup ∷ steps_left ss ∷ fs) ps None count (a.0, (a.1, a.2, (b, p))) refl
     (omega arith)
@@ -532,7 +537,7 @@ frames_case now cancelled_from here (in_nursery children ∷ fs) (q ∷ ps) exc 
       stops = refl;
       weight = omega arith;
     }
-frames_case now cancelled_from here (in_repeat pass left body ∷ fs) ps exc count p = pass_case here.clock now.at cancelled_from pass left body fs ps exc count p.0 p.1
+frames_case now cancelled_from here (in_repeat pass left cuts body ∷ fs) ps exc count p = pass_case here.clock now.at cancelled_from pass left cuts body fs ps exc count p.0 p.1
 frames_case now cancelled_from here (in_try handler cleanup ∷ fs) ps exc count p = try_case here.clock now.at cancelled_from handler cleanup fs ps exc count p.0 p.1 p.2
 frames_case now cancelled_from here (in_handler rest cleanup ∷ fs) ps exc count p =
     onward_case here.clock now.at cancelled_from _ _ (in_try unhandled cleanup ∷ fs) ps _ count (tt, p.0, p.1) refl (omega arith)

@@ -36,7 +36,7 @@ length_started more (in_nursery children ∷ fs) = refl
 length_started more (steps_left ss ∷ fs) = let e = length_started more fs in omega arith
 length_started more (in_scope fail ∷ fs) = refl
 length_started more (in_event ∷ fs) = refl
-length_started more (in_repeat pass left again ∷ fs) = let e = length_started more fs in omega arith
+length_started more (in_repeat pass left cuts again ∷ fs) = let e = length_started more fs in omega arith
 length_started more (in_try handler cleanup ∷ fs) = refl
 length_started more (in_handler rest cleanup ∷ fs) = refl
 length_started more (in_cleanup outcome ∷ fs) = refl
@@ -57,16 +57,16 @@ module _ (now : Now) (cancelled_from : Table) (here : Here) where
   shrinks_waits None name t before fs ps lt = lt
   shrinks_waits (Some l) name t before fs ps lt = tt
 
-  shrinks_passes : (n before : ℕ) (body : Steps) (fs : List Frame) (ps : List Place) →
-      n * (1 + turn_length body) + frames_length fs < before → MoveShrinks before (begins_passes n body fs ps)
-  shrinks_passes zero before body fs ps lt = omega arith
-  shrinks_passes (suc k) before body fs ps lt = let e = suc-mul k (1 + turn_length body) in omega arith
+  shrinks_passes : (n before : ℕ) (over : Bool) (body : Steps) (fs : List Frame) (ps : List Place) →
+      n * (1 + turn_length body) + frames_length fs < before → MoveShrinks before (begins_passes n over body fs ps)
+  shrinks_passes zero before over body fs ps lt = omega arith
+  shrinks_passes (suc k) before over body fs ps lt = let e = suc-mul k (1 + turn_length body) in omega arith
 
-  shrinks_pass : (pass left : ℕ) (body : Steps) (fs : List Frame) (ps : List Place) (exc : Option Exc) →
-      MoveShrinks (frames_length (in_repeat pass left body ∷ fs)) (step_pass pass left body fs ps exc)
-  shrinks_pass pass left body fs ps (Some e) = omega arith
-  shrinks_pass pass zero body fs ps None = omega arith
-  shrinks_pass pass (suc k) body fs ps None = let e = suc-mul k (1 + turn_length body) in omega arith
+  shrinks_pass : (pass left : ℕ) (cuts : Option ℕ) (body : Steps) (fs : List Frame) (ps : List Place) (exc : Option Exc) →
+      MoveShrinks (frames_length (in_repeat pass left cuts body ∷ fs)) (step_pass pass left cuts body fs ps exc)
+  shrinks_pass pass left cuts body fs ps (Some e) = omega arith
+  shrinks_pass pass zero cuts body fs ps None = omega arith
+  shrinks_pass pass (suc k) cuts body fs ps None = let e = suc-mul k (1 + turn_length body) in omega arith
 
   shrinks_step : (at : Here) (s : Step) (ss : Steps) (fs : List Frame) (ps : List Place) (count : ℕ) →
       MoveShrinks (frames_length (steps_left (step s ss) ∷ fs)) (step_on cancelled_from now at s ss fs ps count)
@@ -87,7 +87,7 @@ module _ (now : Now) (cancelled_from : Table) (here : Here) where
   shrinks_step at (event name body) ss fs ps count = omega arith
   shrinks_step at (start name None body) ss fs ps count = let e = length_started (count ∷ []) fs in omega arith
   shrinks_step at (start name (Some k) body) ss fs ps count = let e = length_started (consecutive count k) fs in omega arith
-  shrinks_step at (repeat n body) ss fs ps count = shrinks_passes n _ body (steps_left ss ∷ fs) ps (omega arith)
+  shrinks_step at (repeat n over body) ss fs ps count = shrinks_passes n _ over body (steps_left ss ∷ fs) ps (omega arith)
   shrinks_step at (attempt body handler cleanup) ss fs ps count = omega arith
 
   shrinks_steps : (ss : Steps) (fs : List Frame) (ps : List Place) (exc : Option Exc) (count : ℕ) →
@@ -118,7 +118,7 @@ module _ (now : Now) (cancelled_from : Table) (here : Here) where
   shrinks_frames (in_event ∷ fs) (p ∷ ps) exc count = omega arith
   shrinks_frames (in_nursery children ∷ fs) [] exc count = omega arith
   shrinks_frames (in_nursery children ∷ fs) (p ∷ ps) exc count = tt
-  shrinks_frames (in_repeat pass left body ∷ fs) ps exc count = shrinks_pass pass left body fs ps exc
+  shrinks_frames (in_repeat pass left cuts body ∷ fs) ps exc count = shrinks_pass pass left cuts body fs ps exc
   shrinks_frames (in_try handler cleanup ∷ fs) ps exc count = shrinks_try handler cleanup fs ps exc
   shrinks_frames (in_handler rest cleanup ∷ fs) ps exc count = omega arith
   shrinks_frames (in_cleanup outcome ∷ fs) ps exc count = omega arith

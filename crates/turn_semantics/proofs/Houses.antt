@@ -18,6 +18,7 @@ use Rattle.turn_semantics.specs.Steps.{sleeps, falls_asleep, waits_on, with_star
 use Rattle.turn_semantics.specs.Wakes.{Wake, begins, sees, gives_up, is_due, has_answer, settles, goes_on_with, with_answer, leaves_settled, ends_at, is_checkpoint, gives_up_if, notes_wait, sees_from, is_due_from, wake_of, CanWake, from_start, from_asking, from_sleep, from_due, from_seen_waiting, from_set, from_giving_up, from_wait}
 use Rattle.turn_semantics.specs.Placed.{in_body, Placed, outer_places, HasChild, HasChildAfter, AllHoused}
 use Rattle.turn_semantics.proofs.Keeps.{last_or_before}
+use Rattle.turn_semantics.proofs.Passes.{loop_body}
 
 among_left : (i : ℕ) (is js : List ℕ) → IsAmong i is → IsAmong i (is ++ js)
 among_left i [] js a = absurd a
@@ -79,7 +80,7 @@ module _ (now : Now) (cancelled_from : Table) (here : Here) (i : ℕ) (home : Li
   stays_started more (steps_left ss ∷ fs) ps h = stays_started more fs ps h
   stays_started more (in_scope fail ∷ fs) ps h = h
   stays_started more (in_event ∷ fs) ps h = h
-  stays_started more (in_repeat pass left again ∷ fs) ps h = stays_started more fs ps h
+  stays_started more (in_repeat pass left cuts again ∷ fs) ps h = stays_started more fs ps h
   stays_started more (in_try handler cleanup ∷ fs) ps h = h
   stays_started more (in_handler rest cleanup ∷ fs) ps h = h
   stays_started more (in_cleanup outcome ∷ fs) ps h = h
@@ -89,15 +90,15 @@ module _ (now : Now) (cancelled_from : Table) (here : Here) (i : ℕ) (home : Li
   stays_waits None name t fs ps h = inr h
   stays_waits (Some l) name t fs ps h = inr h
 
-  stays_passes : (m : ℕ) (body : Steps) (fs : List Frame) (ps : List Place) → HasChild i home fs ps → Stays (begins_passes m body fs ps)
-  stays_passes zero body fs ps h = inr h
-  stays_passes (suc m) body fs ps h = inr h
+  stays_passes : (m : ℕ) (over : Bool) (body : Steps) (fs : List Frame) (ps : List Place) → HasChild i home fs ps → Stays (begins_passes m over body fs ps)
+  stays_passes zero over body fs ps h = inr h
+  stays_passes (suc m) over body fs ps h = inr h
 
-  stays_pass : (pass left : ℕ) (body : Steps) (fs : List Frame) (ps : List Place) (exc : Option Exc) → HasChild i home fs ps →
-      Stays (step_pass pass left body fs ps exc)
-  stays_pass pass left body fs ps (Some e) h = inr h
-  stays_pass pass zero body fs ps None h = inr h
-  stays_pass pass (suc m) body fs ps None h = inr h
+  stays_pass : (pass left : ℕ) (cuts : Option ℕ) (body : Steps) (fs : List Frame) (ps : List Place) (exc : Option Exc) → HasChild i home fs ps →
+      Stays (step_pass pass left cuts body fs ps exc)
+  stays_pass pass left cuts body fs ps (Some e) h = inr h
+  stays_pass pass zero cuts body fs ps None h = inr h
+  stays_pass pass (suc m) cuts body fs ps None h = inr h
 
   stays_step : (at : Here) (s : Step) (ss : Steps) (fs : List Frame) (ps : List Place) (n : ℕ) → HasChild i home fs ps →
       Stays (step_on cancelled_from now at s ss fs ps n)
@@ -118,7 +119,7 @@ module _ (now : Now) (cancelled_from : Table) (here : Here) (i : ℕ) (home : Li
   stays_step at (event name body) ss fs ps n h = inr h
   stays_step at (start name None body) ss fs ps n h = inr (stays_started (n ∷ []) fs ps h)
   stays_step at (start name (Some c) body) ss fs ps n h = inr (stays_started (consecutive n c) fs ps h)
-  stays_step at (repeat m body) ss fs ps n h = stays_passes m body (steps_left ss ∷ fs) ps h
+  stays_step at (repeat m over body) ss fs ps n h = stays_passes m over body (steps_left ss ∷ fs) ps h
   stays_step at (attempt body handler cleanup) ss fs ps n h = inr h
 
   stays_steps : (ss : Steps) (fs : List Frame) (ps : List Place) (exc : Option Exc) (n : ℕ) → HasChild i home fs ps →
@@ -149,7 +150,7 @@ module _ (now : Now) (cancelled_from : Table) (here : Here) (i : ℕ) (home : Li
   stays_frames (in_nursery children ∷ fs) [] exc n p h = absurd p
   stays_frames (in_nursery children ∷ fs) (q ∷ ps) exc n p (inl e) = inl e
   stays_frames (in_nursery children ∷ fs) (q ∷ ps) exc n p (inr h) = inr h
-  stays_frames (in_repeat pass left body ∷ fs) ps exc n p h = stays_pass pass left body fs ps exc h
+  stays_frames (in_repeat pass left cuts body ∷ fs) ps exc n p h = stays_pass pass left cuts body fs ps exc h
   stays_frames (in_try handler cleanup ∷ fs) ps exc n p h = stays_try handler cleanup fs ps exc h
   stays_frames (in_handler rest cleanup ∷ fs) ps exc n p h = inr h
   stays_frames (in_cleanup outcome ∷ fs) ps exc n p h = inr h
@@ -212,7 +213,8 @@ started_housed : (i : ℕ) (more : List ℕ) (fs : List Frame) (ps : List Place)
 started_housed i more (in_nursery children ∷ fs) (p ∷ ps) b w a = inl (among_right i children more a, refl)
 started_housed i more (in_nursery children ∷ fs) [] b w a = absurd w
 started_housed i more (steps_left ss ∷ fs) ps b w a = started_housed i more fs ps b w.1 a
-started_housed i more (in_repeat pass left again ∷ fs) ps b w a = started_housed i more fs ps b w.1 a
+started_housed i more (in_repeat pass left cuts again ∷ fs) ps b w a =
+    started_housed i more fs ps (loop_body cuts (in_body fs) b) w.1 a
 started_housed i more [] ps b w a = absurd (cc)
 started_housed i more (in_scope fail ∷ fs) ps b w a = absurd (cc)
 started_housed i more (in_event ∷ fs) ps b w a = absurd (cc)
@@ -246,15 +248,15 @@ module _ (now : Now) (cancelled_from : Table) (here : Here) where
   housed_waits None name t fs ps = tt
   housed_waits (Some l) name t fs ps = tt
 
-  housed_passes : (m : ℕ) (body : Steps) (fs : List Frame) (ps : List Place) → Housed (begins_passes m body fs ps)
-  housed_passes zero body fs ps = tt
-  housed_passes (suc m) body fs ps = tt
+  housed_passes : (m : ℕ) (over : Bool) (body : Steps) (fs : List Frame) (ps : List Place) → Housed (begins_passes m over body fs ps)
+  housed_passes zero over body fs ps = tt
+  housed_passes (suc m) over body fs ps = tt
 
-  housed_pass : (pass left : ℕ) (body : Steps) (fs : List Frame) (ps : List Place) (exc : Option Exc) →
-      Housed (step_pass pass left body fs ps exc)
-  housed_pass pass left body fs ps (Some e) = tt
-  housed_pass pass zero body fs ps None = tt
-  housed_pass pass (suc m) body fs ps None = tt
+  housed_pass : (pass left : ℕ) (cuts : Option ℕ) (body : Steps) (fs : List Frame) (ps : List Place) (exc : Option Exc) →
+      Housed (step_pass pass left cuts body fs ps exc)
+  housed_pass pass left cuts body fs ps (Some e) = tt
+  housed_pass pass zero cuts body fs ps None = tt
+  housed_pass pass (suc m) cuts body fs ps None = tt
 
   housed_step : (at : Here) (s : Step) (ss : Steps) (fs : List Frame) (ps : List Place) (n : ℕ) → StartsAt (in_body fs) s → Placed fs ps →
       Housed (step_on cancelled_from now at s ss fs ps n)
@@ -274,7 +276,7 @@ module _ (now : Now) (cancelled_from : Table) (here : Here) where
   housed_step at (nursery name d shield body) ss fs ps n b p = tt
   housed_step at (event name body) ss fs ps n b p = tt
   housed_step at (start name over body) ss fs ps n b p = housed_start at name over body ss fs ps n b.0 p
-  housed_step at (repeat m body) ss fs ps n b p = housed_passes m body (steps_left ss ∷ fs) ps
+  housed_step at (repeat m over body) ss fs ps n b p = housed_passes m over body (steps_left ss ∷ fs) ps
   housed_step at (attempt body handler cleanup) ss fs ps n b p = tt
 
   housed_steps : (ss : Steps) (fs : List Frame) (ps : List Place) (exc : Option Exc) (n : ℕ) → StartsIn (in_body fs) ss → Placed fs ps →
@@ -304,7 +306,7 @@ module _ (now : Now) (cancelled_from : Table) (here : Here) where
   housed_frames (in_event ∷ fs) (q ∷ ps) exc n p = tt
   housed_frames (in_nursery children ∷ fs) [] exc n p = tt
   housed_frames (in_nursery children ∷ fs) (q ∷ ps) exc n p = tt
-  housed_frames (in_repeat pass left body ∷ fs) ps exc n p = housed_pass pass left body fs ps exc
+  housed_frames (in_repeat pass left cuts body ∷ fs) ps exc n p = housed_pass pass left cuts body fs ps exc
   housed_frames (in_try handler cleanup ∷ fs) ps exc n p = housed_try handler cleanup fs ps exc
   housed_frames (in_handler rest cleanup ∷ fs) ps exc n p = tt
   housed_frames (in_cleanup outcome ∷ fs) ps exc n p = tt

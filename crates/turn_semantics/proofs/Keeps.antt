@@ -3,7 +3,7 @@ use Rattle.std.proofs.Common.{◌≡◌, ℕ, zero, suc, ◌+◌, ◌-◌, ◌<�
 use Rattle.std.proofs.lemmas.Bool.Decides.{nat_tests}
 use Rattle.job_tree.specs.Tree.{Step, sleep, checkpoint, forever, pace, find, head, longest, need, raise, cancel, set_event, wait_for, scope, nursery, event, start, repeat, attempt, Steps, stop, step, Handled, unhandled, except, Cleaned, uncleaned, finally}
 use Rattle.job_tree.specs.Starting.{StartsIn, StartsAt}
-use Rattle.input_lines.specs.Lines.{Span}
+use Rattle.input_lines.specs.Lines.{Range, Span}
 use Rattle.input_lines.specs.Cuts.{cut_of}
 use Rattle.input_lines.specs.Kernels.{needed_in}
 use Rattle.exceptions.specs.Exceptions.{Label, Exc, cancelled}
@@ -13,8 +13,8 @@ use Rattle.job_meaning.specs.Log.{Log, Member, Result, Table}
 use Rattle.job_meaning.specs.Moments.{tick_of, a_round_after, Now, only_at, far}
 use Rattle.job_meaning.specs.declared.clock.Clock.{Clock}
 use Rattle.job_meaning.specs.declared.clock.Clock.TheVariants.{ByTicks as by_ticks, ByRounds as by_rounds}
-use Rattle.job_meaning.specs.Walk.{Mode, by_table, Here, walk, walk_step, and_then, then_if, in_sequence, now_of, in_pass, passes, child, label_on, event_on, event_wait, cancel_result, set_result, sign_of, sign_if, home_of, with_sign, here_in, label_here, label_over, Kind, a_scope, left_with, done_at, need_result, raise_result, raised_at, with_own}
-use Rattle.job_meaning.specs.Rest.{Event, starts, starts_over, consecutive, fill, ChildOutcomes, outcome_members, Frame, steps_left, in_scope, in_event, in_nursery, in_repeat, in_try, in_handler, in_cleanup, path_in, inside, with_children, leaving_log, block_left, wait_result, finish}
+use Rattle.job_meaning.specs.Walk.{Mode, by_table, Here, walk, walk_step, and_then, then_if, in_sequence, now_of, part_in_pass, in_pass, passes, child, label_on, event_on, event_wait, cancel_result, set_result, sign_of, sign_if, home_of, with_sign, here_in, label_here, label_over, Kind, a_scope, left_with, done_at, need_result, raise_result, raised_at, with_own}
+use Rattle.job_meaning.specs.Rest.{Event, starts, starts_over, consecutive, fill, ChildOutcomes, outcome_members, Frame, steps_left, in_scope, in_event, in_nursery, in_repeat, in_try, in_handler, in_cleanup, path_in, part_in, inside, with_children, leaving_log, block_left, wait_result, finish}
 use Rattle.job_meaning.specs.Asking.{one_line, needs, answer_result}
 use Rattle.job_meaning.proofs.Clips.{followed_nil}
 use Rattle.job_meaning.proofs.Finish.{after, finish_after, finish_begin, finish_stop, finish_step, finish_raised, finish_scope, finish_event, finish_leave_event, finish_nursery, finish_children, just_started, each_started, finish_try, finish_handler, finish_unhandled, finish_no_handler, finish_uncleaned, finish_cleanup, finish_handled, finish_cleaned, finish_leave, finish_wait, finish_no_pass, finish_first_pass, finish_next_pass, finish_last_pass, finish_raised_pass}
@@ -24,6 +24,7 @@ use Rattle.turn_semantics.specs.Placed.{in_body, Placed}
 use Rattle.turn_semantics.specs.Turned.{AgreesOn, AreOutcomes}
 use Rattle.turn_semantics.proofs.Agreeing.{seen_alike, catches_alike, scope_at_places, event_at_places, home_at_places, label_of, event_found, slept, sleep_seen, sleep_none}
 use Rattle.turn_semantics.proofs.Events.{own_append}
+use Rattle.turn_semantics.proofs.Passes.{loop_body}
 
 -- ---- the log of what a step makes
 
@@ -94,13 +95,28 @@ path_started more (in_nursery children ∷ fs) path = refl
 path_started more (steps_left ss ∷ fs) path = path_started more fs path
 path_started more (in_scope fail ∷ fs) path = refl
 path_started more (in_event ∷ fs) path = refl
-path_started more (in_repeat pass left again ∷ fs) path = ap (λ (x : List ℕ). x ++ pass ∷ []) (path_started more fs path)
+path_started more (in_repeat pass left cuts again ∷ fs) path = ap (λ (x : List ℕ). x ++ pass ∷ []) (path_started more fs path)
 path_started more (in_try handler cleanup ∷ fs) path = refl
 path_started more (in_handler rest cleanup ∷ fs) path = refl
 path_started more (in_cleanup outcome ∷ fs) path = refl
 
+-- and on the same part
+part_started : (more : List ℕ) (fs : List Frame) (input : List ℕ) (part : Range) → part_in input (with_started more fs) part ≡ part_in input fs part
+part_started more [] input part = refl
+part_started more (in_nursery children ∷ fs) input part = refl
+part_started more (steps_left ss ∷ fs) input part = part_started more fs input part
+part_started more (in_scope fail ∷ fs) input part = refl
+part_started more (in_event ∷ fs) input part = refl
+part_started more (in_repeat pass left cuts again ∷ fs) input part =
+    ap (λ (r : Range). part_in_pass input cuts pass r) (part_started more fs input part)
+part_started more (in_try handler cleanup ∷ fs) input part = refl
+part_started more (in_handler rest cleanup ∷ fs) input part = refl
+part_started more (in_cleanup outcome ∷ fs) input part = refl
+
 inside_started : (more : List ℕ) (fs : List Frame) (here : Here) → inside (with_started more fs) here ≡ inside fs here
-inside_started more fs here = ap (λ (x : List ℕ). record here { path = x }) (path_started more fs here.path)
+inside_started more fs here =
+    ap (λ (x : List ℕ). record here { part = part_in here.input (with_started more fs) here.part; path = x }) (path_started more fs here.path)
+    ∙ ap (λ (r : Range). record here { part = r; path = path_in fs here.path }) (part_started more fs here.input here.part)
 
 -- a place, with what is known of its kind
 pub of_kind : (p : Place) (b : Bool) → p.is_event ≡ b → p ≡ record { label = p.label; shield = p.shield; is_event = b }
@@ -125,13 +141,13 @@ finish_with (steps_left ss ∷ fs) m outcomes more here table ps r b w =
     ∙ (finish_with fs m outcomes more here table ps (and_then r (λ u. walk m ss (inside fs here) (stack_at table ps) u)) b w.1
     ∙ ap (λ (at : Here). finish m outcomes (with_started more fs) here (stack_at table ps) (and_then r (λ u. walk m ss at (stack_at table ps) u)))
     (sym (inside_started more fs here)))
-finish_with (in_repeat pass left again ∷ fs) m outcomes more here table ps r b w =
+finish_with (in_repeat pass left cuts again ∷ fs) m outcomes more here table ps r b w =
     ap (λ (x : Result). finish m outcomes fs here (stack_at table ps) x)
-    (children_and_then (outcome_members outcomes more) r (λ u. passes (suc pass) left (λ i v. walk m again (in_pass i (inside fs here)) (stack_at table ps) v) u))
+    (children_and_then (outcome_members outcomes more) r (λ u. passes (suc pass) left (λ i v. walk m again (in_pass cuts i (inside fs here)) (stack_at table ps) v) u))
     ∙ (finish_with fs m outcomes more here table ps
-    (and_then r (λ u. passes (suc pass) left (λ i v. walk m again (in_pass i (inside fs here)) (stack_at table ps) v) u)) b w.1
+    (and_then r (λ u. passes (suc pass) left (λ i v. walk m again (in_pass cuts i (inside fs here)) (stack_at table ps) v) u)) (loop_body cuts (in_body fs) b) w.1
     ∙ ap (λ (at : Here). finish m outcomes (with_started more fs) here (stack_at table ps)
-    (and_then r (λ u. passes (suc pass) left (λ i v. walk m again (in_pass i at) (stack_at table ps) v) u)))
+    (and_then r (λ u. passes (suc pass) left (λ i v. walk m again (in_pass cuts i at) (stack_at table ps) v) u)))
     (sym (inside_started more fs here)))
 finish_with (in_nursery children ∷ fs) m outcomes more here table [] r b w = absurd w
 finish_with [] m outcomes more here table ps r b w = absurd (cc)
@@ -302,13 +318,13 @@ module _ (table cancelled_from : Table) (outcomes : ChildOutcomes) (now : Now) (
       finish_step fs (by_table table) outcomes (start name None body) ss here (stack_at table ps) now
       ∙ (ap (λ (r : Result). finish (by_table table) outcomes (steps_left ss ∷ fs) here (stack_at table ps)
       (child (label_here name (inside fs here)) (a_round_after here.clock now.at) r now))
-      (sym (h.0 ∙ begun_walk table (a_round_after here.clock now.at) (begun_one count (here_in (label_here name (inside fs here)) here.part here) body ps)))
+      (sym (h.0 ∙ begun_walk table (a_round_after here.clock now.at) (begun_one count (here_in (label_here name (inside fs here)) (inside fs here).part here) body ps)))
       ∙ goes_started ss fs ps (count ∷ []) (fill outcomes (starts count (label_here name (inside fs here)) (a_round_after here.clock now.at) ∷ [])) b w)
   keeps_start name (Some k) body ss fs ps count b w h =
       finish_step fs (by_table table) outcomes (start name (Some k) body) ss here (stack_at table ps) now
       ∙ (ap (λ (r : Result). finish (by_table table) outcomes (steps_left ss ∷ fs) here (stack_at table ps) r)
       (each_started outcomes name (inside fs here) (a_round_after here.clock now.at) now count k (λ i. with_sign (stack_at table ps)
-      (walk (by_table table) body (here_in (label_over name (inside fs here) i) (cut_of here.input here.part k i) here) (stack_at table ps)
+      (walk (by_table table) body (here_in (label_over name (inside fs here) i) (cut_of here.input (inside fs here).part k i) here) (stack_at table ps)
       (only_at (a_round_after here.clock now.at)))) (outcomes_of_copies (inside fs here) name k body ps count k h))
       ∙ (goes_started ss fs ps (consecutive count k) (fill outcomes made) b w
       ∙ ap (λ (own : List Label). after (fill outcomes made)
@@ -328,18 +344,18 @@ module _ (table cancelled_from : Table) (outcomes : ChildOutcomes) (now : Now) (
   keeps_need (Some l) name ss fs ps = refl
 
   -- the first pass of a `repeat`
-  keeps_passes : (n : ℕ) (body ss : Steps) (fs : List Frame) (ps : List Place) →
-      Keeps (steps_left (step (repeat n body) ss) ∷ fs) ps None (begins_passes n body (steps_left ss ∷ fs) ps)
-  keeps_passes zero body ss fs ps = finish_no_pass fs (by_table table) outcomes body ss here (stack_at table ps) now
-  keeps_passes (suc k) body ss fs ps = finish_first_pass fs (by_table table) outcomes k body ss here (stack_at table ps) now
+  keeps_passes : (n : ℕ) (over : Bool) (body ss : Steps) (fs : List Frame) (ps : List Place) →
+      Keeps (steps_left (step (repeat n over body) ss) ∷ fs) ps None (begins_passes n over body (steps_left ss ∷ fs) ps)
+  keeps_passes zero over body ss fs ps = finish_no_pass fs (by_table table) outcomes over body ss here (stack_at table ps) now
+  keeps_passes (suc k) over body ss fs ps = finish_first_pass fs (by_table table) outcomes k over body ss here (stack_at table ps) now
 
   -- a pass has ended
-  keeps_pass : (pass left : ℕ) (body : Steps) (fs : List Frame) (ps : List Place) (exc : Option Exc) →
-      Keeps (in_repeat pass left body ∷ fs) ps exc (step_pass pass left body fs ps exc)
-  keeps_pass pass left body fs ps (Some e) =
-      finish_raised_pass fs (by_table table) outcomes pass left body here (stack_at table ps) (so_far (Some e) now) e
-  keeps_pass pass zero body fs ps None = finish_last_pass fs (by_table table) outcomes pass body here (stack_at table ps) now
-  keeps_pass pass (suc k) body fs ps None = finish_next_pass fs (by_table table) outcomes pass k body here (stack_at table ps) now
+  keeps_pass : (pass left : ℕ) (cuts : Option ℕ) (body : Steps) (fs : List Frame) (ps : List Place) (exc : Option Exc) →
+      Keeps (in_repeat pass left cuts body ∷ fs) ps exc (step_pass pass left cuts body fs ps exc)
+  keeps_pass pass left cuts body fs ps (Some e) =
+      finish_raised_pass fs (by_table table) outcomes pass left cuts body here (stack_at table ps) (so_far (Some e) now) e
+  keeps_pass pass zero cuts body fs ps None = finish_last_pass fs (by_table table) outcomes pass cuts body here (stack_at table ps) now
+  keeps_pass pass (suc k) cuts body fs ps None = finish_next_pass fs (by_table table) outcomes pass k cuts body here (stack_at table ps) now
 
   -- each kind of step
   keeps_step : (s : Step) (ss : Steps) (fs : List Frame) (ps : List Place) (count : ℕ) → OwnFits here.clock now.own → AgreesOn now.at table cancelled_from ps →
@@ -356,7 +372,7 @@ module _ (table cancelled_from : Table) (outcomes : ChildOutcomes) (now : Now) (
   keeps_step longest ss fs ps count own a b w h = finish_step fs (by_table table) outcomes longest ss here (stack_at table ps) now
   keeps_step (need text name) ss fs ps count own a b w h =
       finish_step fs (by_table table) outcomes (need text name) ss here (stack_at table ps) now
-      ∙ keeps_need (needed_in here.input text here.part) name ss fs ps
+      ∙ keeps_need (needed_in here.input text (inside fs here).part) name ss fs ps
   keeps_step (raise name) ss fs ps count own a b w h = finish_step fs (by_table table) outcomes (raise name) ss here (stack_at table ps) now
   keeps_step (cancel name) ss fs ps count own a b w h = keeps_cancel name ss fs ps
   keeps_step (set_event name) ss fs ps count own a b w h = keeps_set name ss fs ps
@@ -368,7 +384,7 @@ module _ (table cancelled_from : Table) (outcomes : ChildOutcomes) (now : Now) (
   keeps_step (event name body) ss fs ps count own a b w h =
       finish_event fs table outcomes name body ss here (stack_at table ps) now
   keeps_step (start name over body) ss fs ps count own a b w h = keeps_start name over body ss fs ps count b.0 w h
-  keeps_step (repeat n body) ss fs ps count own a b w h = keeps_passes n body ss fs ps
+  keeps_step (repeat n over body) ss fs ps count own a b w h = keeps_passes n over body ss fs ps
   keeps_step (attempt body handler cleanup) ss fs ps count own a b w h =
       finish_try fs (by_table table) outcomes body handler cleanup ss here (stack_at table ps) now
 
@@ -463,7 +479,7 @@ module _ (table cancelled_from : Table) (outcomes : ChildOutcomes) (now : Now) (
   keeps_frames (in_event ∷ fs) (p ∷ ps) exc count own a w h = keeps_event_left fs p ps exc w.0
   keeps_frames (in_nursery children ∷ fs) [] exc count own a w h = absurd w
   keeps_frames (in_nursery children ∷ fs) (p ∷ ps) exc count own a w h = keeps_wait children fs p ps exc count w.0
-  keeps_frames (in_repeat pass left body ∷ fs) ps exc count own a w h = keeps_pass pass left body fs ps exc
+  keeps_frames (in_repeat pass left cuts body ∷ fs) ps exc count own a w h = keeps_pass pass left cuts body fs ps exc
   keeps_frames (in_try handler cleanup ∷ fs) ps exc count own a w h = keeps_try handler cleanup fs ps exc
   keeps_frames (in_handler rest cleanup ∷ fs) ps exc count own a w h =
       finish_handled fs (by_table table) outcomes rest cleanup here (stack_at table ps) (so_far exc now)

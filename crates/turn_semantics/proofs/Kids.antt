@@ -28,7 +28,7 @@ kids_grow n m le (steps_left ss ∷ fs) k = kids_grow n m le fs k
 kids_grow n m le (in_scope fail ∷ fs) k = kids_grow n m le fs k
 kids_grow n m le (in_event ∷ fs) k = kids_grow n m le fs k
 kids_grow n m le (in_nursery children ∷ fs) k = (all_grow n m le children k.0, kids_grow n m le fs k.1)
-kids_grow n m le (in_repeat pass left again ∷ fs) k = kids_grow n m le fs k
+kids_grow n m le (in_repeat pass left cuts again ∷ fs) k = kids_grow n m le fs k
 kids_grow n m le (in_try handler cleanup ∷ fs) k = kids_grow n m le fs k
 kids_grow n m le (in_handler rest cleanup ∷ fs) k = kids_grow n m le fs k
 kids_grow n m le (in_cleanup outcome ∷ fs) k = kids_grow n m le fs k
@@ -56,7 +56,7 @@ kids_started n m le more a (in_nursery children ∷ fs) k =
 kids_started n m le more a (steps_left ss ∷ fs) k = kids_started n m le more a fs k
 kids_started n m le more a (in_scope fail ∷ fs) k = kids_grow n m le fs k
 kids_started n m le more a (in_event ∷ fs) k = kids_grow n m le fs k
-kids_started n m le more a (in_repeat pass left again ∷ fs) k = kids_started n m le more a fs k
+kids_started n m le more a (in_repeat pass left cuts again ∷ fs) k = kids_started n m le more a fs k
 kids_started n m le more a (in_try handler cleanup ∷ fs) k = kids_grow n m le fs k
 kids_started n m le more a (in_handler rest cleanup ∷ fs) k = kids_grow n m le fs k
 kids_started n m le more a (in_cleanup outcome ∷ fs) k = kids_grow n m le fs k
@@ -91,15 +91,15 @@ module _ (now : Now) (cancelled_from : Table) (here : Here) (n : ℕ) where
   kids_waits None name t fs ps k = same_kids n fs k
   kids_waits (Some l) name t fs ps k = same_kids n fs k
 
-  kids_passes : (m : ℕ) (body : Steps) (fs : List Frame) (ps : List Place) → KidsBelow n fs → Kept (begins_passes m body fs ps)
-  kids_passes zero body fs ps k = same_kids n fs k
-  kids_passes (suc m) body fs ps k = same_kids n fs k
+  kids_passes : (m : ℕ) (over : Bool) (body : Steps) (fs : List Frame) (ps : List Place) → KidsBelow n fs → Kept (begins_passes m over body fs ps)
+  kids_passes zero over body fs ps k = same_kids n fs k
+  kids_passes (suc m) over body fs ps k = same_kids n fs k
 
-  kids_pass : (pass left : ℕ) (body : Steps) (fs : List Frame) (ps : List Place) (exc : Option Exc) → KidsBelow n fs →
-      Kept (step_pass pass left body fs ps exc)
-  kids_pass pass left body fs ps (Some e) k = same_kids n fs k
-  kids_pass pass zero body fs ps None k = same_kids n fs k
-  kids_pass pass (suc m) body fs ps None k = same_kids n fs k
+  kids_pass : (pass left : ℕ) (cuts : Option ℕ) (body : Steps) (fs : List Frame) (ps : List Place) (exc : Option Exc) → KidsBelow n fs →
+      Kept (step_pass pass left cuts body fs ps exc)
+  kids_pass pass left cuts body fs ps (Some e) k = same_kids n fs k
+  kids_pass pass zero cuts body fs ps None k = same_kids n fs k
+  kids_pass pass (suc m) cuts body fs ps None k = same_kids n fs k
 
   kids_step : (at : Here) (s : Step) (ss : Steps) (fs : List Frame) (ps : List Place) → KidsBelow n fs →
       Kept (step_on cancelled_from now at s ss fs ps n)
@@ -123,7 +123,7 @@ module _ (now : Now) (cancelled_from : Table) (here : Here) (n : ℕ) where
       let e = over_length name at c body ps n c in
       kids_started n (n + length (step_on cancelled_from now at (start name (Some c) body) ss fs ps n).begun) (omega arith) (consecutive n c)
       (subst (λ (z : ℕ). AllBelow (n + z) (consecutive n c)) (sym e) (numbered_below n c)) fs k
-  kids_step at (repeat m body) ss fs ps k = kids_passes m body (steps_left ss ∷ fs) ps k
+  kids_step at (repeat m over body) ss fs ps k = kids_passes m over body (steps_left ss ∷ fs) ps k
   kids_step at (attempt body handler cleanup) ss fs ps k = same_kids n fs k
 
   kids_steps : (ss : Steps) (fs : List Frame) (ps : List Place) (exc : Option Exc) → KidsBelow n fs →
@@ -152,7 +152,7 @@ module _ (now : Now) (cancelled_from : Table) (here : Here) (n : ℕ) where
   kids_frames (in_event ∷ fs) (p ∷ ps) exc k = same_kids n fs k
   kids_frames (in_nursery children ∷ fs) [] exc k = same_kids n fs k.1
   kids_frames (in_nursery children ∷ fs) (p ∷ ps) exc k = same_kids n (in_nursery children ∷ fs) k
-  kids_frames (in_repeat pass left body ∷ fs) ps exc k = kids_pass pass left body fs ps exc k
+  kids_frames (in_repeat pass left cuts body ∷ fs) ps exc k = kids_pass pass left cuts body fs ps exc k
   kids_frames (in_try handler cleanup ∷ fs) ps exc k = kids_try handler cleanup fs ps exc k
   kids_frames (in_handler rest cleanup ∷ fs) ps exc k = same_kids n fs k
   kids_frames (in_cleanup outcome ∷ fs) ps exc k = same_kids n fs k

@@ -12,3 +12,4 @@ pub mod Ends
 pub mod Whole
 pub mod Arms
 pub mod Names
+pub mod Passes

@@ -61,7 +61,7 @@ mutual
   new_step (event name body) around d h =
       (h name (inl refl), new_steps body (name ∷ around) d.1 (more_around name (names_of body) around d.0 (λ n i. h n (inr i))))
   new_step (start name over body) around d h = new_steps body around d.1 (λ n i. h n (inr i))
-  new_step (repeat count body) around d h = new_steps body around d h
+  new_step (repeat count over body) around d h = new_steps body around d h
   new_step (attempt body handler cleanup) around d h =
       let front = distinct_left (names_of body ++ handled_names handler) (cleaned_names cleanup) d in (
         new_steps body around (distinct_left (names_of body) (handled_names handler) front)
@@ -107,7 +107,7 @@ started_new more (in_scope fail ∷ fs) ps h = h
 started_new more (in_event ∷ fs) ps h = h
 started_new more (in_nursery children ∷ fs) [] h = h
 started_new more (in_nursery children ∷ fs) (p ∷ ps) h = h
-started_new more (in_repeat pass left again ∷ fs) ps h = (h.0, started_new more fs ps h.1)
+started_new more (in_repeat pass left cuts again ∷ fs) ps h = (h.0, started_new more fs ps h.1)
 started_new more (in_try handler cleanup ∷ fs) ps h = h
 started_new more (in_handler rest cleanup ∷ fs) ps h = h
 started_new more (in_cleanup outcome ∷ fs) ps h = h
@@ -128,16 +128,16 @@ waits_new : (o : Option Label) (name : List ℕ) (t : ℕ) (fs : List Frame) (ps
 waits_new None name t fs ps h own = record { frames = h; own = own; begun = tt }
 waits_new (Some l) name t fs ps h own = record { frames = h; own = own; begun = tt }
 
-passes_new : (n : ℕ) (body : Steps) (fs : List Frame) (ps : List Place) → AreNew (names_at ps) body → NewIn fs ps →
-    OwnNames (names_at ps) → StaysNew (begins_passes n body fs ps)
-passes_new zero body fs ps a h own = record { frames = h; own = own; begun = tt }
-passes_new (suc n) body fs ps a h own = record { frames = (a, (a, h)); own = own; begun = tt }
+passes_new : (n : ℕ) (over : Bool) (body : Steps) (fs : List Frame) (ps : List Place) → AreNew (names_at ps) body → NewIn fs ps →
+    OwnNames (names_at ps) → StaysNew (begins_passes n over body fs ps)
+passes_new zero over body fs ps a h own = record { frames = h; own = own; begun = tt }
+passes_new (suc n) over body fs ps a h own = record { frames = (a, (a, h)); own = own; begun = tt }
 
-pass_new : (pass left : ℕ) (body : Steps) (fs : List Frame) (ps : List Place) (exc : Option Exc) → AreNew (names_at ps) body →
-    NewIn fs ps → OwnNames (names_at ps) → StaysNew (step_pass pass left body fs ps exc)
-pass_new pass left body fs ps (Some e) a h own = record { frames = h; own = own; begun = tt }
-pass_new pass zero body fs ps None a h own = record { frames = h; own = own; begun = tt }
-pass_new pass (suc n) body fs ps None a h own = record { frames = (a, (a, h)); own = own; begun = tt }
+pass_new : (pass left : ℕ) (cuts : Option ℕ) (body : Steps) (fs : List Frame) (ps : List Place) (exc : Option Exc) → AreNew (names_at ps) body →
+    NewIn fs ps → OwnNames (names_at ps) → StaysNew (step_pass pass left cuts body fs ps exc)
+pass_new pass left cuts body fs ps (Some e) a h own = record { frames = h; own = own; begun = tt }
+pass_new pass zero cuts body fs ps None a h own = record { frames = h; own = own; begun = tt }
+pass_new pass (suc n) cuts body fs ps None a h own = record { frames = (a, (a, h)); own = own; begun = tt }
 
 step_new : (cancelled_from : Table) (now : Now) (here : Here) (s : Step) (ss : Steps) (fs : List Frame) (ps : List Place) (count : ℕ) →
     IsNew (names_at ps) s → AreNew (names_at ps) ss →
@@ -165,7 +165,7 @@ step_new cancelled_from now here (start name None body) ss fs ps count i a h own
     record { frames = (a, started_new (count ∷ []) fs ps h); own = own; begun = (i, own, tt) }
 step_new cancelled_from now here (start name (Some k) body) ss fs ps count i a h own =
     record { frames = (a, started_new _ fs ps h); own = own; begun = over_new name here k body ps count k i own }
-step_new cancelled_from now here (repeat n body) ss fs ps count i a h own = passes_new n body (steps_left ss ∷ fs) ps i (a, h) own
+step_new cancelled_from now here (repeat n over body) ss fs ps count i a h own = passes_new n over body (steps_left ss ∷ fs) ps i (a, h) own
 step_new cancelled_from now here (attempt body handler cleanup) ss fs ps count i a h own =
     record { frames = (i.0, (i.1, i.2, (a, h))); own = own; begun = tt }
 
@@ -202,7 +202,7 @@ frames_new cancelled_from now here (in_event ∷ fs) [] exc count h own = record
 frames_new cancelled_from now here (in_event ∷ fs) (p ∷ ps) exc count h own = record { frames = h; own = own.1; begun = tt }
 frames_new cancelled_from now here (in_nursery children ∷ fs) [] exc count h own = record { frames = h; own = own; begun = tt }
 frames_new cancelled_from now here (in_nursery children ∷ fs) (p ∷ ps) exc count h own = record { frames = h; own = own; begun = tt }
-frames_new cancelled_from now here (in_repeat pass left body ∷ fs) ps exc count h own = pass_new pass left body fs ps exc h.0 h.1 own
+frames_new cancelled_from now here (in_repeat pass left cuts body ∷ fs) ps exc count h own = pass_new pass left cuts body fs ps exc h.0 h.1 own
 frames_new cancelled_from now here (in_try handler cleanup ∷ fs) ps exc count h own = try_new handler cleanup fs ps exc h.0 h.1 h.2 own
 frames_new cancelled_from now here (in_handler rest cleanup ∷ fs) ps exc count h own = record { frames = (tt, h.0, h.1); own = own; begun = tt }
 frames_new cancelled_from now here (in_cleanup outcome ∷ fs) ps exc count h own = record { frames = h; own = own; begun = tt }

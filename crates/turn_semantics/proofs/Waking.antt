@@ -7,7 +7,7 @@ use Rattle.job_meaning.specs.Log.{Log, nil, entry, followed_by, line, waited, Re
 use Rattle.job_meaning.specs.Moments.{a_round_after, wakes_at, Now, only_at}
 use Rattle.job_meaning.specs.declared.clock.Clock.{Clock}
 use Rattle.job_meaning.specs.Walk.{by_table, Here, event_on, raise_result, raised_at, done_at, pace_ticks, log_of_lines, lines_result, a_nursery, nursery_result, with_exc, excs_of, latest}
-use Rattle.job_meaning.specs.Rest.{fill, ChildOutcomes, outcome_members, Frame, Stopped, asleep, waiting_for, awaiting, Rest, block_left, finish, finished_from, rest_comes_to, rest_weight, frames_weight, asking_weight, sleep_weight, stop_weight}
+use Rattle.job_meaning.specs.Rest.{fill, ChildOutcomes, outcome_members, Frame, Stopped, asleep, waiting_for, awaiting, Rest, block_left, finish, finished_from, rest_comes_to, rest_weight, frames_weight, asking_weight, sleep_weight, stop_weight, inside}
 use Rattle.job_meaning.specs.Asking.{Answer, lines, missing, counted, answer_of, Purpose, shows, needs, paces, answer_result}
 use Rattle.job_meaning.proofs.Clips.{followed_nil}
 use Rattle.job_meaning.proofs.Finish.{finish_after}
@@ -185,13 +185,13 @@ module _ (table cancelled_from : Table) (outcomes : ChildOutcomes) (now : Now) (
 
   -- each wake
   pub wake_keeps : (u : Now) {w : Wake} {s : Stopped} → CanWake w s → (fs : List Frame) (ps : List Place) → PlacedStop s fs ps →
-      AgreesOn now.at table cancelled_from ps → WakesBy table outcomes here u now w s ps →
+      AgreesOn now.at table cancelled_from ps → WakesBy table outcomes (inside fs here) u now w s ps →
       finished_from (by_table table) outcomes s fs here (stack_at table ps) u
       ≡ after_events outcomes (wake_of cancelled_from now here w s fs ps).made (left_after table outcomes here now (wake_of cancelled_from now here w s fs ps))
   wake_keeps u from_start fs ps p g e = ap (λ (v : Now). finish (by_table table) outcomes fs here (stack_at table ps) (done_at v)) e.0
   wake_keeps u (from_asking {a} {kernel} {purpose}) fs ps p g e =
       ap (λ (v : Now). finish (by_table table) outcomes fs here (stack_at table ps)
-      (answer_result (answer_of kernel here) purpose here (stack_at table ps) v)) e.0
+      (answer_result (answer_of kernel (inside fs here)) purpose here (stack_at table ps) v)) e.0
       ∙ (ap (λ (b : Answer). finish (by_table table) outcomes fs here (stack_at table ps) (answer_result b purpose here (stack_at table ps) now))
       (sym e.1)
       ∙ wakes_answer a purpose fs ps e.2 g)
@@ -370,7 +370,7 @@ unfolding turn_from
 turned_from n u now here cancelled_from w rest ps count c p =
     let o = wake_of cancelled_from now here w rest.stopped rest.frames ps in
     let m : Midway = record { frames = o.frames; places = o.places; exc = o.exc; count = count + length o.begun } in
-    turned_on now here cancelled_from (λ table outcomes. WakesBy table outcomes here u now w rest.stopped ps) (λ table outcomes e. wakes_fit table outcomes here u now c ps e)
+    turned_on now here cancelled_from (λ table outcomes. WakesBy table outcomes (inside rest.frames here) u now w rest.stopped ps) (λ table outcomes e. wakes_fit table outcomes (inside rest.frames here) u now c ps e)
     (λ table outcomes. rest_comes_to (by_table table) outcomes rest here (stack_at table ps) u)
     (rest_weight rest) (Some rest.stopped) rest.frames ps count
     o.stopped o (turn_of n (cancelled_from_after cancelled_from o.made) (now_after here.clock now o.made) here m) refl (turned_wake u now here cancelled_from w rest ps count c p)

@@ -6,7 +6,7 @@ use Rattle.exceptions.specs.Exceptions.{Label}
 use Rattle.job_meaning.specs.Log.{Result, Table}
 use Rattle.job_meaning.specs.Moments.{a_round_after, Now, only_at}
 use Rattle.job_meaning.specs.Walk.{by_table, Here}
-use Rattle.job_meaning.specs.Rest.{Event, ChildOutcomes, fill, steps_left, Stopped, to_begin, Rest, rest_comes_to, task_comes_to, rest_at_start}
+use Rattle.job_meaning.specs.Rest.{Event, ChildOutcomes, fill, steps_left, Stopped, to_begin, Rest, rest_comes_to, task_comes_to, rest_at_start, inside}
 use Rattle.job_meaning.proofs.Finish.{finish_begin}
 use Rattle.turn_semantics.specs.Midway.{Place, stack_at, Begun, Move, after_events, left_after, stop_comes_to, begun_comes_to, no_outcomes, now_after}
 use Rattle.turn_semantics.specs.Placed.{PlacedStop}
@@ -19,7 +19,7 @@ use Rattle.turn_semantics.proofs.Turns.{after_append}
 pub turn_comes_to : (u now : Now) (here : Here) (cancelled_from : Table) (w : Wake) (rest : Rest) (ps : List Place) (count : ℕ) (o : Move)
     (made : List Event) (s : Stopped) →
     TurnsOver u now here cancelled_from w rest ps count o → o.stopped ≡ Some s → (table : Table) (outcomes : ChildOutcomes) →
-    WakesBy table outcomes here u now w rest.stopped ps →
+    WakesBy table outcomes (inside rest.frames here) u now w rest.stopped ps →
     AgreesOn now.at table cancelled_from ps →
     AgreesAhead now.at table (fill outcomes o.made) (rest_comes_to (by_table table) outcomes rest here (stack_at table ps) u).log →
     AreOutcomes (a_round_after here.clock now.at) table outcomes o.begun →

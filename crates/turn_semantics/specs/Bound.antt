@@ -17,7 +17,7 @@ abbrev mutual
   step_length (scope name deadline shield fail body) = 2 + turn_length body
   step_length (nursery name deadline shield body) = 2 + turn_length body
   step_length (event name body) = 2 + turn_length body
-  step_length (repeat count body) = 1 + count * (1 + turn_length body)
+  step_length (repeat count over body) = 1 + count * (1 + turn_length body)
   step_length (attempt body handler cleanup) = 2 + turn_length body + (handler_length handler + cleanup_length cleanup)
   step_length _ = 1
 
@@ -32,7 +32,7 @@ abbrev mutual
 abbrev pub frame_length : Frame → ℕ
 frame_length (steps_left ss) = turn_length ss
 frame_length in_event = 1
-frame_length (in_repeat pass left body) = 1 + left * (1 + turn_length body)
+frame_length (in_repeat pass left cuts body) = 1 + left * (1 + turn_length body)
 frame_length (in_try handler cleanup) = 1 + handler_length handler + cleanup_length cleanup
 frame_length (in_handler rest cleanup) = 2 + cleanup_length cleanup
 frame_length _ = 1

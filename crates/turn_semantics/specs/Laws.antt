@@ -9,7 +9,7 @@ use Rattle.job_meaning.specs.Log.{Table, from_by}
 use Rattle.job_meaning.specs.Moments.{a_round_after, Now}
 use Rattle.job_meaning.specs.declared.clock.Clock.{Clock}
 use Rattle.job_meaning.specs.Walk.{by_table, Here}
-use Rattle.job_meaning.specs.Rest.{steps_left, Event, ChildOutcomes, fill, Stopped, Rest, rest_comes_to, task_comes_to}
+use Rattle.job_meaning.specs.Rest.{steps_left, Event, ChildOutcomes, fill, Stopped, Rest, rest_comes_to, task_comes_to, inside}
 use Rattle.turn_semantics.specs.Midway.{Place, stack_at, Midway, Move, now_after}
 use Rattle.turn_semantics.specs.Steps.{cancelled_from_after, step_of}
 use Rattle.turn_semantics.specs.Placed.{Placed, IsSome, PlacedStop, outer_places}
@@ -42,7 +42,7 @@ TaskComesToTheSame =
     (u now : Now) (here : Here) (cancelled_from : Table) (w : Wake) (rest : Rest) (ps : List Place) (count : ℕ) (o : Move) (made : List Event)
     (s : Stopped) →
     TurnsOver u now here cancelled_from w rest ps count o → o.stopped ≡ Some s → (table : Table) (outcomes : ChildOutcomes) →
-    WakesBy table outcomes here u now w rest.stopped ps →
+    WakesBy table outcomes (inside rest.frames here) u now w rest.stopped ps →
     AgreesOn now.at table cancelled_from ps →
     AgreesAhead now.at table (fill outcomes o.made) (rest_comes_to (by_table table) outcomes rest here (stack_at table ps) u).log →
     AreOutcomes (a_round_after here.clock now.at) table outcomes o.begun →

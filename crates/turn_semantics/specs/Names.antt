@@ -30,7 +30,7 @@ abbrev mutual
   IsNew around (nursery name deadline shield body) = (IsAmong name around → ⊥) × AreNew (name ∷ around) body
   IsNew around (event name body) = (IsAmong name around → ⊥) × AreNew (name ∷ around) body
   IsNew around (start name over body) = AreNew around body
-  IsNew around (repeat count body) = AreNew around body
+  IsNew around (repeat count over body) = AreNew around body
   IsNew around (attempt body handler cleanup) = AreNew around body × IsNewHandler around handler × IsNewCleanup around cleanup
   IsNew around _ = Unit {0}
 
@@ -49,7 +49,7 @@ NewIn (steps_left ss ∷ fs) ps = AreNew (names_at ps) ss × NewIn fs ps
 NewIn (in_scope fail ∷ fs) (p ∷ ps) = NewIn fs ps
 NewIn (in_event ∷ fs) (p ∷ ps) = NewIn fs ps
 NewIn (in_nursery children ∷ fs) (p ∷ ps) = NewIn fs ps
-NewIn (in_repeat pass left body ∷ fs) ps = AreNew (names_at ps) body × NewIn fs ps
+NewIn (in_repeat pass left cuts body ∷ fs) ps = AreNew (names_at ps) body × NewIn fs ps
 NewIn (in_try handler cleanup ∷ fs) ps = IsNewHandler (names_at ps) handler × IsNewCleanup (names_at ps) cleanup × NewIn fs ps
 NewIn (in_handler rest cleanup ∷ fs) ps = IsNewCleanup (names_at ps) cleanup × NewIn fs ps
 NewIn (in_cleanup outcome ∷ fs) ps = NewIn fs ps

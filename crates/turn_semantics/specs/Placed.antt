@@ -1,6 +1,6 @@
 -- Which frames a task may have inside its enclosing scopes and nurseries, and which children its nurseries have.
-use Rattle.std.specs.Prelude.{◌≡◌, ◌⊎◌, ℕ, ◌<◌, Bool, true, false, Option, Some, None, List, [], ◌∷◌}
-use Rattle.job_tree.specs.Starting.{StartsIn, HandlerStarts, CleanupStarts}
+use Rattle.std.specs.Prelude.{◌≡◌, ◌⊎◌, ℕ, ◌<◌, Bool, true, false, Option, Some, None, is_some, List, [], ◌∷◌}
+use Rattle.job_tree.specs.Starting.{starts_in_pass, StartsIn, HandlerStarts, CleanupStarts}
 use Rattle.job_meaning.specs.Asking.{Suits}
 use Rattle.job_meaning.specs.Rest.{Frame, steps_left, in_scope, in_event, in_nursery, in_repeat, in_try, in_handler, in_cleanup, Stopped, to_begin, asking, asleep, waiting_for, giving_up, awaiting, at_end}
 use Rattle.turn_semantics.specs.Lists.{Each, IsAmong}
@@ -11,7 +11,7 @@ abbrev pub in_body : List Frame → Bool
 in_body [] = false
 in_body (in_nursery children ∷ fs) = true
 in_body (steps_left ss ∷ fs) = in_body fs
-in_body (in_repeat pass left body ∷ fs) = in_body fs
+in_body (in_repeat pass left cuts body ∷ fs) = starts_in_pass (is_some cuts) (in_body fs)
 in_body (_ ∷ fs) = false
 
 -- Frames of a task with these enclosing scopes, nurseries and events: each scope, nursery and event among the frames is
@@ -22,7 +22,7 @@ Placed (steps_left ss ∷ fs) ps = StartsIn (in_body fs) ss × Placed fs ps
 Placed (in_scope fail ∷ fs) (p ∷ ps) = (p.is_event ≡ false) × Placed fs ps
 Placed (in_event ∷ fs) (p ∷ ps) = (p.is_event ≡ true) × Placed fs ps
 Placed (in_nursery children ∷ fs) (p ∷ ps) = (p.is_event ≡ false) × Placed fs ps
-Placed (in_repeat pass left body ∷ fs) ps = StartsIn (in_body fs) body × Placed fs ps
+Placed (in_repeat pass left cuts body ∷ fs) ps = StartsIn (starts_in_pass (is_some cuts) (in_body fs)) body × Placed fs ps
 Placed (in_try handler cleanup ∷ fs) ps = HandlerStarts handler × CleanupStarts cleanup × Placed fs ps
 Placed (in_handler rest cleanup ∷ fs) ps = CleanupStarts cleanup × Placed fs ps
 Placed (in_cleanup outcome ∷ fs) ps = Placed fs ps

@@ -9,7 +9,7 @@ use Rattle.job_meaning.specs.Log.{Table, same_label}
 use Rattle.job_meaning.specs.Moments.{tick_of, a_round_after, due, Now, far}
 use Rattle.job_meaning.specs.declared.clock.Clock.{Clock}
 use Rattle.job_meaning.specs.declared.clock.Clock.TheVariants.{ByTicks as by_ticks, ByRounds as by_rounds}
-use Rattle.job_meaning.specs.Walk.{Here, from_for, stack_for, label_here, label_over, label_if, here_in, Kind, a_scope, left_as, left_with, exc_after, handler_exc, outcome_after}
+use Rattle.job_meaning.specs.Walk.{Here, cuts_over, from_for, stack_for, label_here, label_over, label_if, here_in, Kind, a_scope, left_as, left_with, exc_after, handler_exc, outcome_after}
 use Rattle.job_meaning.specs.Rest.{Event, noted, signs, enters, starts, starts_over, consecutive, Frame, steps_left, in_scope, in_event, in_nursery, in_repeat, in_try, in_handler, in_cleanup, inside, Stopped, asking, asleep, waiting_for, awaiting, at_end}
 use Rattle.job_meaning.specs.Asking.{shows, needs, paces}
 use Rattle.job_meaning.specs.Asking as ask
@@ -88,7 +88,7 @@ signs_home (Some e) ps t = signs_to (home_among ps) t
 -- children are started in the nursery whose body the task is in, perhaps in a pass of a `repeat` there
 abbrev pub with_started : List ℕ → List Frame → List Frame
 with_started more (in_nursery children ∷ fs) = in_nursery (children ++ more) ∷ fs
-with_started more (in_repeat pass left body ∷ fs) = in_repeat pass left body ∷ with_started more fs
+with_started more (in_repeat pass left cuts body ∷ fs) = in_repeat pass left cuts body ∷ with_started more fs
 with_started more (steps_left ss ∷ fs) = steps_left ss ∷ with_started more fs
 with_started more fs = fs
 
@@ -114,9 +114,9 @@ enters_event label t body fs ps =
     makes (enters label t None ∷ []) (steps_left body ∷ in_event ∷ fs) (record { label = label; shield = false; is_event = true } ∷ ps)
 
 -- the first pass of a `repeat`, if it has one, before what comes after it
-abbrev pub begins_passes : ℕ → Steps → List Frame → List Place → Move
-begins_passes zero body fs ps = onward fs ps None
-begins_passes (suc k) body fs ps = onward (steps_left body ∷ in_repeat 0 k body ∷ fs) ps None
+abbrev pub begins_passes : ℕ → (over : Bool) → Steps → List Frame → List Place → Move
+begins_passes zero over body fs ps = onward fs ps None
+begins_passes (suc k) over body fs ps = onward (steps_left body ∷ in_repeat 0 k (cuts_over over (suc k)) body ∷ fs) ps None
 
 -- One step of a block, at this point of the job, with nothing raised; the steps ss of the block come after it, and the
 -- frames fs after them.
@@ -157,7 +157,7 @@ step_on cancelled_from now here (start name (Some k) body) ss fs ps count =
       begun = begun_over name here k body ps count k;
       stopped = None;
     }
-step_on cancelled_from now here (repeat n body) ss fs ps count = begins_passes n body (steps_left ss ∷ fs) ps
+step_on cancelled_from now here (repeat n over body) ss fs ps count = begins_passes n over body (steps_left ss ∷ fs) ps
 step_on cancelled_from now here (attempt body handler cleanup) ss fs ps count =
     onward (steps_left body ∷ in_try handler cleanup ∷ steps_left ss ∷ fs) ps None
 
@@ -193,10 +193,10 @@ step_try (except name body) cleanup fs ps None = onward (in_try unhandled cleanu
 step_try (except name body) cleanup fs ps (Some e) = handler_if (keep (named name) e) (drop (named name) e) e body cleanup fs ps
 
 -- a pass has ended: the next one begins, if it ended without an exception and there is one
-abbrev pub step_pass : ℕ → ℕ → Steps → List Frame → List Place → Option Exc → Move
-step_pass pass left body fs ps (Some e) = onward fs ps (Some e)
-step_pass pass zero body fs ps None = onward fs ps None
-step_pass pass (suc k) body fs ps None = onward (steps_left body ∷ in_repeat (suc pass) k body ∷ fs) ps None
+abbrev pub step_pass : ℕ → ℕ → (cuts : Option ℕ) → Steps → List Frame → List Place → Option Exc → Move
+step_pass pass left cuts body fs ps (Some e) = onward fs ps (Some e)
+step_pass pass zero cuts body fs ps None = onward fs ps None
+step_pass pass (suc k) cuts body fs ps None = onward (steps_left body ∷ in_repeat (suc pass) k cuts body ∷ fs) ps None
 
 -- a task that stops after this outcome: its last event is its sign, if it failed
 abbrev pub ends_as : Stopped → Option Exc → ℕ → List Frame → List Place → Move
@@ -209,7 +209,7 @@ step_frames cancelled_from now here (steps_left ss ∷ fs) ps exc count = step_s
 step_frames cancelled_from now here (in_scope fail ∷ fs) (p ∷ ps) exc count = leaves here.clock cancelled_from now (a_scope fail) fs p ps exc
 step_frames cancelled_from now here (in_event ∷ fs) (p ∷ ps) exc count = onward fs ps exc
 step_frames cancelled_from now here (in_nursery children ∷ fs) (p ∷ ps) exc count = ends_as (awaiting children now.at exc) exc now.at fs (p ∷ ps)
-step_frames cancelled_from now here (in_repeat pass left body ∷ fs) ps exc count = step_pass pass left body fs ps exc
+step_frames cancelled_from now here (in_repeat pass left cuts body ∷ fs) ps exc count = step_pass pass left cuts body fs ps exc
 step_frames cancelled_from now here (in_try handler cleanup ∷ fs) ps exc count = step_try handler cleanup fs ps exc
 step_frames cancelled_from now here (in_handler rest cleanup ∷ fs) ps exc count = onward (in_try unhandled cleanup ∷ fs) ps (handler_exc exc rest)
 step_frames cancelled_from now here (in_cleanup outcome ∷ fs) ps exc count = onward fs ps (outcome_after outcome exc)

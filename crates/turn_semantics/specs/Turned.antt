@@ -9,7 +9,7 @@ use Rattle.job_meaning.specs.declared.clock.Clock.TheVariants.{ByTicks as by_tic
 use Rattle.job_meaning.specs.Walk.{by_table, Here}
 use Rattle.job_meaning.specs.Before.{upto}
 use Rattle.job_tree.specs.Starting.{StartsIn}
-use Rattle.job_meaning.specs.Rest.{Event, noted, signs, enters, starts, ChildOutcomes, fill, Frame, Stopped, to_begin, asking, asleep, waiting_for, giving_up, awaiting, at_end, Rest, rest_comes_to, rest_at_start, rest_weight, frames_weight, stop_weight}
+use Rattle.job_meaning.specs.Rest.{Event, noted, signs, enters, starts, ChildOutcomes, fill, Frame, Stopped, to_begin, asking, asleep, waiting_for, giving_up, awaiting, at_end, Rest, rest_comes_to, rest_at_start, rest_weight, frames_weight, stop_weight, inside}
 use Rattle.turn_semantics.specs.Lists.{Each, Exists, IsAmong}
 use Rattle.turn_semantics.specs.Made.{EnteredLabel, SignedLabel, StartedChild, entered_in, signed_in, started_in, labels_entered}
 use Rattle.turn_semantics.specs.Midway.{Place, stack_at, Midway, Begun, Move, OwnFits, after_events, left_of, left_after, begun_comes_to}
@@ -218,7 +218,7 @@ TurnsOver u now here cancelled_from w rest ps count o =
       now = now;
       here = here;
       cancelled_from = cancelled_from;
-      Given = λ table outcomes. WakesBy table outcomes here u now w rest.stopped ps;
+      Given = λ table outcomes. WakesBy table outcomes (inside rest.frames here) u now w rest.stopped ps;
       before = λ table outcomes. rest_comes_to (by_table table) outcomes rest here (stack_at table ps) u;
       bound = rest_weight rest;
       stopped = Some rest.stopped;

@@ -21,11 +21,11 @@ use Rattle.job_story.specs.Tell.{now_of, story_of_one, tell, tell_block, tell_ea
 use Rattle.job_story.specs.declared.block.Block.{Block}
 use Rattle.job_story.specs.declared.stack.Level.{Level}
 use Rattle.job_story.specs.Stacks.{level_of}
-use Rattle.job_story.specs.Heres.{HasRoom, table_of, scene_of, scene_in, scopes_of, stack_of, input_of, here_of, label_in, inside, inside_event, started_tale, started_over}
+use Rattle.job_story.specs.Heres.{HasRoom, table_of, scene_of, scene_in, scopes_of, stack_of, here_of, label_in, inside, inside_event, started_tale, started_over}
 use Rattle.job_story.specs.Tales.{Tells, now_in}
 use Rattle.job_story.proofs.Adding.{adds_like, adds_nothing}
 use Rattle.job_story.proofs.Teller.{tells_joined}
-use Rattle.job_story.proofs.Blocks.{tells_block, tells_event, tells_child, tells_in, tells_at, same_now}
+use Rattle.job_story.proofs.Blocks.{tells_block, tells_event, tells_child, tells_in, tells_on, tells_at, same_now}
 use Rattle.job_story.proofs.Slept.{none_own}
 use Rattle.job_story.proofs.Trying.{not_raised, not_wanted, is_wanted, tells_handled, tells_cleaned}
 use Rattle.job_story.proofs.Steps.{AtStep, at_start, at_item, at_failed, at_next, at_stop, room_step, ends_small, ends_handled, start_is, each_own}
@@ -176,30 +176,36 @@ tell_children-returns t c =
     (tell_each k (started_over c.args.name.now c.args.copies c.args.body.now here c.args.begins now) now)) last c.copies.invariant
 
 pub tell_passes-passes-init : goal.tell_passes-passes-init
-tell_passes-passes-init t c = at_first _ _ _ _ _ _ c.at-stretch.ensures c.requires.in_range c.requires.room
+tell_passes-passes-init t c = at_first _ _ _ _ _ _ _ c.at-stretch.ensures c.requires.in_range c.requires.room
 
 pub tell_passes-tell_pass-requires : goal.tell_passes-tell_pass-requires
 tell_passes-tell_pass-requires t c = (
   omega (arith, c.decreases),
   (
-    c.requires.in_range,
-    subst (λ (u : ℕ). HasRoom (size_of c.args.body.now) c.args.here u) (sym c.end.ensures)
-        (room_pass _ _ _ _ _ _ _ _ c.passes.invariant c.passes-test.true),
+    c.requires.passes,
+    (
+      c.passes-test.true,
+      (
+        c.requires.in_range,
+        subst (λ (u : ℕ). HasRoom (size_of c.args.body.now) c.args.here u) (sym c.end.ensures)
+            (room_pass _ _ _ _ _ _ _ _ _ c.passes.invariant c.passes-test.true),
+      ),
+    ),
   ),
 )
 
 pub tell_passes-returns-then-has_failed : goal.tell_passes-returns-then-has_failed
 tell_passes-returns-then-has_failed t c =
-    pass_failed _ _ _ _ _ _ _ _ _ _ _ c.passes.invariant c.passes-test.true _ c.end.ensures c.in_ok-next.ensures c.in_ok-stretch.ensures
+    pass_failed _ _ _ _ _ _ _ _ _ _ _ _ c.passes.invariant c.passes-test.true _ c.end.ensures c.in_ok-next.ensures c.in_ok-stretch.ensures
     (sym c.has_failed.ensures ∙ c.if-has_failed.true)
 
 pub tell_passes-passes-preserved : goal.tell_passes-passes-preserved
 tell_passes-passes-preserved t c =
-    pass_next _ _ _ _ _ _ _ _ _ _ _ c.passes.invariant c.passes-test.true _ c.end.ensures c.in_ok-next.ensures c.in_ok-stretch.ensures
+    pass_next _ _ _ _ _ _ _ _ _ _ _ _ c.passes.invariant c.passes-test.true _ c.end.ensures c.in_ok-next.ensures c.in_ok-stretch.ensures
     (sym c.has_failed.ensures ∙ c.if-has_failed.false)
 
 pub tell_passes-returns : goal.tell_passes-returns
-tell_passes-returns t c = pass_stop _ _ _ _ _ _ _ _ c.passes.invariant (omega (arith, c.passes-test.false))
+tell_passes-returns t c = pass_stop _ _ _ _ _ _ _ _ _ c.passes.invariant (omega (arith, c.passes-test.false))
 
 pub tell_pass-returns : goal.tell_pass-returns
 tell_pass-returns t c =
@@ -208,14 +214,7 @@ tell_pass-returns t c =
     let body = tells_at _ _ _ c.in_ok-stretch.stretch _ _ c.args.body.now _ _ now now c.as_slice.ensures refl c.in_ok-stretch.ensures in
     let path = ap (λ (l : Label). l.indices) c.in_ok-place.ensures
     ∙ ap (λ (l : Label). l.indices ++ c.args.number ∷ []) c.in_ok-copy.ensures in
-    subst (λ (p : List ℕ). Tells here.task.now c.args.progress.now.events.items c.in_ok-stretch.stretch c.tell_steps.new.progress
-    (tell (table_of here) c.args.body.now
-    (record {
-      here = record { clock = here.clock; input = input_of here; part = range_of here.part; task = here.task.now; path = p };
-      in_cleanup =
-          here.in_cleanup;
-    })
-    (stack_of here) now)) path body
+    tells_on _ _ _ _ _ _ _ _ _ _ _ _ _ _ _ _ _ c.part_in_pass.ensures.buffer c.part_in_pass.ensures.range path body
 
 pub tell_try-tell_handler-requires : goal.tell_try-tell_handler-requires
 tell_try-tell_handler-requires t c =

@@ -1,6 +1,7 @@
 use Rattle.std.proofs.Common.{◌+◌, drop}
 use Rattle.job_tree.specs.Weigh.{weight_of, weight_in, handled_weight, cleaned_weight}
 use Rattle.job_tree.specs.Blocks.{step_of, steps_of, handled_of, cleaned_of}
+use Rattle.job_meaning.specs.Walk.{cuts_over}
 use Rattle.job_story.specs.Tell.{tell_each}
 use Rattle.job_story.specs.Heres.{started_over}
 use Rattle.job_story.specs.Tales.{Tells, now_in}
@@ -21,7 +22,7 @@ invariant-tell_children-copies l =
 
 abbrev pub invariant-tell_passes-passes : goal.invariant-tell_passes-passes
 invariant-tell_passes-passes l =
-    AtPass l.here (now_in l.moment l.fn.progress) l.count l.body l.i l.fn.progress.events.items l.stretch l.progress
+    AtPass (cuts_over l.over l.count) l.here (now_in l.moment l.fn.progress) l.count l.body l.i l.fn.progress.events.items l.stretch l.progress
 
 abbrev pub decreases-tell_steps : goal.decreases-tell_steps
 decreases-tell_steps l = weight_of (steps_of l.steps.now)

@@ -1,5 +1,6 @@
 use Rattle.std.proofs.Common.{sym, subst}
 use Rattle.task_machine.specs.States.{state_of}
+use Rattle.task_machine.specs.Tasks.{lent_of}
 use Rattle.task_machine.specs.declared.world.World.{World}
 use Rattle.task_machine.specs.declared.stop.Wake.TheVariants.{Due}
 use Rattle.task_machine.specs.Fitting.{Fits, waits_of}
@@ -12,4 +13,4 @@ turn-requires-clause-fits c =
 
 pub turn-requires-clause-wake : goal.turn-requires-clause-wake
 turn-requires-clause-wake c =
-    subst (λ (w : World). WakesFrom c.args.task.now.task_state c.args.task.now.part w.book Due) (sym c.set_now.ensures) c.requires.asleep
+    subst (λ (w : World). WakesFrom c.args.task.now.task_state (lent_of c.args.task.now) w.book Due) (sym c.set_now.ensures) c.requires.asleep

@@ -26,6 +26,9 @@ decreases-push_block l = weight_of l.body.now + 2
 abbrev pub decreases-push_step : goal.decreases-push_step
 decreases-push_step l = weight_in (step_of l.step.now)
 
+abbrev pub decreases-push_passes : goal.decreases-push_passes
+decreases-push_passes l = 3 + weight_of l.body.now
+
 abbrev pub decreases-push_handler : goal.decreases-push_handler
 decreases-push_handler l = handled_weight (handled_of l.handler.now)
 

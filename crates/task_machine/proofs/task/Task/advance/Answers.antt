@@ -224,24 +224,24 @@ returns-in_ok-moved-in-Steps-clause-step c =
 
 pub next_pass-requires : goal.next_pass-requires
 next_pass-requires c =
-    (in_range_with (state_of (record c.args.self.now { frames = c.pop.new.self }) c.args.world.now) (Repeat c.in-Repeat.pass c.in-Repeat.left c.in-Repeat.body)
-    (popped_fits (state_of (record c.args.self.now { frames = c.pop.new.self }) c.args.world.now) c.args.self.now.frames.items c.in-Some.frame (Repeat c.in-Repeat.pass c.in-Repeat.left c.in-Repeat.body) c.in-Some.ensures.items c.in-Repeat.is c.requires.fits)).1
+    (in_range_with (state_of (record c.args.self.now { frames = c.pop.new.self }) c.args.world.now) (Repeat c.in-Repeat.pass c.in-Repeat.left c.in-Repeat.cuts c.in-Repeat.body)
+    (popped_fits (state_of (record c.args.self.now { frames = c.pop.new.self }) c.args.world.now) c.args.self.now.frames.items c.in-Some.frame (Repeat c.in-Repeat.pass c.in-Repeat.left c.in-Repeat.cuts c.in-Repeat.body) c.in-Some.ensures.items c.in-Repeat.is c.requires.fits)).1
 
 pub returns-in_ok-exc-in-Repeat-clause-fits : goal.returns-in_ok-exc-in-Repeat-clause-fits
 returns-in_ok-exc-in-Repeat-clause-fits c =
     let e = c.in_ok-exc-in-Repeat.ensures in
-    passed_fits c.in-Repeat.pass c.in-Repeat.left c.in-Repeat.body.now (state_of (record c.args.self.now { frames = c.pop.new.self }) c.args.world.now) (state_of c.next_pass.new.self c.args.world.now)
-    (Repeat c.in-Repeat.pass c.in-Repeat.left c.in-Repeat.body) (option_map exc_of c.args.exc) (option_map exc_of c.in_ok-exc-in-Repeat.exc) refl refl
-    (popped_fits (state_of (record c.args.self.now { frames = c.pop.new.self }) c.args.world.now) c.args.self.now.frames.items c.in-Some.frame (Repeat c.in-Repeat.pass c.in-Repeat.left c.in-Repeat.body) c.in-Some.ensures.items c.in-Repeat.is c.requires.fits)
+    passed_fits c.in-Repeat.pass c.in-Repeat.left c.in-Repeat.cuts c.in-Repeat.body.now (state_of (record c.args.self.now { frames = c.pop.new.self }) c.args.world.now) (state_of c.next_pass.new.self c.args.world.now)
+    (Repeat c.in-Repeat.pass c.in-Repeat.left c.in-Repeat.cuts c.in-Repeat.body) (option_map exc_of c.args.exc) (option_map exc_of c.in_ok-exc-in-Repeat.exc) refl refl
+    (popped_fits (state_of (record c.args.self.now { frames = c.pop.new.self }) c.args.world.now) c.args.self.now.frames.items c.in-Some.frame (Repeat c.in-Repeat.pass c.in-Repeat.left c.in-Repeat.cuts c.in-Repeat.body) c.in-Some.ensures.items c.in-Repeat.is c.requires.fits)
     (e.step (λ id. []) []) e.blocks (ap (λ (t : Task). state_of t c.args.world.now) e.stays)
 
 pub returns-in_ok-exc-in-Repeat-clause-shorter : goal.returns-in_ok-exc-in-Repeat-clause-shorter
 returns-in_ok-exc-in-Repeat-clause-shorter c =
     λ u.
-    let f = Repeat c.in-Repeat.pass c.in-Repeat.left c.in-Repeat.body in
+    let f = Repeat c.in-Repeat.pass c.in-Repeat.left c.in-Repeat.cuts c.in-Repeat.body in
     let before = popped_length c.args.self.now.frames.items c.pop.new.self.items c.in-Some.frame f c.in-Some.ensures.items c.in-Repeat.is in
     let after = ap (λ (o : Move). frames_length o.frames) (c.in_ok-exc-in-Repeat.ensures.step (λ id. []) []) in
-    let less = pass_shorter c.in-Repeat.pass c.in-Repeat.left c.in-Repeat.body.now (frames_of (λ id. []) c.pop.new.self.items) []
+    let less = pass_shorter c.in-Repeat.pass c.in-Repeat.left c.in-Repeat.cuts c.in-Repeat.body.now (frames_of (λ id. []) c.pop.new.self.items) []
     (option_map exc_of c.args.exc) in
     omega (arith, before, after, less)
 
@@ -249,4 +249,4 @@ pub returns-in_ok-exc-in-Repeat-clause-step : goal.returns-in_ok-exc-in-Repeat-c
 returns-in_ok-exc-in-Repeat-clause-step c =
     let e = c.in_ok-exc-in-Repeat.ensures in
     takes_pass (state_of (record c.args.self.now { frames = c.pop.new.self }) c.args.world.now) (state_of c.next_pass.new.self c.args.world.now) c.args.self.now.frames.items c.in-Repeat.pass c.in-Repeat.left
-    c.in-Repeat.body c.args.exc c.in_ok-exc-in-Repeat.exc (c.in-Some.ensures.items ∙ ap (λ (f : Frame). c.pop.new.self.items ++ f ∷ []) c.in-Repeat.is) (ap (λ (t : Task). state_of t c.args.world.now) e.stays) e.step
+    c.in-Repeat.cuts c.in-Repeat.body c.args.exc c.in_ok-exc-in-Repeat.exc (c.in-Some.ensures.items ∙ ap (λ (f : Frame). c.pop.new.self.items ++ f ∷ []) c.in-Repeat.is) (ap (λ (t : Task). state_of t c.args.world.now) e.stays) e.step

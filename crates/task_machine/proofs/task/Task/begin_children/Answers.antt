@@ -5,8 +5,14 @@ use Rattle.task_machine.specs.States.{state_of}
 use Rattle.task_machine.specs.Worlds.{label_at}
 use Rattle.task_machine.specs.declared.world.World.{World}
 use Rattle.task_machine.proofs.Bodies.{body_runs}
-use Rattle.task_machine.proofs.TaskFits.{started_fits}
+use Rattle.task_machine.proofs.TaskFits.{cuts_fit, started_fits}
 use Rattle.task_machine.proofs.task.Task.begin_children.Goals as goal
+
+pub part_here-part-requires : goal.part_here-part-requires
+part_here-part-requires c = cuts_fit (state_of c.args.self.now c.args.world.now) None c.requires.fits
+
+pub start_over-requires-clause-cuts : goal.start_over-requires-clause-cuts
+start_over-requires-clause-cuts c = cuts_fit (state_of c.args.self.now c.args.world.now) None c.requires.fits
 
 pub start-requires-clause-nursery : goal.start-requires-clause-nursery
 start-requires-clause-nursery c = body_runs
@@ -39,10 +45,14 @@ returns-in_ok-start-in-None-clause-children c =
       at = c.nursery-nursery.ensures;
       started =
           subst (λ (o : Option ℕ). StartsAll (state_of c.args.self.now c.args.world.now) (state_of c.args.self.now c.start.new.world) c.nursery-nursery.result c.args.name o
-          c.args.body.now) (sym c.in-None.is)
-          (subst (λ (l : Label). StartsOne (state_of c.args.self.now c.args.world.now) (state_of c.args.self.now c.start.new.world) c.nursery-nursery.result l c.args.self.now.part
-          c.args.body.now) c.in_ok-label-in-None.ensures
-          c.in_ok-start-in-None.ensures.started);
+          c.args.body.now) (sym c.in-None.is) (
+            c.part_here-part.result,
+            c.part_here-part.ensures.buffer,
+            c.part_here-part.ensures.range,
+            subst (λ (l : Label). StartsOne (state_of c.args.self.now c.args.world.now) (state_of c.args.self.now c.start.new.world)
+                c.nursery-nursery.result l c.part_here-part.result c.args.body.now) c.in_ok-label-in-None.ensures
+                c.in_ok-start-in-None.ensures.started,
+          );
     }
 
 pub returns-in_ok-start_over-in-Some-clause-children : goal.returns-in_ok-start_over-in-Some-clause-children

@@ -10,9 +10,24 @@ use Rattle.task_machine.specs.declared.task.Task.{Task}
 use Rattle.task_machine.specs.States.{state_of}
 use Rattle.task_machine.proofs.AdvancesSteps.{takes_sleeps, takes_alone, takes_wait, takes_cancel, takes_set}
 use Rattle.task_machine.proofs.StateLemmas.{state_eq}
-use Rattle.task_machine.proofs.TaskFits.{cancelled_fits, set_fits}
+use Rattle.task_machine.proofs.TaskFits.{cuts_fit, cancelled_fits, set_fits}
 use Rattle.task_machine.proofs.Waiters.{opened_still, keeps_cancelled, keeps_set}
 use Rattle.task_machine.proofs.task.Task.run.Goals as goal
+
+pub ask-requires : goal.ask-requires
+ask-requires c = record { cuts = cuts_fit (state_of c.args.self.now c.args.world.now) None c.requires.fits }
+
+pub ask-requires-in-Find : goal.ask-requires-in-Find
+ask-requires-in-Find c = record { cuts = cuts_fit (state_of c.args.self.now c.args.world.now) None c.requires.fits }
+
+pub ask-requires-in-Head : goal.ask-requires-in-Head
+ask-requires-in-Head c = record { cuts = cuts_fit (state_of c.args.self.now c.args.world.now) None c.requires.fits }
+
+pub ask-requires-in-Longest : goal.ask-requires-in-Longest
+ask-requires-in-Longest c = record { cuts = cuts_fit (state_of c.args.self.now c.args.world.now) None c.requires.fits }
+
+pub ask-requires-in-Need : goal.ask-requires-in-Need
+ask-requires-in-Need c = record { cuts = cuts_fit (state_of c.args.self.now c.args.world.now) None c.requires.fits }
 
 pub returns-in-Sleep-clause-step : goal.returns-in-Sleep-clause-step
 returns-in-Sleep-clause-step c = λ a.

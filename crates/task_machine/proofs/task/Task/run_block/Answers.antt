@@ -156,12 +156,12 @@ returns-in_ok-begin_passes-in-Repeat-clause-fits c =
     let in_range = subst (λ (s : Step). IsInRangeStep (step_of s)) c.in-Repeat.is c.requires.in_range in
     let starts = subst (λ (s : Step). StartsAt (in_body (frames_of (λ id. []) c.args.self.now.frames.items)) (step_of s))
     c.in-Repeat.is c.requires.starts in
-    repeat_fits c.in-Repeat.count c.in-Repeat.body (state_of c.args.self.now c.args.world.now) (state_of c.begin_passes.new.self c.args.world.now) c.requires.fits
+    repeat_fits c.in-Repeat.count c.in-Repeat.over c.in-Repeat.body (state_of c.args.self.now c.args.world.now) (state_of c.begin_passes.new.self c.args.world.now) c.requires.fits
     in_range.0 in_range.1 starts e.blocks (e.step (λ id. []) []) (ap (λ (t : Task). state_of t c.args.world.now) e.stays)
 
 pub returns-in_ok-begin_passes-in-Repeat-clause-length : goal.returns-in_ok-begin_passes-in-Repeat-clause-length
 returns-in_ok-begin_passes-in-Repeat-clause-length c =
-    let e = repeat_length c.in-Repeat.count c.in-Repeat.body c.args.self.now.frames.items c.begin_passes.new.self.frames.items
+    let e = repeat_length c.in-Repeat.count c.in-Repeat.over c.in-Repeat.body c.args.self.now.frames.items c.begin_passes.new.self.frames.items
     (c.in_ok-begin_passes-in-Repeat.ensures.step (λ id. []) []) in
     let f = ap (λ (s : Step). step_length (step_of s)) c.in-Repeat.is in
     omega (arith, e, f)
@@ -169,7 +169,7 @@ returns-in_ok-begin_passes-in-Repeat-clause-length c =
 pub returns-in_ok-begin_passes-in-Repeat-clause-step : goal.returns-in_ok-begin_passes-in-Repeat-clause-step
 returns-in_ok-begin_passes-in-Repeat-clause-step c = λ a.
     let e = c.in_ok-begin_passes-in-Repeat.ensures in
-    takes_repeat (state_of c.args.self.now c.args.world.now) c.args.step.now a (state_of c.begin_passes.new.self c.args.world.now) c.in-Repeat.count c.in-Repeat.body
+    takes_repeat (state_of c.args.self.now c.args.world.now) c.args.step.now a (state_of c.begin_passes.new.self c.args.world.now) c.in-Repeat.count c.in-Repeat.over c.in-Repeat.body
     c.in-Repeat.is (ap (λ (t : Task). state_of t c.args.world.now) e.stays) e.blocks e.step
 
 pub returns-in_ok-begin_try-in-Try-clause-step : goal.returns-in_ok-begin_try-in-Try-clause-step

@@ -8,25 +8,27 @@ use Rattle.task_machine.specs.Standing.{Wakens}
 use Rattle.task_machine.specs.States.{state_of}
 use Rattle.task_machine.specs.declared.entry.Entry.{Entry}
 use Rattle.job_meaning.specs.Asking as ask
-use Rattle.input_lines.specs.Answers.{IsAnswer}
+use Rattle.input_lines.specs.Answers.{IsAnswerOn}
 use Rattle.input_lines.specs.declared.answers.Answer as held
 use Rattle.task_machine.specs.declared.stop.TaskState.{TaskState}
 use Rattle.task_machine.specs.declared.stop.Wake.TheVariants.{Answer}
 use Rattle.task_machine.specs.Waking.{WakesFrom, answer_in}
+use Rattle.task_machine.specs.Tasks.{lent_of}
 use Rattle.task_machine.proofs.Wakens.{wakes_lines}
 use Rattle.task_machine.proofs.Wakes.{count_few, lines_at}
 use Rattle.task_machine.proofs.task.Task.take_answer.Goals as goal
 
 pub pace-requires-clause-few : goal.pace-requires-clause-few
 pace-requires-clause-few c =
-    let part = c.args.self.now.part in
-    count_few c.in-Asked.kernel part c.in-Count.count c.requires.small
-    (subst (λ (a : held.Answer). IsAnswer c.in-Asked.kernel part a) c.in-Count.is
-    (subst (λ (h : TaskState). WakesFrom h part c.args.world.now.book (Answer c.args.answer)) c.in-Asked.is c.requires.wake))
+    let lent = lent_of c.args.self.now in
+    count_few c.in-Asked.kernel lent c.in-Count.count c.requires.small
+    (subst (λ (a : held.Answer). IsAnswerOn c.in-Asked.kernel lent.input lent.range a) c.in-Count.is
+    (subst (λ (h : TaskState). WakesFrom h lent c.args.world.now.book (Answer c.args.answer)) c.in-Asked.is c.requires.wake))
 
 pub returns-in_ok-push_lines-in-Lines-clause-wakes : goal.returns-in_ok-push_lines-in-Lines-clause-wakes
 returns-in_ok-push_lines-in-Lines-clause-wakes c =
     let self = c.args.self.now in
+    let lent = lent_of self in
     let lines = c.in-Lines.lines in
     subst (λ (a : held.Answer). Wakens (state_of self c.args.world.now)
     (state_of (record self { entries = c.push_lines.new.entries }) c.args.world.now) (On None)
@@ -35,9 +37,9 @@ returns-in_ok-push_lines-in-Lines-clause-wakes c =
     (record (state_of self c.args.world.now) { entries = es }) (On None) (has_answer (ask.lines (map span_of lines))))
     (sym (c.in_ok-push_lines-in-Lines.ensures ∙ ap (λ (ls : List Line). self.entries.items ++ map entries.Line ls) c.as_slice.ensures))
     (wakes_lines (state_of self c.args.world.now) c.in-Asked.kernel c.in-Asked.purpose c.in-Asked.is (map span_of lines) lines
-    (lines_at c.in-Asked.kernel self.part lines
-    (subst (λ (a : held.Answer). IsAnswer c.in-Asked.kernel self.part a) c.in-Lines.is
-    (subst (λ (h : TaskState). WakesFrom h self.part c.args.world.now.book (Answer c.args.answer)) c.in-Asked.is c.requires.wake)))))
+    (lines_at c.in-Asked.kernel lent lines
+    (subst (λ (a : held.Answer). IsAnswerOn c.in-Asked.kernel lent.input lent.range a) c.in-Lines.is
+    (subst (λ (h : TaskState). WakesFrom h lent c.args.world.now.book (Answer c.args.answer)) c.in-Asked.is c.requires.wake)))))
 
 pub returns-in_ok-moved-in-Missing-clause-wakes : goal.returns-in_ok-moved-in-Missing-clause-wakes
 returns-in_ok-moved-in-Missing-clause-wakes c =

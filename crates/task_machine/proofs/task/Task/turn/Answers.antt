@@ -1,4 +1,5 @@
 use Rattle.std.proofs.Common.{Some, ap, ◌∙◌, subst}
+use Rattle.task_machine.specs.Tasks.{lent_of}
 use Rattle.task_machine.specs.declared.stop.Moved.{Moved}
 use Rattle.task_machine.specs.declared.task.Task.{Task}
 use Rattle.task_machine.specs.declared.world.World.{World}
@@ -25,7 +26,7 @@ returns-in_ok-stop-in-On-clause-turn c =
     stopped (ap (λ (t : Task). t.part) woke.stays ∙ ap (λ (t : Task). t.part) forgot.stays)
     (ap (λ (t : Task). t.label) woke.stays ∙ ap (λ (t : Task). t.label) forgot.stays) (ap (λ (w : World). w.clock) woke.world)
     (ap (λ (w : World). w.tick) woke.world)
-    (can_wake self.task_state self.part world.book numbers wake stopped c.requires.wake task_state) stands
+    (can_wake self.task_state (lent_of self) world.book numbers wake stopped c.requires.wake task_state) stands
     (subst (λ (x : Moved). Took (woken_at wake s) m x cancelled_from numbers
     (wake_at (woken_at wake s) (wake_in world.book self.task_state wake) stopped cancelled_from numbers ps)) c.in-On.is
     (wakens cancelled_from numbers stopped ps (woken_stands wake s cancelled_from numbers (Some stopped) ps stands) task_state))
