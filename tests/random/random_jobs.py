@@ -30,6 +30,8 @@ TASK = re.compile(rb"task (\S+) (\d+) (\d+) (.*)")
 START = re.compile(rb"  (\S+) +starts( in nursery \S+)?")
 END = re.compile(rb"  (\S+) +ends: ([^;]*)(; .*)?")
 REFUSED = re.compile(rb"refused J([1-9]|1[01]) (\w+) at (\d+)\n")
+# What every sixteenth input has besides: the program starts a thread for each 262,144 bytes that it searches.
+LONG = b"\n".join(b"." * (n % 200) for n in range(11_000)) + b"\n"
 KINDS = "TooLong NotAscii Version Token Number Syntax Depth Twice NotEnclosing Reserved TooLarge".split()
 
 
@@ -249,12 +251,12 @@ def examined_cut(path, cut):
 def examined(path, seed):
     """The status of one text. What is wrong is printed with the text and its input."""
     dice = random.Random(seed)
-    text, data = text_of(dice, seed), input_of(dice)
+    text, data = text_of(dice, seed), input_of(dice) + b"\n" + LONG if seed % 16 == 0 else input_of(dice)
     with tempfile.TemporaryDirectory() as folder:
         try:
             return Program(path, folder).examine(text, data)
         except Wrong as wrong:
-            raise Wrong(f"{wrong}\n-- seed\n{seed}\n-- text\n{text!r}\n-- input\n{data!r}") from wrong
+            raise Wrong(f"{wrong}\n-- seed\n{seed}\n-- text\n{text!r}\n-- input\n{data[:2000]!r}") from wrong
 
 
 def main():

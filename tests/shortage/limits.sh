@@ -147,6 +147,7 @@ for job in scopes nurseries cleanups handlers sleeps leaves grid; do
     { cat $job.job; printf '%%input\n'; cat log.txt; } > $job.feed
     in_little_stack test $job.feed
 done
+in_little_stack run parts.job lines.txt --workers 64
 column=$(awk 'NR == 2 { print index($0, "sleep 1") + 6 }' cleanups.job)
 in_little_stack sweep cleanups.job --at "2:$column" --values 1..9 --workers 2
 { printf 'trio-job 1\njob main '; head -c 65000 /dev/zero | tr '\0' '{'; } > open.job
