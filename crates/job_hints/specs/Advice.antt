@@ -99,7 +99,7 @@ advice_text advice.NewestFormat = codes "format 3 has this: begin the job text w
 advice_text advice.Unnamed = codes "each job, scope, nursery, event and start has a name, as in `scope work after 5 { .. }`\n"
 advice_text advice.HeadOrder = codes "the head of a scope is `scope NAME after N shield fail`, in this order\n"
 advice_text advice.StartInside =
-    codes "a `start` is directly inside a nursery, in format 3 also in a `repeat` there: `nursery NAME { repeat 3 { start NAME { .. } } }`\n"
+    codes "a `start` is directly inside a nursery, in format 3 also in a `repeat` without `over` there: `nursery NAME { repeat 3 { start NAME { .. } } }`\n"
 advice_text (advice.Block a) = block_sentence a
 advice_text (advice.Number a) = number_sentence a
 advice_text (advice.Python syntax) = python_sentence syntax

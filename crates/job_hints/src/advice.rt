@@ -77,7 +77,7 @@ impl Advice {
             Advice::HeadOrder =>
                 "the head of a scope is `scope NAME after N shield fail`, in this order\n",
             Advice::StartInside => {
-                "a `start` is directly inside a nursery, in format 3 also in a `repeat` there: `nursery NAME { repeat 3 { start NAME { .. } } }`\n"
+                "a `start` is directly inside a nursery, in format 3 also in a `repeat` without `over` there: `nursery NAME { repeat 3 { start NAME { .. } } }`\n"
             }
             Advice::Block(advice) => advice.text(),
             Advice::Number(advice) => advice.text(),

@@ -201,7 +201,7 @@ pub(crate) const HELPED: &[Row] = &[
     ),
     (
         "trio-job 3\njob a { repeat 2 { start b { } } }",
-        "\na `start` is directly inside a nursery, in format 3 also in a `repeat` there: `nursery NAME { repeat 3 { start NAME { .. } } }`\n",
+        "\na `start` is directly inside a nursery, in format 3 also in a `repeat` without `over` there: `nursery NAME { repeat 3 { start NAME { .. } } }`\n",
     ),
     (
         "trio-job 3\njob a { evnt b { } }",
