@@ -1,9 +1,10 @@
 -- What is known of a walk before a tick c, and when two stacks or two walks agree in those ticks.
-use Rattle.std.specs.Prelude.{◌≡◌, ℕ, ◌<◌, ◌≤◌, Bool, true, false, Option, Some, None, List, [], ◌∷◌, min, nat_lt}
+use Rattle.std.specs.Prelude.{◌≡◌, ℕ, ◌<◌, ◌≤◌, Bool, true, false, if◌then◌else◌, Option, Some, None, List, [], ◌∷◌, min, nat_lt}
 use Rattle.exceptions.specs.Exceptions.{Label, Exc}
 use Rattle.cancel_scopes.specs.Sight.{Tick}
-use Rattle.job_meaning.specs.Log.{Entry, Log, nil, entry, sign, entered, task, Member, Result}
-use Rattle.job_meaning.specs.Walk.{Levels, Stack}
+use Rattle.job_meaning.specs.Log.{Entry, Log, nil, entry, sign, entered, Act, opens, asks, gives_back, closes, act, task, Member, Result}
+use Rattle.job_meaning.specs.Sharing.{Grants, granted_before}
+use Rattle.job_meaning.specs.Walk.{Levels, Stack, Mode, two_walks, by_table}
 
 -- the lesser of a tick and c, where never is later than every tick
 abbrev pub upto : ℕ → Tick → ℕ
@@ -18,7 +19,19 @@ NearLevels c [] (k ∷ ks) = ⊥
 NearLevels c (l ∷ ls) [] = ⊥
 
 abbrev pub Near : ℕ → Stack → Stack → Type 0
-Near c st other = NearLevels c st.scopes other.scopes × NearLevels c st.events other.events
+Near c st other = NearLevels c st.scopes other.scopes × NearLevels c st.events other.events × (st.objects ≡ other.objects)
+
+-- grants are the same before c
+abbrev pub NearGrants : ℕ → Grants → Grants → Type 0
+NearGrants c grants other =
+    (object asker : Label) (m : ℕ) → granted_before c (grants object asker m) ≡ granted_before c (other object asker m)
+
+-- two walks are of one kind, with one table, and agree in what is granted before c
+abbrev pub NearModes : ℕ → Mode → Mode → Type 0
+NearModes c (two_walks grants) (two_walks other) = NearGrants c grants other
+NearModes c (by_table table grants) (by_table other_table other) = ((l : Label) → table l ≡ other_table l) × NearGrants c grants other
+NearModes c (two_walks grants) (by_table table other) = ⊥
+NearModes c (by_table table grants) (two_walks other) = ⊥
 
 -- an exception is known where its task has ended
 abbrev pub exc_if : Bool → Option Exc → Option Exc
@@ -49,6 +62,21 @@ abbrev pub task_if : Bool → Label → ℕ → ℕ → Option Exc → Log → L
 task_if true l s u e own rest = task l s u e own rest
 task_if false l s u e own rest = rest
 
+-- of who asks it is known before c whether it has left the queue
+abbrev pub left_before : ℕ → Tick → Tick
+left_before c None = None
+left_before c (Some m) = if nat_lt m c then Some m else None
+
+abbrev pub act_before : ℕ → Act → Act
+act_before c (opens kind) = opens kind
+act_before c (asks ask part left) = asks ask part (left_before c left)
+act_before c gives_back = gives_back
+act_before c closes = closes
+
+abbrev pub act_if : Bool → Label → ℕ → Act → Log → Log
+act_if true l t a rest = act l t a rest
+act_if false l t a rest = rest
+
 -- A log without what is at c or later. A task that was started before c stays, with what is known of its end and its
 -- exception, and with its own log cut likewise.
 abbrev pub log_before : ℕ → Log → Log
@@ -56,6 +84,7 @@ log_before c nil = nil
 log_before c (entry t e rest) = entry_if (nat_lt t c) t e (log_before c rest)
 log_before c (sign l t rest) = sign_before (nat_lt t c) l t (log_before c rest)
 log_before c (entered l t d rest) = entered_if (nat_lt t c) l t d (log_before c rest)
+log_before c (act l t a rest) = act_if (nat_lt t c) l t (act_before c a) (log_before c rest)
 log_before c (task l s u e own rest) =
     task_if (nat_lt s c) l s (min c u) (exc_if (nat_lt u c) e) (log_before c own) (log_before c rest)
 

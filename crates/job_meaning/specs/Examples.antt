@@ -6,7 +6,7 @@ use Rattle.job_tree.specs.Tree.{Step, scope, nursery, event, start, repeat, atte
 use Rattle.exceptions.specs.Exceptions.{Label, by_nursery, by_handler, Exc, raised, group, parts_of}
 use Rattle.job_meaning.specs.Log.{line, waited, scope_left, nursery_left}
 use Rattle.job_meaning.specs.Walk.{walk, and_then, sleep_result, pace_result, lines_result, raise_result, need_result, cancel_result, set_result, event_wait, block, event_block, with_sign, nursery_result, child, handler_result, cleanup_result}
-use Rattle.job_meaning.specs.Meaning.{Noted, Record, meaning, meaning_records, meaning_end, meaning_table}
+use Rattle.job_meaning.specs.Meaning.{Noted, Record, meaning, meaning_records, meaning_end, meaning_grants, meaning_table}
 use Rattle.job_meaning.specs.Follow.{follow}
 
 -- the block of some steps
@@ -129,4 +129,4 @@ end_of ss input = meaning_end (job_of ss) input
 -- the tick at which the walk that follows the table of their meaning ends
 unfoldable pub followed_end_of : List Step → List ℕ → ℕ
 unfolding follow meaning walk and_then sleep_result pace_result lines_result raise_result need_result cancel_result set_result event_wait block event_block with_sign nursery_result child handler_result cleanup_result
-followed_end_of ss input = (follow (meaning_table (job_of ss) input) (job_of ss) input).end
+followed_end_of ss input = (follow (meaning_table (job_of ss) input) (meaning_grants (job_of ss) input) (job_of ss) input).end

@@ -6,6 +6,7 @@ use Rattle.exceptions.specs.Exceptions.{cancelled}
 use Rattle.job_meaning.specs.Log.{Result, nil, task}
 use Rattle.job_meaning.specs.Moments.{tick_of, only_at}
 use Rattle.job_meaning.specs.declared.clock.Clock.TheVariants.{ByRounds as by_rounds}
+use Rattle.job_meaning.specs.Sharing.{no_grants}
 use Rattle.job_meaning.specs.Walk.{two_walks, no_stack, walk, and_then, sleep_result, pace_result, lines_result, raise_result, need_result, cancel_result, set_result, event_wait, block, event_block, with_sign, nursery_result, child, handler_result, cleanup_result}
 use Rattle.job_meaning.specs.Meaning.{Record, records_of}
 use Rattle.job_meaning.specs.Examples.{block_of, scope_of, timed_scope, scope_at, fail_scope, timed_shield, nursery_of, start_of, try_except, try_finally, label_named, raised_by, group_by, scope_caught, scope_passed, nursery_caught, nursery_passed, record_of, main_ran}
@@ -14,7 +15,7 @@ use Rattle.job_meaning.specs.Examples.{block_of, scope_of, timed_scope, scope_at
 unfoldable pub walk_by_rounds : List Step → Result
 unfolding walk and_then sleep_result pace_result lines_result raise_result need_result cancel_result set_result event_wait block event_block with_sign nursery_result child handler_result cleanup_result
 walk_by_rounds ss =
-    walk two_walks (block_of ss)
+    walk (two_walks no_grants) (block_of ss)
     (record { clock = by_rounds; input = []; part = record { from = 0; to = 0 }; task = label_named (codes "main"); path = [] }) no_stack (only_at 0)
 
 -- their records

@@ -11,9 +11,10 @@ use Rattle.job_meaning.specs.Moments.{clock_of, Now, only_at}
 use Rattle.job_meaning.specs.declared.clock.Clock.TheVariants.{ByTicks as by_ticks}
 use Rattle.job_meaning.specs.Walk.{Levels, Stack, Mode, Here, walk}
 use Rattle.job_meaning.specs.Log.{Table, times_given}
-use Rattle.job_meaning.specs.Meaning.{root_walk, root_log, meaning, meaning_table, meaning_records, meaning_end, meaning_cancelled_from}
+use Rattle.job_meaning.specs.Sharing.{Grants}
+use Rattle.job_meaning.specs.Meaning.{root_walk, root_log, meaning, meaning_grants, meaning_table, meaning_records, meaning_end, meaning_cancelled_from}
 use Rattle.job_meaning.specs.Follow.{follow, IsSettled}
-use Rattle.job_meaning.specs.Before.{Near, Agree}
+use Rattle.job_meaning.specs.Before.{Near, NearModes, Agree}
 use Rattle.job_meaning.specs.declared.limits.TheConstants.{MAX_INPUT, LAST_TICK}
 
 -- one tick is at most another, where each may be never
@@ -59,33 +60,37 @@ abbrev pub NoneReachesTheRoot : Type 0
 NoneReachesTheRoot =
     (mode : Mode) (job : Tree) (input : List ℕ) → clock_of job.format ≡ by_ticks → some_cancelled (root_walk mode job input).exc ≡ false
 
--- A cancellation from tick c on changes nothing before c: on two stacks that agree except where both moments of cancellation are
--- at least c, a walk does the same in all ticks before c.
+-- A cancellation or a grant from moment c on changes nothing before c: on two stacks that agree except where both moments of
+-- cancellation are at least c, and with grants that agree before c, a walk does the same in all moments before c.
 abbrev pub NothingBeforeItsCause : Type 0
 NothingBeforeItsCause =
-    (c : ℕ) (mode : Mode) (steps : Steps) (here : Here) (stack other : Stack) (now : Now) →
-    Near c stack other → Agree c (walk mode steps here stack now) (walk mode steps here other now)
+    (c : ℕ) (mode other_mode : Mode) (steps : Steps) (here : Here) (stack other : Stack) (now : Now) →
+    NearModes c mode other_mode → Near c stack other → Agree c (walk mode steps here stack now) (walk other_mode steps here other now)
 
 -- where names are given once, following the table of the meaning is the meaning
 abbrev pub FollowingIsMeaning : Type 0
 FollowingIsMeaning =
-    (job : Tree) (input : List ℕ) → GivesNamesOnce job → follow (meaning_table job input) job input ≡ meaning job input
+    (job : Tree) (input : List ℕ) → GivesNamesOnce job →
+    follow (meaning_table job input) (meaning_grants job input) job input ≡ meaning job input
 
--- so that table is settled
+-- so these tables are settled, where the job ends by the last tick
 abbrev pub TableIsSettled : Type 0
-TableIsSettled = (job : Tree) (input : List ℕ) → GivesNamesOnce job → IsSettled (meaning_table job input) job input
+TableIsSettled =
+    (job : Tree) (input : List ℕ) → GivesNamesOnce job → IsInRange job → length input ≤ MAX_INPUT →
+    IsSettled (meaning_table job input) (meaning_grants job input) job input
 
--- following any settled table is the meaning
+-- following any settled tables is the meaning
 abbrev pub FollowingSettledIsMeaning : Type 0
 FollowingSettledIsMeaning =
-    (table : Table) (job : Tree) (input : List ℕ) → GivesNamesOnce job → IsSettled table job input →
-    follow table job input ≡ meaning job input
+    (table : Table) (grants : Grants) (job : Tree) (input : List ℕ) → GivesNamesOnce job → IsInRange job → length input ≤ MAX_INPUT →
+    IsSettled table grants job input → follow table grants job input ≡ meaning job input
 
--- so there is one settled table: any two agree on every label
+-- so there is one settled pair of tables: any two agree on every label and every grant
 abbrev pub OneTableIsSettled : Type 0
 OneTableIsSettled =
-    (table other : Table) (job : Tree) (input : List ℕ) → GivesNamesOnce job → IsSettled table job input → IsSettled other job input →
-    (l : Label) → table l ≡ other l
+    (table other : Table) (grants other_grants : Grants) (job : Tree) (input : List ℕ) → GivesNamesOnce job →
+    IsSettled table grants job input → IsSettled other other_grants job input →
+    ((l : Label) → table l ≡ other l) × ((object asker : Label) (m : ℕ) → grants object asker m ≡ other_grants object asker m)
 
 -- where names are given once, no label of a scope, a nursery or a task is given twice: by the meaning, and by any table
 abbrev pub LabelsAreGivenOnce : Type 0

@@ -1,5 +1,6 @@
 pub mod Clocks
 pub mod Log
+pub mod Sharing
 pub mod Moments
 pub mod Walk
 pub mod Meaning
@@ -8,6 +9,7 @@ pub mod Follow
 pub mod Examples
 pub mod ExamplesRounds
 pub mod ExamplesEvents
+pub mod ExamplesSharing
 pub mod ExamplesScopes
 pub mod ExamplesNurseries
 pub mod ExamplesLines

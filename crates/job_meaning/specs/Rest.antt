@@ -1,14 +1,15 @@
 -- A task that stopped on its way: what it did so far, what is left of it, what that results in, and how much it is.
-use Rattle.std.specs.Prelude.{ℕ, zero, suc, ◌+◌, ◌*◌, Bool, true, false, Option, List, [], ◌∷◌, ◌++◌}
+use Rattle.std.specs.Prelude.{ℕ, zero, suc, ◌+◌, ◌*◌, Bool, true, false, Option, Some, None, List, [], ◌∷◌, ◌++◌}
 use Rattle.job_tree.specs.Tree.{Steps, Handled, Cleaned}
 use Rattle.job_tree.specs.Names.{size_of, handled_size, cleaned_size}
+use Rattle.job_tree.specs.declared.object.Ask.{Ask}
 use Rattle.input_lines.specs.Lines.{Range}
 use Rattle.exceptions.specs.Exceptions.{Label, Exc, cancelled}
 use Rattle.cancel_scopes.specs.Sight.{Tick, Level, catches}
-use Rattle.job_meaning.specs.Log.{Entry, Log, nil, entry, sign, entered, task, followed_by, Member, Result}
+use Rattle.job_meaning.specs.Log.{Entry, Log, nil, entry, sign, entered, Act, act, task, followed_by, Member, Result}
 use Rattle.job_meaning.specs.Moments.{tick_of, Now, only_at}
 use Rattle.job_meaning.specs.declared.clock.Clock.{Clock}
-use Rattle.job_meaning.specs.Walk.{label_over, part_in_pass, in_pass, passes, Levels, Stack, Mode, Here, walk, walk_handler, walk_cleanup, done_at, raised_at, and_then, sleep_result, pace_result, event_wait, event_on, from_for, stack_for, Kind, a_scope, a_nursery, left_as, Left, left_with, exc_after, with_sign, nursery_result, handler_exc, outcome_after, with_outcome}
+use Rattle.job_meaning.specs.Walk.{label_over, part_in_pass, in_pass, passes, Levels, Stack, Mode, Here, walk, walk_handler, walk_cleanup, done_at, raised_at, and_then, sleep_result, pace_result, event_wait, event_on, object_on, asks_in, with_token_back, from_for, stack_for, Kind, a_scope, a_nursery, left_as, Left, left_with, exc_after, with_sign, nursery_result, handler_exc, outcome_after, with_outcome}
 use Rattle.job_meaning.specs.Asking.{Kernel, answer_of, Purpose, shows, needs, paces, answer_result}
 
 -- What a task did so far, in order. The children that it started are numbered 0, 1, .. within it, and their results are
@@ -17,6 +18,7 @@ pub data Event : Type 0 where
   noted : (tick : ℕ) → (entry : Entry) → Event
   signs : (label : Label) → (tick : ℕ) → Event
   enters : (label : Label) → (tick : ℕ) → (deadline : Tick) → Event
+  acts : (label : Label) → (moment : ℕ) → (done : Act) → Event
   starts : (child : ℕ) → (label : Label) → (tick : ℕ) → Event
 
 -- the result of each child of a task, by its number: what is recorded of the children's outcomes
@@ -29,6 +31,7 @@ fill outcomes [] = nil
 fill outcomes (noted t e ∷ es) = entry t e (fill outcomes es)
 fill outcomes (signs l t ∷ es) = sign l t (fill outcomes es)
 fill outcomes (enters l t d ∷ es) = entered l t d (fill outcomes es)
+fill outcomes (acts l t a ∷ es) = act l t a (fill outcomes es)
 fill outcomes (starts i l t ∷ es) = task l t (outcomes i).end (outcomes i).exc (outcomes i).log (fill outcomes es)
 
 -- children as members of their nursery
@@ -55,6 +58,12 @@ pub data Frame : Type 0 where
   in_scope : (fail : Bool) → Frame
   -- an event
   in_event : Frame
+  -- a limiter or channel
+  in_object : Frame
+  -- the block of an `acquire`, which has a token of this limiter
+  with_token : (limiter : Label) → Frame
+  -- the block of a `receive`, whose part is the one that was received
+  with_part : (received : Range) → Frame
   -- the body of a nursery, with the children started so far
   in_nursery : (children : List ℕ) → Frame
   -- a pass of a `repeat`, with its number, how many come after it, into how many cuts the part is divided for them if it is, and its block
@@ -73,18 +82,25 @@ path_in [] path = path
 path_in (steps_left ss ∷ fs) path = path_in fs path
 path_in (in_scope fail ∷ fs) path = path_in fs path
 path_in (in_event ∷ fs) path = path_in fs path
+path_in (in_object ∷ fs) path = path_in fs path
+path_in (with_token limiter ∷ fs) path = path_in fs path
+path_in (with_part received ∷ fs) path = path_in fs path
 path_in (in_nursery children ∷ fs) path = path_in fs path
 path_in (in_repeat pass left cuts body ∷ fs) path = path_in fs path ++ pass ∷ []
 path_in (in_try handler cleanup ∷ fs) path = path_in fs path
 path_in (in_handler rest cleanup ∷ fs) path = path_in fs path
 path_in (in_cleanup outcome ∷ fs) path = path_in fs path
 
--- The part of the input inside these frames, given that of their task: a pass of a `repeat over` has its cut.
+-- The part of the input inside these frames, given that of their task: a pass of a `repeat over` has its cut,
+-- and the block of a `receive` what was received.
 abbrev pub part_in : List ℕ → List Frame → Range → Range
 part_in input [] part = part
 part_in input (steps_left ss ∷ fs) part = part_in input fs part
 part_in input (in_scope fail ∷ fs) part = part_in input fs part
 part_in input (in_event ∷ fs) part = part_in input fs part
+part_in input (in_object ∷ fs) part = part_in input fs part
+part_in input (with_token limiter ∷ fs) part = part_in input fs part
+part_in input (with_part received ∷ fs) part = received
 part_in input (in_nursery children ∷ fs) part = part_in input fs part
 part_in input (in_repeat pass left cuts body ∷ fs) part = part_in_pass input cuts pass (part_in input fs part)
 part_in input (in_try handler cleanup ∷ fs) part = part_in input fs part
@@ -105,6 +121,8 @@ pub data Stopped : Type 0 where
   asleep : (paced : Bool) → (ticks since : ℕ) → Stopped
   -- it waits for the event of this name that encloses it, from this moment on
   waiting_for : (event : List ℕ) → (since : ℕ) → Stopped
+  -- it asked this of the limiter or channel of this name that encloses it, in this moment, and runs the block with what it is granted
+  queued : (object : List ℕ) → (ask : Ask) → (since : ℕ) → (body : Steps) → Stopped
   -- it was cancelled in this moment at a checkpoint, which raises a round later
   giving_up : (since : ℕ) → Stopped
   -- it waits for these children of a nursery, its innermost one, whose body ended in this tick with this exception or none
@@ -149,6 +167,14 @@ without_scope st = record st { scopes = outer_levels st.scopes }
 abbrev pub without_event : Stack → Stack
 without_event st = record st { events = outer_levels st.events }
 
+abbrev pub outer_labels : List Label → List Label
+outer_labels [] = []
+outer_labels (l ∷ outer) = outer
+
+-- the stack outside the innermost limiter or channel
+abbrev pub without_object : Stack → Stack
+without_object st = record st { objects = outer_labels st.objects }
+
 -- a nursery's body with the children that were started before
 abbrev pub with_children : List Member → Result → Result
 with_children ms r = record r { members = ms ++ r.members }
@@ -161,6 +187,9 @@ finish m outcomes (steps_left ss ∷ fs) here st r = finish m outcomes fs here s
 finish m outcomes (in_scope fail ∷ fs) here st r =
     finish m outcomes fs here (without_scope st) (left_if here.clock (a_scope fail) st.scopes (λ l. r) r)
 finish m outcomes (in_event ∷ fs) here st r = finish m outcomes fs here (without_event st) r
+finish m outcomes (in_object ∷ fs) here st r = finish m outcomes fs here (without_object st) r
+finish m outcomes (with_token limiter ∷ fs) here st r = finish m outcomes fs here st (with_token_back limiter r)
+finish m outcomes (with_part received ∷ fs) here st r = finish m outcomes fs here st r
 finish m outcomes (in_nursery children ∷ fs) here st r =
     finish m outcomes fs here (without_scope st)
     (left_if here.clock a_nursery st.scopes
@@ -180,6 +209,11 @@ wait_result clock ms u exc scopes now =
     left_if clock a_nursery scopes
     (λ l. nursery_result clock l.label (record { end = u; own = []; exc = exc; members = ms; log = nil })) (done_at now)
 
+-- a task that asked in moment m, where a limiter or channel of the name encloses it
+abbrev pub queue_result : Mode → Ask → Option Label → Here → Stack → ℕ → (Here → Now → Result) → Result
+queue_result mode ask None here st m go = done_at (only_at m)
+queue_result mode ask (Some label) here st m go = asks_in mode ask label here st m go
+
 -- What the rest of a task that stopped in tick t results in, on its stack. An answer comes in the same tick, a sleep ends
 -- when it is due or cancelled, a wait ends with the last child; and a task that ended has nothing left.
 abbrev pub finished_from : Mode → ChildOutcomes → Stopped → List Frame → Here → Stack → Now → Result
@@ -191,6 +225,9 @@ finished_from m outcomes (asleep true n since) fs here st now = finish m outcome
 finished_from m outcomes (giving_up since) fs here st now = finish m outcomes fs here st (raised_at cancelled (only_at (suc since)))
 finished_from m outcomes (waiting_for event since) fs here st now =
     finish m outcomes fs here st (event_wait here.clock st (event_on event st.events) (only_at since))
+finished_from m outcomes (queued object ask since body) fs here st now =
+    finish m outcomes fs here st
+    (queue_result m ask (object_on object st.objects) (inside fs here) st since (λ inner later. walk m body inner st later))
 finished_from m outcomes (awaiting children u exc) fs here st now =
     finish m outcomes fs here (without_scope st) (wait_result here.clock (outcome_members outcomes children) u exc st.scopes now)
 finished_from m outcomes (at_end u e) fs here st now = record { end = u; own = []; exc = e; members = []; log = nil }
@@ -215,6 +252,9 @@ abbrev pub frame_weight : Frame → ℕ
 frame_weight (steps_left ss) = 2 * size_of ss
 frame_weight (in_scope fail) = 0
 frame_weight in_event = 0
+frame_weight in_object = 0
+frame_weight (with_token limiter) = 0
+frame_weight (with_part received) = 0
 frame_weight (in_nursery children) = 1
 frame_weight (in_repeat pass left cuts body) = 2 * (left * (1 + size_of body))
 frame_weight (in_try handler cleanup) = 2 * (handled_size handler + cleaned_size cleanup)
@@ -242,6 +282,7 @@ stop_weight to_begin = 1
 stop_weight (asking kernel purpose) = asking_weight purpose
 stop_weight (asleep paced n since) = sleep_weight paced n
 stop_weight (waiting_for event since) = 2
+stop_weight (queued object ask since body) = 1 + 2 * size_of body
 stop_weight (giving_up since) = 1
 stop_weight (awaiting children ended exc) = 1
 stop_weight (at_end u e) = 0

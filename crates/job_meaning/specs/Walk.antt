@@ -1,14 +1,17 @@
 -- The walk of a job's steps. It recurses over the tree: it has no queue, no turns and no other task.
-use Rattle.std.specs.Prelude.{ℕ, zero, suc, ◌+◌, ◌-◌, ◌/◌, Bool, true, false, ◌&&◌, ◌||◌, Option, Some, None, List, [], ◌∷◌, ◌++◌, nat_le, nat_lt, min, max, if◌then◌else◌}
+use Rattle.std.specs.Prelude.{ℕ, zero, suc, ◌+◌, ◌-◌, ◌/◌, Bool, true, false, ◌&&◌, ◌||◌, Option, Some, None, List, [], ◌∷◌, ◌++◌, nat_le, nat_lt, min, max, if◌then◌else◌, codes}
 use Rattle.std.specs.Str.{bytes_eq}
-use Rattle.job_tree.specs.Tree.{Step, sleep, checkpoint, forever, pace, find, head, longest, need, raise, cancel, set_event, wait_for, scope, nursery, event, start, repeat, attempt, Steps, stop, step, Handled, unhandled, except, Cleaned, uncleaned, finally}
+use Rattle.job_tree.specs.Tree.{Step, sleep, checkpoint, forever, pace, find, head, longest, need, raise, cancel, set_event, wait_for, ask_for, close_channel, scope, nursery, event, object, start, repeat, attempt, Steps, stop, step, Handled, unhandled, except, Cleaned, uncleaned, finally}
+use Rattle.job_tree.specs.declared.object.Ask.{Ask}
+use Rattle.job_tree.specs.declared.object.ObjectKind.{ObjectKind}
 use Rattle.input_lines.specs.Lines.{Range, Span}
 use Rattle.input_lines.specs.Cuts.{cut_of}
 use Rattle.input_lines.specs.Kernels.{found_in, head_of, longest_in, needed_in, count_in}
 use Rattle.exceptions.specs.Exceptions.{Label, by_nursery, by_handler, Exc, cancelled, raised, too_slow, group, no_parts, part, parts_of, group_of, holds_cancelled}
 use Rattle.exceptions.specs.Split.{Wanted, named, is_cancelled, keep, drop}
-use Rattle.cancel_scopes.specs.Sight.{Tick, Level, earlier, sight, catches}
-use Rattle.job_meaning.specs.Log.{Entry, line, waited, scope_left, nursery_left, Log, nil, entry, sign, entered, task, followed_by, Member, Result, same_label, least_sign, from_by, Table}
+use Rattle.cancel_scopes.specs.Sight.{Tick, Level, earlier, is_reached, sight, seen, catches}
+use Rattle.job_meaning.specs.Log.{Entry, line, waited, scope_left, nursery_left, Act, opens, asks, gives_back, closes, Log, nil, entry, sign, entered, act, task, followed_by, Member, Result, same_label, least_sign, from_by, Table}
+use Rattle.job_meaning.specs.Sharing.{What, a_token, was_sent, a_part, closed_resource, end_of_channel, Granted, granted_if, Grants}
 use Rattle.job_meaning.specs.Moments.{tick_of, a_round_after, wakes_at, gives_up_at, due, far, Now, only_at}
 use Rattle.job_meaning.specs.declared.clock.Clock.{Clock}
 use Rattle.job_meaning.specs.declared.clock.Clock.TheVariants.{ByTicks as by_ticks, ByRounds as by_rounds}
@@ -16,21 +19,26 @@ use Rattle.job_meaning.specs.declared.clock.Clock.TheVariants.{ByTicks as by_tic
 abbrev pub Levels : Type 0
 Levels = List (Level Label)
 
--- What encloses a task, innermost first: scopes and nurseries, each with the moment from which it is cancelled, and events, each
--- with the moment from which it is set.
+-- What encloses a task, innermost first: scopes and nurseries, each with the moment from which it is cancelled, events, each
+-- with the moment from which it is set, and limiters and channels.
 pub record Stack : Type 0 where
   pub scopes : Levels
   pub events : Levels
+  pub objects : List Label
 
 -- nothing encloses the root of a job
 abbrev pub no_stack : Stack
-no_stack = record { scopes = []; events = [] }
+no_stack = record { scopes = []; events = []; objects = [] }
 
 -- How a block's from is found. The meaning walks it twice: first for its earliest sign, then with the from that
--- follows. A table contains each from.
+-- follows. A table contains each from. What limiters and channels grant is given in both.
 pub data Mode : Type 0 where
-  two_walks : Mode
-  by_table : (table : Table) → Mode
+  two_walks : (grants : Grants) → Mode
+  by_table : (table : Table) → (grants : Grants) → Mode
+
+abbrev pub grants_in : Mode → Grants
+grants_in (two_walks grants) = grants
+grants_in (by_table table grants) = grants
 
 -- where a walk is: the input, the task's part of it, the task's label, and the path of indices
 pub record Here : Type 0 where
@@ -40,7 +48,7 @@ pub record Here : Type 0 where
   pub task : Label
   pub path : List ℕ
 
--- the label of a scope, nursery, event or task that is entered here
+-- the label of a scope, nursery, event, limiter, channel or task that is entered here
 abbrev pub label_here : List ℕ → Here → Label
 label_here name here = record { name = name; indices = here.path }
 
@@ -228,8 +236,8 @@ exit_result clock kind label m deadline left r =
 
 -- the from of a block, whose inside is walked at each from
 abbrev pub from_of : Mode → Label → Tick → (Tick → Result) → Tick
-from_of two_walks label deadline inside = from_by deadline (least_sign label (inside deadline).log)
-from_of (by_table table) label deadline inside = table label
+from_of (two_walks grants) label deadline inside = from_by deadline (least_sign label (inside deadline).log)
+from_of (by_table table grants) label deadline inside = table label
 
 -- whether a label is among some
 abbrev pub is_among : Label → List Label → Bool
@@ -271,6 +279,100 @@ event_result label m r = record r { log = entered label m None r.log }
 -- An event that is entered in moment m: its inside is walked with the moment from which it is set.
 unfoldable pub event_block : Mode → Label → ℕ → (Tick → Result) → Result
 event_block mode label m inside = event_result label m (inside (from_of mode label None inside))
+
+-- ---- limiters and channels
+
+-- the stack inside a limiter or channel
+abbrev pub stack_in_object : Label → Stack → Stack
+stack_in_object label stack = record stack { objects = label ∷ stack.objects }
+
+-- a limiter or channel that was entered in moment m is opened there, and leaves no line
+abbrev pub object_result : Label → ObjectKind → ℕ → Result → Result
+object_result label kind m r = record r { log = entered label m None (act label m (opens kind) r.log) }
+
+-- the limiter or channel of this name that encloses the task
+abbrev pub object_on : List ℕ → List Label → Option Label
+object_on name [] = None
+object_on name (l ∷ ls) = label_if (bytes_eq name l.name) l (object_on name ls)
+
+-- an act, and then what follows
+abbrev pub with_act : Label → ℕ → Act → Result → Result
+with_act label m a r = record r { log = act label m a r.log }
+
+-- `close` takes no round and is no checkpoint
+abbrev pub close_on : Option Label → Now → Result
+close_on None now = done_at now
+close_on (Some label) now = with_act label now.at closes (done_at now)
+
+unfoldable pub close_result : Option Label → Now → Result
+close_result label now = close_on label now
+
+-- a token comes back when the block ends that took it, however it ends
+unfoldable pub with_token_back : Label → Result → Result
+with_token_back label r = record r { log = followed_by r.log (act label r.end gives_back nil) }
+
+-- The last moment in which a wait for a limiter or channel can be granted: no wait lasts longer than `forever`.
+abbrev pub last_grant : Clock → ℕ → ℕ
+last_grant clock m = wakes_at clock (far - tick_of clock m) m
+
+-- the moment in which a task leaves the queue, by its sight
+abbrev pub leaves_queue : Tick → ℕ → ℕ
+leaves_queue None last = last
+leaves_queue (Some from) last = min from last
+
+-- a grant counts if it comes after the ask, and by the moment in which the task leaves the queue
+abbrev pub in_time : (m left : ℕ) → Option Granted → Option Granted
+in_time m left None = None
+in_time m left (Some g) = granted_if (nat_lt m g.at && nat_le g.at left) g None
+
+-- who leaves the queue is cancelled; who waited as long as `forever` raises `Deadlock`
+abbrev pub left_result : Here → Tick → ℕ → Result
+left_result here from left =
+    if is_reached from left then raised_at cancelled (only_at left)
+    else raised_at (raised (codes "Deadlock") here.task (tick_of here.clock left)) (only_at left)
+
+-- what was granted is noted, and the block of the step follows
+abbrev pub goes_on : Label → ℕ → (Now → Result) → Result
+goes_on label m go = in_sequence (record { end = m; own = []; exc = None; members = []; log = entry m (waited label) nil }) (go (only_at m))
+
+-- What a task does with what it is granted: with a token it runs the block of the step, and gives it back; with a part, that is its part
+-- there; a closed channel raises.
+abbrev pub granted_result : Label → Here → ℕ → What → (Here → Now → Result) → Result
+granted_result label here m a_token go = goes_on label m (λ now. with_token_back label (go here now))
+granted_result label here m was_sent go = goes_on label m (λ now. go here now)
+granted_result label here m (a_part lent) go = goes_on label m (λ now. go (record here { part = lent }) now)
+granted_result label here m closed_resource go =
+    raised_at (raised (codes "ClosedResource") here.task (tick_of here.clock m)) (only_at m)
+granted_result label here m end_of_channel go =
+    raised_at (raised (codes "EndOfChannel") here.task (tick_of here.clock m)) (only_at m)
+
+-- a task that has asked in moment m is granted something, or leaves the queue
+abbrev pub asked_result : Ask → Label → Here → Tick → (m left : ℕ) → Option Granted → (Here → Now → Result) → Result
+asked_result ask label here from m left None go = with_act label m (asks ask here.part (Some left)) (left_result here from left)
+asked_result ask label here from m left (Some g) go =
+    with_act label m (asks ask here.part None) (granted_result label here g.at g.what go)
+
+-- a task asks in moment m
+abbrev pub asks_in : Mode → Ask → Label → Here → Stack → ℕ → (Here → Now → Result) → Result
+asks_in mode ask label here st m go =
+    let from = sight st.scopes in
+    let left = leaves_queue from (last_grant here.clock m) in
+    asked_result ask label here from m left (in_time m left (grants_in mode label here.task m)) go
+
+-- A task that sees a cancellation, its own of this moment too, does not ask.
+abbrev pub ask_of : Mode → Ask → Label → Here → Stack → Now → (Here → Now → Result) → Result
+ask_of mode ask label here st now go =
+    if seen (stack_for now.own now.at st.scopes) now.at then raised_at cancelled (only_at (gives_up_at here.clock 0 now.at))
+    else asks_in mode ask label here st now.at go
+
+-- where no limiter or channel of the name encloses the task, nothing happens
+abbrev pub ask_on : Mode → Ask → Option Label → Here → Stack → Now → (Here → Now → Result) → Result
+ask_on mode ask None here st now go = done_at now
+ask_on mode ask (Some label) here st now go = ask_of mode ask label here st now go
+
+-- something is asked of a limiter or channel, and the block of the step runs with what is granted
+unfoldable pub ask_result : Mode → Ask → Option Label → Here → Stack → Now → (Here → Now → Result) → Result
+ask_result mode ask label here st now go = ask_on mode ask label here st now go
 
 abbrev pub home_of : Levels → Option Label
 home_of [] = None
@@ -411,6 +513,9 @@ unfoldable mutual
   walk_step m (cancel name) here st now = cancel_result here.clock (label_on name st.scopes) now
   walk_step m (set_event name) here st now = set_result here.clock (label_on name st.events) now
   walk_step m (wait_for name) here st now = event_wait here.clock st (event_on name st.events) now
+  walk_step m (ask_for name ask body) here st now =
+      ask_result m ask (object_on name st.objects) here st now (λ inner later. walk m body inner st later)
+  walk_step m (close_channel name) here st now = close_result (object_on name st.objects) now
   walk_step m (scope name deadline shield fail body) here st now =
       block here.clock m (a_scope fail) (label_here name here) now.at (due here.clock deadline now.at) shield st
       (λ from. walk m body here (stack_inside (label_here name here) shield from st) now)
@@ -421,6 +526,8 @@ unfoldable mutual
   walk_step m (event name body) here st now =
       event_block m (label_here name here) now.at
       (λ from. walk m body here (stack_in_event (label_here name here) from st) now)
+  walk_step m (object name kind body) here st now =
+      object_result (label_here name here) kind now.at (walk m body here (stack_in_object (label_here name here) st) now)
   walk_step m (start name None body) here st now =
       let begins = a_round_after here.clock now.at in
       child (label_here name here) begins (with_sign st (walk m body (here_in (label_here name here) here.part here) st (only_at begins))) now

@@ -3,7 +3,7 @@ use Rattle.std.specs.Prelude.{◌+◌, ◌≤◌, max, Some, None, List, [], ◌
 use Rattle.std.proofs.Common.{arith}
 use denote.Param.Weighed.{most}
 use Rattle.job_tree.specs.declared.step.Step.{Step}
-use Rattle.job_tree.specs.declared.step.Step.TheVariants.{Sleep, Checkpoint, Forever, Pace, Find, Head, Longest, Need, Raise, Cancel, Set, Wait, Scope, Nursery, Event, Start, Repeat, Try}
+use Rattle.job_tree.specs.declared.step.Step.TheVariants.{Sleep, Checkpoint, Forever, Pace, Find, Head, Longest, Need, Raise, Cancel, Set, Wait, Ask, Close, Scope, Nursery, Event, Object, Start, Repeat, Try}
 use Rattle.job_tree.specs.declared.step.Body.TheDeep.{deep-Step}
 use Rattle.job_tree.specs.Weigh.{weight_of, weight_in}
 use Rattle.job_tree.specs.Blocks.{step_of, steps_of}
@@ -21,9 +21,12 @@ deep_le_weight (Raise name) = omega arith
 deep_le_weight (Cancel name) = omega arith
 deep_le_weight (Set name) = omega arith
 deep_le_weight (Wait name) = omega arith
+deep_le_weight (Ask name ask body) = omega arith
+deep_le_weight (Close name) = omega arith
 deep_le_weight (Scope name deadline shield fail body) = omega arith
 deep_le_weight (Nursery name deadline shield body) = omega arith
 deep_le_weight (Event name body) = omega arith
+deep_le_weight (Object name kind body) = omega arith
 deep_le_weight (Start name over body) = omega arith
 deep_le_weight (Repeat count over body) = omega arith
 deep_le_weight (Try body None None) = omega arith

@@ -1,9 +1,11 @@
 -- The ranges of the numbers of a job.
 use Rattle.std.specs.Prelude.{ℕ, ◌≤◌, Bool, true, false, Option, Some, None}
-use Rattle.job_tree.specs.declared.limits.TheConstants.{MAX_NUMBER, MAX_PACE, MAX_COPIES, MAX_PASSES}
+use Rattle.job_tree.specs.declared.limits.TheConstants.{MAX_NUMBER, MAX_PACE, MAX_COPIES, MAX_PASSES, MAX_TOKENS, MAX_PLACES}
 use Rattle.job_tree.specs.declared.deadline.Deadline.{Deadline}
 use Rattle.job_tree.specs.declared.deadline.Deadline.TheVariants.{Never, After, At}
-use Rattle.job_tree.specs.Tree.{Step, sleep, checkpoint, forever, pace, find, head, longest, need, raise, cancel, set_event, wait_for, scope, nursery, event, start, repeat, attempt, Steps, stop, step, Handled, unhandled, except, Cleaned, uncleaned, finally, Tree}
+use Rattle.job_tree.specs.Tree.{Step, sleep, checkpoint, forever, pace, find, head, longest, need, raise, cancel, set_event, wait_for, ask_for, close_channel, scope, nursery, event, object, start, repeat, attempt, Steps, stop, step, Handled, unhandled, except, Cleaned, uncleaned, finally, Tree}
+use Rattle.job_tree.specs.declared.object.ObjectKind.{ObjectKind}
+use Rattle.job_tree.specs.declared.object.ObjectKind.TheVariants.{Limiter, Channel}
 use Rattle.job_tree.specs.Names.{size_of}
 use Rattle.job_tree.specs.Formats.{most_steps}
 
@@ -22,6 +24,11 @@ IsInRangeOver (Some k) = (1 ≤ k) × (k ≤ MAX_COPIES)
 abbrev pub IsInRangePasses : (over : Bool) → ℕ → Type 0
 IsInRangePasses false n = n ≤ MAX_PASSES
 IsInRangePasses true n = (1 ≤ n) × (n ≤ MAX_COPIES)
+
+-- a limiter has at least one token; a channel may have no place
+abbrev pub IsInRangeObject : ObjectKind → Type 0
+IsInRangeObject (Limiter n) = (1 ≤ n) × (n ≤ MAX_TOKENS)
+IsInRangeObject (Channel n) = n ≤ MAX_PLACES
 
 -- all numbers of a block are in their ranges
 abbrev mutual
@@ -42,9 +49,12 @@ abbrev mutual
   IsInRangeStep (cancel name) = Unit {0}
   IsInRangeStep (set_event name) = Unit {0}
   IsInRangeStep (wait_for name) = Unit {0}
+  IsInRangeStep (ask_for name ask body) = AreInRange body
+  IsInRangeStep (close_channel name) = Unit {0}
   IsInRangeStep (scope name deadline shield fail body) = IsInRangeDeadline deadline × AreInRange body
   IsInRangeStep (nursery name deadline shield body) = IsInRangeDeadline deadline × AreInRange body
   IsInRangeStep (event name body) = AreInRange body
+  IsInRangeStep (object name kind body) = IsInRangeObject kind × AreInRange body
   IsInRangeStep (start name over body) = IsInRangeOver over × AreInRange body
   IsInRangeStep (repeat count over body) = IsInRangePasses over count × AreInRange body
   IsInRangeStep (attempt body handler cleanup) = AreInRange body × IsInRangeHandler handler × IsInRangeCleanup cleanup

@@ -2,9 +2,9 @@
 use Rattle.std.specs.Prelude.{ℕ, ◌+◌, ◌*◌, Option, Some, None, List, [], ◌∷◌, ◌++◌}
 use Rattle.std.specs.List.{IsDistinct}
 use Rattle.std.specs.Str.{bytes_eq}
-use Rattle.job_tree.specs.Tree.{Step, sleep, checkpoint, forever, pace, find, head, longest, need, raise, cancel, set_event, wait_for, scope, nursery, event, start, repeat, attempt, Steps, stop, step, Handled, unhandled, except, Cleaned, uncleaned, finally, Tree}
+use Rattle.job_tree.specs.Tree.{Step, sleep, checkpoint, forever, pace, find, head, longest, need, raise, cancel, set_event, wait_for, ask_for, close_channel, scope, nursery, event, object, start, repeat, attempt, Steps, stop, step, Handled, unhandled, except, Cleaned, uncleaned, finally, Tree}
 
--- the names of scopes, nurseries, events and started tasks, in the order of the text
+-- the names of scopes, nurseries, events, limiters, channels and started tasks, in the order of the text
 abbrev mutual
   pub names_of : Steps → List (List ℕ)
   names_of stop = []
@@ -23,9 +23,12 @@ abbrev mutual
   names_in (cancel name) = []
   names_in (set_event name) = []
   names_in (wait_for name) = []
+  names_in (ask_for name ask body) = names_of body
+  names_in (close_channel name) = []
   names_in (scope name deadline shield fail body) = name ∷ names_of body
   names_in (nursery name deadline shield body) = name ∷ names_of body
   names_in (event name body) = name ∷ names_of body
+  names_in (object name kind body) = name ∷ names_of body
   names_in (start name over body) = name ∷ names_of body
   names_in (repeat count over body) = names_of body
   names_in (attempt body handler cleanup) = (names_of body ++ handled_names handler) ++ cleaned_names cleanup
@@ -67,9 +70,12 @@ abbrev mutual
   size_in (cancel name) = 1
   size_in (set_event name) = 1
   size_in (wait_for name) = 1
+  size_in (ask_for name ask body) = 1 + size_of body
+  size_in (close_channel name) = 1
   size_in (scope name deadline shield fail body) = 1 + size_of body
   size_in (nursery name deadline shield body) = 1 + size_of body
   size_in (event name body) = 1 + size_of body
+  size_in (object name kind body) = 1 + size_of body
   size_in (start name over body) = copies_of over * (1 + size_of body)
   size_in (repeat count over body) = 1 + count * (1 + size_of body)
   size_in (attempt body handler cleanup) = 1 + size_of body + handled_size handler + cleaned_size cleanup

@@ -1,6 +1,6 @@
 -- Where a `start` may occur: directly in the body of a nursery, or in a `repeat` there.
 use Rattle.std.specs.Prelude.{Bool, true, false, IsTrue}
-use Rattle.job_tree.specs.Tree.{Step, sleep, checkpoint, forever, pace, find, head, longest, need, raise, cancel, set_event, wait_for, scope, nursery, event, start, repeat, attempt, Steps, stop, step, Handled, unhandled, except, Cleaned, uncleaned, finally, Tree}
+use Rattle.job_tree.specs.Tree.{Step, sleep, checkpoint, forever, pace, find, head, longest, need, raise, cancel, set_event, wait_for, ask_for, close_channel, scope, nursery, event, object, start, repeat, attempt, Steps, stop, step, Handled, unhandled, except, Cleaned, uncleaned, finally, Tree}
 
 -- whether a `start` may be in a pass of a `repeat` that is in such a body, or in another block: not where each pass has its own part
 abbrev pub starts_in_pass : (over body : Bool) → Bool
@@ -27,9 +27,12 @@ abbrev mutual
   StartsAt body (cancel name) = Unit {0}
   StartsAt body (set_event name) = Unit {0}
   StartsAt body (wait_for name) = Unit {0}
+  StartsAt body (ask_for name ask ss) = StartsIn false ss
+  StartsAt body (close_channel name) = Unit {0}
   StartsAt body (scope name deadline shield fail ss) = StartsIn false ss
   StartsAt body (nursery name deadline shield ss) = StartsIn true ss
   StartsAt body (event name ss) = StartsIn false ss
+  StartsAt body (object name kind ss) = StartsIn false ss
   StartsAt body (start name over ss) = IsTrue body × StartsIn false ss
   StartsAt body (repeat count over ss) = StartsIn (starts_in_pass over body) ss
   StartsAt body (attempt ss handler cleanup) = StartsIn false ss × HandlerStarts handler × CleanupStarts cleanup

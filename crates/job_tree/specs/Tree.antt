@@ -2,6 +2,8 @@
 use Rattle.std.specs.Prelude.{ℕ, Bool, Option, List}
 use Rattle.job_tree.specs.declared.deadline.Deadline.{Deadline}
 use Rattle.job_tree.specs.declared.format.Format.{Format}
+use Rattle.job_tree.specs.declared.object.ObjectKind.{ObjectKind}
+use Rattle.job_tree.specs.declared.object.Ask.{Ask}
 
 mutual
   -- one step of a block
@@ -18,9 +20,12 @@ mutual
     cancel : (name : List ℕ) → Step
     set_event : (name : List ℕ) → Step
     wait_for : (name : List ℕ) → Step
+    ask_for : (name : List ℕ) → (ask : Ask) → (body : Steps) → Step
+    close_channel : (name : List ℕ) → Step
     scope : (name : List ℕ) → (deadline : Deadline) → (shield fail : Bool) → (body : Steps) → Step
     nursery : (name : List ℕ) → (deadline : Deadline) → (shield : Bool) → (body : Steps) → Step
     event : (name : List ℕ) → (body : Steps) → Step
+    object : (name : List ℕ) → (kind : ObjectKind) → (body : Steps) → Step
     start : (name : List ℕ) → (over : Option ℕ) → (body : Steps) → Step
     repeat : (count : ℕ) → (over : Bool) → (body : Steps) → Step
     attempt : (body : Steps) → (handler : Handled) → (cleanup : Cleaned) → Step

@@ -6,8 +6,12 @@ use Rattle.job_tree.specs.declared.deadline.Deadline.{Deadline}
 use Rattle.job_tree.specs.declared.deadline.Deadline.TheVariants.{Never, After, At}
 use Rattle.job_tree.specs.declared.format.Format.{Format}
 use Rattle.job_tree.specs.declared.format.Format.TheVariants.{One, Two, Three}
+use Rattle.job_tree.specs.declared.object.ObjectKind.{ObjectKind}
+use Rattle.job_tree.specs.declared.object.ObjectKind.TheVariants.{Limiter, Channel}
+use Rattle.job_tree.specs.declared.object.Ask.{Ask}
+use Rattle.job_tree.specs.declared.object.Ask.TheVariants.{Acquire, Send, Receive}
 use Rattle.job_tree.specs.Formats.{number_of}
-use Rattle.job_tree.specs.Tree.{Step, sleep, checkpoint, forever, pace, find, head, longest, need, raise, cancel, set_event, wait_for, scope, nursery, event, start, repeat, attempt, Steps, stop, step, Handled, unhandled, except, Cleaned, uncleaned, finally, Tree}
+use Rattle.job_tree.specs.Tree.{Step, sleep, checkpoint, forever, pace, find, head, longest, need, raise, cancel, set_event, wait_for, ask_for, close_channel, scope, nursery, event, object, start, repeat, attempt, Steps, stop, step, Handled, unhandled, except, Cleaned, uncleaned, finally, Tree}
 
 abbrev to_pair : Deadline → ℕ × ℕ
 to_pair Never = (0, 0)
@@ -26,6 +30,37 @@ from_to_pair (At n) = refl
 
 abbrev pub deadline_code : Coded Deadline
 deadline_code = code_by (ℕ × ℕ) (coded× coded_ℕ coded_ℕ) to_pair from_pair from_to_pair
+
+abbrev is_limiter : ObjectKind → Bool
+is_limiter (Limiter n) = true
+is_limiter (Channel n) = false
+
+abbrev number_in : ObjectKind → ℕ
+number_in (Limiter n) = n
+number_in (Channel n) = n
+
+abbrev kind_with : Bool → ℕ → ObjectKind
+kind_with true n = Limiter n
+kind_with false n = Channel n
+
+kind_again : (kind : ObjectKind) → kind_with (is_limiter kind) (number_in kind) ≡ kind
+kind_again (Limiter n) = refl
+kind_again (Channel n) = refl
+
+abbrev ask_number : Ask → ℕ
+ask_number Acquire = 0
+ask_number Send = 1
+ask_number Receive = 2
+
+abbrev ask_numbered : ℕ → Ask
+ask_numbered zero = Acquire
+ask_numbered (suc zero) = Send
+ask_numbered (suc (suc n)) = Receive
+
+ask_again : (ask : Ask) → ask_numbered (ask_number ask) ≡ ask
+ask_again Acquire = refl
+ask_again Send = refl
+ask_again Receive = refl
 
 -- A mark: the kind of step, a number, two strings, a deadline, two flags and a count.
 pub record Mark : Type 0 where
@@ -94,6 +129,8 @@ abbrev mutual
   marks_in (cancel name) rest = plain_mark 10 0 name [] ∷ rest
   marks_in (set_event name) rest = plain_mark 16 0 name [] ∷ rest
   marks_in (wait_for name) rest = plain_mark 17 0 name [] ∷ rest
+  marks_in (ask_for name ask body) rest = plain_mark 20 (ask_number ask) name [] ∷ marks_of body rest
+  marks_in (close_channel name) rest = plain_mark 21 0 name [] ∷ rest
   marks_in (scope name deadline shield fail body) rest =
       record { kind = 11; number = 0; first = name; second = []; deadline = deadline; flag = shield; other = fail; over = None }
       ∷ marks_of body rest
@@ -101,6 +138,18 @@ abbrev mutual
       record { kind = 12; number = 0; first = name; second = []; deadline = deadline; flag = shield; other = false; over = None }
       ∷ marks_of body rest
   marks_in (event name body) rest = plain_mark 18 0 name [] ∷ marks_of body rest
+  marks_in (object name kind body) rest =
+      record {
+        kind = 19;
+        number = number_in kind;
+        first = name;
+        second = [];
+        deadline = Never;
+        flag = is_limiter kind;
+        other = false;
+        over = None;
+      }
+      ∷ marks_of body rest
   marks_in (start name over body) rest =
       record { kind = 13; number = 0; first = name; second = []; deadline = Never; flag = false; other = false; over = over }
       ∷ marks_of body rest
@@ -176,7 +225,10 @@ read_kind (suc (suc (suc (suc (suc (suc (suc (suc (suc (suc (suc (suc (suc (suc 
 read_kind (suc (suc (suc (suc (suc (suc (suc (suc (suc (suc (suc (suc (suc (suc (suc zero))))))))))))))) m b = put_attempt m.first m.flag m.other b
 read_kind (suc (suc (suc (suc (suc (suc (suc (suc (suc (suc (suc (suc (suc (suc (suc (suc zero)))))))))))))))) m b = put (set_event m.first) b
 read_kind (suc (suc (suc (suc (suc (suc (suc (suc (suc (suc (suc (suc (suc (suc (suc (suc (suc zero))))))))))))))))) m b = put (wait_for m.first) b
-read_kind (suc (suc (suc (suc (suc (suc (suc (suc (suc (suc (suc (suc (suc (suc (suc (suc (suc (suc k)))))))))))))))))) m b = put_block (event m.first) b
+read_kind (suc (suc (suc (suc (suc (suc (suc (suc (suc (suc (suc (suc (suc (suc (suc (suc (suc (suc zero)))))))))))))))))) m b = put_block (event m.first) b
+read_kind (suc (suc (suc (suc (suc (suc (suc (suc (suc (suc (suc (suc (suc (suc (suc (suc (suc (suc (suc zero))))))))))))))))))) m b = put_block (object m.first (kind_with m.flag m.number)) b
+read_kind (suc (suc (suc (suc (suc (suc (suc (suc (suc (suc (suc (suc (suc (suc (suc (suc (suc (suc (suc (suc zero)))))))))))))))))))) m b = put_block (ask_for m.first (ask_numbered m.number)) b
+read_kind (suc (suc (suc (suc (suc (suc (suc (suc (suc (suc (suc (suc (suc (suc (suc (suc (suc (suc (suc (suc (suc k))))))))))))))))))))) m b = put (close_channel m.first) b
 
 abbrev read_marks : List Mark → Blocks
 read_marks [] = []
@@ -201,9 +253,12 @@ mutual
   read_step (cancel name) rest = refl
   read_step (set_event name) rest = refl
   read_step (wait_for name) rest = refl
+  read_step (ask_for name ask body) rest = rw (ask_again ask) (ap (put_block (ask_for name ask)) (read_block body rest))
+  read_step (close_channel name) rest = refl
   read_step (scope name deadline shield fail body) rest = ap (put_block (scope name deadline shield fail)) (read_block body rest)
   read_step (nursery name deadline shield body) rest = ap (put_block (nursery name deadline shield)) (read_block body rest)
   read_step (event name body) rest = ap (put_block (event name)) (read_block body rest)
+  read_step (object name kind body) rest = rw (kind_again kind) (ap (put_block (object name kind)) (read_block body rest))
   read_step (start name over body) rest = ap (put_block (start name over)) (read_block body rest)
   read_step (repeat count over body) rest = ap (put_block (repeat count over)) (read_block body rest)
   read_step (attempt body handler cleanup) rest =

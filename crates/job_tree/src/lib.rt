@@ -8,6 +8,7 @@ mod deadline;
 mod format;
 mod limits;
 mod name;
+mod object;
 mod room;
 mod step;
 mod text;
@@ -15,8 +16,12 @@ mod word;
 
 pub use deadline::Deadline;
 pub use format::Format;
-pub use limits::{MAX_COPIES, MAX_NUMBER, MAX_PACE, MAX_PASSES, MAX_STEPS, MAX_STEPS_OF_FORMAT_1};
+pub use limits::{
+    MAX_COPIES, MAX_NUMBER, MAX_PACE, MAX_PASSES, MAX_PLACES, MAX_STEPS, MAX_STEPS_OF_FORMAT_1,
+    MAX_TOKENS,
+};
 pub use name::Name;
+pub use object::{Ask, ObjectKind};
 pub use step::{Body, Handler, Step};
 pub use text::Text;
 pub use word::{is_digit, is_letter, is_word_byte};

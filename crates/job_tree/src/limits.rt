@@ -5,6 +5,12 @@ pub const MAX_NUMBER: u64 = 1_000_000_000;
 /// The maximum number of lines that a `pace` reads in one tick.
 pub const MAX_PACE: u64 = 1_000_000;
 
+/// The maximum number of tokens of a limiter.
+pub const MAX_TOKENS: u64 = 1_000_000;
+
+/// The maximum number of places of a channel.
+pub const MAX_PLACES: u64 = 1_000_000;
+
 /// The maximum number of passes of a `repeat`.
 pub const MAX_PASSES: u64 = 1_000;
 

@@ -2,6 +2,7 @@ ghost use Rattle.std.specs.Prelude.{◌≡◌};
 
 use crate::deadline::Deadline;
 use crate::name::Name;
+use crate::object::{Ask, ObjectKind};
 use crate::text::Text;
 use std::marker::Model;
 
@@ -51,6 +52,17 @@ pub enum Step {
     Set(Name),
     /// Waits until the enclosing event with this name is set. It is a checkpoint if it is set already. Only in format 3.
     Wait(Name),
+    /// Asks for something of the enclosing limiter or channel with this name, and waits until it is granted. Only in format 3.
+    Ask {
+        /// The name of the limiter or channel.
+        name: Name,
+        /// What is asked for.
+        ask: Ask,
+        /// The block that runs with what was granted. Empty if something is sent.
+        body: Body,
+    },
+    /// Closes the enclosing channel with this name, at the end of the round. This is not a checkpoint. Only in format 3.
+    Close(Name),
     /// A cancel scope.
     Scope {
         /// Its name.
@@ -79,6 +91,15 @@ pub enum Step {
     Event {
         /// Its name.
         name: Name,
+        /// The block that runs in it.
+        body: Body,
+    },
+    /// A limiter or a channel, of which tasks that are started in its block can ask. It is never cancelled. Only in format 3.
+    Object {
+        /// Its name.
+        name: Name,
+        /// Which of the two it is.
+        kind: ObjectKind,
         /// The block that runs in it.
         body: Body,
     },

@@ -1,0 +1,3 @@
+pub mod Sublists
+pub mod LimiterLemmas
+pub mod ChannelLemmas

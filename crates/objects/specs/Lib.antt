@@ -1,0 +1,3 @@
+pub mod Limiters
+pub mod Channels
+pub mod Laws
