@@ -19,7 +19,7 @@ NearLevels c [] (k ∷ ks) = ⊥
 NearLevels c (l ∷ ls) [] = ⊥
 
 abbrev pub Near : ℕ → Stack → Stack → Type 0
-Near c st other = NearLevels c st.scopes other.scopes × NearLevels c st.events other.events × (st.objects ≡ other.objects)
+Near c st other = NearLevels c st.scopes other.scopes × NearLevels c st.events other.events
 
 -- grants are the same before c
 abbrev pub NearGrants : ℕ → Grants → Grants → Type 0

@@ -9,7 +9,7 @@ use Rattle.cancel_scopes.specs.Sight.{Tick, Level, catches}
 use Rattle.job_meaning.specs.Log.{Entry, Log, nil, entry, sign, entered, Act, act, task, followed_by, Member, Result}
 use Rattle.job_meaning.specs.Moments.{tick_of, Now, only_at}
 use Rattle.job_meaning.specs.declared.clock.Clock.{Clock}
-use Rattle.job_meaning.specs.Walk.{label_over, part_in_pass, in_pass, passes, Levels, Stack, Mode, Here, walk, walk_handler, walk_cleanup, done_at, raised_at, and_then, sleep_result, pace_result, event_wait, event_on, object_on, asks_in, with_token_back, from_for, stack_for, Kind, a_scope, a_nursery, left_as, Left, left_with, exc_after, with_sign, nursery_result, handler_exc, outcome_after, with_outcome}
+use Rattle.job_meaning.specs.Walk.{label_over, part_in_pass, in_pass, passes, Levels, Stack, Mode, Here, walk, walk_handler, walk_cleanup, done_at, raised_at, and_then, sleep_result, pace_result, event_wait, event_on, label_on, asks_in, with_token_back, from_for, stack_for, Kind, a_scope, a_nursery, left_as, Left, left_with, exc_after, with_sign, nursery_result, handler_exc, outcome_after, with_outcome}
 use Rattle.job_meaning.specs.Asking.{Kernel, answer_of, Purpose, shows, needs, paces, answer_result}
 
 -- What a task did so far, in order. The children that it started are numbered 0, 1, .. within it, and their results are
@@ -56,10 +56,8 @@ pub data Frame : Type 0 where
   steps_left : (steps : Steps) → Frame
   -- a scope
   in_scope : (fail : Bool) → Frame
-  -- an event
+  -- an event, a limiter or a channel
   in_event : Frame
-  -- a limiter or channel
-  in_object : Frame
   -- the block of an `acquire`, which has a token of this limiter
   with_token : (limiter : Label) → Frame
   -- the block of a `receive`, whose part is the one that was received
@@ -82,7 +80,6 @@ path_in [] path = path
 path_in (steps_left ss ∷ fs) path = path_in fs path
 path_in (in_scope fail ∷ fs) path = path_in fs path
 path_in (in_event ∷ fs) path = path_in fs path
-path_in (in_object ∷ fs) path = path_in fs path
 path_in (with_token limiter ∷ fs) path = path_in fs path
 path_in (with_part received ∷ fs) path = path_in fs path
 path_in (in_nursery children ∷ fs) path = path_in fs path
@@ -98,7 +95,6 @@ part_in input [] part = part
 part_in input (steps_left ss ∷ fs) part = part_in input fs part
 part_in input (in_scope fail ∷ fs) part = part_in input fs part
 part_in input (in_event ∷ fs) part = part_in input fs part
-part_in input (in_object ∷ fs) part = part_in input fs part
 part_in input (with_token limiter ∷ fs) part = part_in input fs part
 part_in input (with_part received ∷ fs) part = received
 part_in input (in_nursery children ∷ fs) part = part_in input fs part
@@ -167,14 +163,6 @@ without_scope st = record st { scopes = outer_levels st.scopes }
 abbrev pub without_event : Stack → Stack
 without_event st = record st { events = outer_levels st.events }
 
-abbrev pub outer_labels : List Label → List Label
-outer_labels [] = []
-outer_labels (l ∷ outer) = outer
-
--- the stack outside the innermost limiter or channel
-abbrev pub without_object : Stack → Stack
-without_object st = record st { objects = outer_labels st.objects }
-
 -- a nursery's body with the children that were started before
 abbrev pub with_children : List Member → Result → Result
 with_children ms r = record r { members = ms ++ r.members }
@@ -187,7 +175,6 @@ finish m outcomes (steps_left ss ∷ fs) here st r = finish m outcomes fs here s
 finish m outcomes (in_scope fail ∷ fs) here st r =
     finish m outcomes fs here (without_scope st) (left_if here.clock (a_scope fail) st.scopes (λ l. r) r)
 finish m outcomes (in_event ∷ fs) here st r = finish m outcomes fs here (without_event st) r
-finish m outcomes (in_object ∷ fs) here st r = finish m outcomes fs here (without_object st) r
 finish m outcomes (with_token limiter ∷ fs) here st r = finish m outcomes fs here st (with_token_back limiter r)
 finish m outcomes (with_part received ∷ fs) here st r = finish m outcomes fs here st r
 finish m outcomes (in_nursery children ∷ fs) here st r =
@@ -227,7 +214,7 @@ finished_from m outcomes (waiting_for event since) fs here st now =
     finish m outcomes fs here st (event_wait here.clock st (event_on event st.events) (only_at since))
 finished_from m outcomes (queued object ask since body) fs here st now =
     finish m outcomes fs here st
-    (queue_result m ask (object_on object st.objects) (inside fs here) st since (λ inner later. walk m body inner st later))
+    (queue_result m ask (label_on object st.events) (inside fs here) st since (λ inner later. walk m body inner st later))
 finished_from m outcomes (awaiting children u exc) fs here st now =
     finish m outcomes fs here (without_scope st) (wait_result here.clock (outcome_members outcomes children) u exc st.scopes now)
 finished_from m outcomes (at_end u e) fs here st now = record { end = u; own = []; exc = e; members = []; log = nil }
@@ -252,7 +239,6 @@ abbrev pub frame_weight : Frame → ℕ
 frame_weight (steps_left ss) = 2 * size_of ss
 frame_weight (in_scope fail) = 0
 frame_weight in_event = 0
-frame_weight in_object = 0
 frame_weight (with_token limiter) = 0
 frame_weight (with_part received) = 0
 frame_weight (in_nursery children) = 1

@@ -19,16 +19,15 @@ use Rattle.job_meaning.specs.declared.clock.Clock.TheVariants.{ByTicks as by_tic
 abbrev pub Levels : Type 0
 Levels = List (Level Label)
 
--- What encloses a task, innermost first: scopes and nurseries, each with the moment from which it is cancelled, events, each
--- with the moment from which it is set, and limiters and channels.
+-- What encloses a task, innermost first: scopes and nurseries, each with the moment from which it is cancelled, and events, each
+-- with the moment from which it is set. Limiters and channels stand among the events: they are never set.
 pub record Stack : Type 0 where
   pub scopes : Levels
   pub events : Levels
-  pub objects : List Label
 
 -- nothing encloses the root of a job
 abbrev pub no_stack : Stack
-no_stack = record { scopes = []; events = []; objects = [] }
+no_stack = record { scopes = []; events = [] }
 
 -- How a block's from is found. The meaning walks it twice: first for its earliest sign, then with the from that
 -- follows. A table contains each from. What limiters and channels grant is given in both.
@@ -282,19 +281,6 @@ event_block mode label m inside = event_result label m (inside (from_of mode lab
 
 -- ---- limiters and channels
 
--- the stack inside a limiter or channel
-abbrev pub stack_in_object : Label → Stack → Stack
-stack_in_object label stack = record stack { objects = label ∷ stack.objects }
-
--- a limiter or channel that was entered in moment m is opened there, and leaves no line
-abbrev pub object_result : Label → ObjectKind → ℕ → Result → Result
-object_result label kind m r = record r { log = entered label m None (act label m (opens kind) r.log) }
-
--- the limiter or channel of this name that encloses the task
-abbrev pub object_on : List ℕ → List Label → Option Label
-object_on name [] = None
-object_on name (l ∷ ls) = label_if (bytes_eq name l.name) l (object_on name ls)
-
 -- an act, and then what follows
 abbrev pub with_act : Label → ℕ → Act → Result → Result
 with_act label m a r = record r { log = act label m a r.log }
@@ -514,8 +500,8 @@ unfoldable mutual
   walk_step m (set_event name) here st now = set_result here.clock (label_on name st.events) now
   walk_step m (wait_for name) here st now = event_wait here.clock st (event_on name st.events) now
   walk_step m (ask_for name ask body) here st now =
-      ask_result m ask (object_on name st.objects) here st now (λ inner later. walk m body inner st later)
-  walk_step m (close_channel name) here st now = close_result (object_on name st.objects) now
+      ask_result m ask (label_on name st.events) here st now (λ inner later. walk m body inner st later)
+  walk_step m (close_channel name) here st now = close_result (label_on name st.events) now
   walk_step m (scope name deadline shield fail body) here st now =
       block here.clock m (a_scope fail) (label_here name here) now.at (due here.clock deadline now.at) shield st
       (λ from. walk m body here (stack_inside (label_here name here) shield from st) now)
@@ -527,7 +513,9 @@ unfoldable mutual
       event_block m (label_here name here) now.at
       (λ from. walk m body here (stack_in_event (label_here name here) from st) now)
   walk_step m (object name kind body) here st now =
-      object_result (label_here name here) kind now.at (walk m body here (stack_in_object (label_here name here) st) now)
+      with_act (label_here name here) now.at (opens kind)
+      (event_block m (label_here name here) now.at
+      (λ from. walk m body here (stack_in_event (label_here name here) from st) now))
   walk_step m (start name None body) here st now =
       let begins = a_round_after here.clock now.at in
       child (label_here name here) begins (with_sign st (walk m body (here_in (label_here name here) here.part here) st (only_at begins))) now
