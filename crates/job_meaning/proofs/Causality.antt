@@ -1,8 +1,8 @@
--- A cancellation from tick c on changes nothing before tick c.
+-- A cancellation or a grant from tick c on changes nothing before tick c.
 use Rattle.std.proofs.Common.{◌≡◌, ℕ, zero, suc, ◌<◌, ◌≤◌, ◌-◌, min, max, Bool, true, false, ◌&&◌, ◌||◌, not, Option, Some, None, List, [], ◌∷◌, refl, ap, sym, ◌∙◌, subst, ◌⊎◌, inl, inr, arith, nat_le, nat_lt, if◌then◌else◌}
 use Rattle.std.proofs.lemmas.Bool.{true≢false, le-ltb, cases_lt}
 use Rattle.std.proofs.lemmas.Bool.Decides.{nat_tests}
-use Rattle.job_tree.specs.Tree.{Step, sleep, checkpoint, forever, pace, find, head, longest, need, raise, cancel, set_event, wait_for, scope, nursery, event, start, repeat, attempt, Steps, stop, step, Handled, unhandled, except, Cleaned, uncleaned, finally}
+use Rattle.job_tree.specs.Tree.{Step, sleep, checkpoint, forever, pace, find, head, longest, need, raise, cancel, set_event, wait_for, ask_for, close_channel, scope, nursery, event, object, start, repeat, attempt, Steps, stop, step, Handled, unhandled, except, Cleaned, uncleaned, finally}
 use Rattle.exceptions.specs.Exceptions.{Label, Exc, cancelled, by_nursery, group_of, parts_of}
 use Rattle.exceptions.specs.Split.{Wanted, keep, drop}
 use Rattle.cancel_scopes.specs.Sight.{Tick, Level, earlier, sight, seen, is_reached, catches}
@@ -10,70 +10,14 @@ use Rattle.job_meaning.specs.Log.{Log, nil, entry, waited, entered, followed_by,
 use Rattle.job_meaning.specs.Moments.{tick_of, a_round_after, wakes_at, gives_up_at, far, Now, only_at}
 use Rattle.job_meaning.specs.declared.clock.Clock.{Clock}
 use Rattle.job_meaning.proofs.MomentLemmas.{round_after, wakes_after, gives_up_after}
-use Rattle.job_meaning.specs.Walk.{Levels, Stack, Mode, two_walks, by_table, Here, walk, walk_step, walk_handler, walk_cleanup, done_at, raised_at, now_of, in_sequence, and_then, then_if, wait_by_sight, sleep_result, pace_result, wait_until, set_moment, wait_by, with_line_if, with_line, event_wait, cancel_result, set_result, is_among, from_for, stack_for, label_on, Kind, from_of, block, event_block, event_result, exit_with_from, left_with, left_as, exc_after, stack_inside, stack_in_event, with_sign, sign_if, home_of, latest, with_exc, excs_of, nursery_result, child, each, passes, handler_result, handler_for, handler_if_any, handler_exc, with_outcome, outcome_after, cleanup_result}
-use Rattle.job_meaning.specs.Before.{upto, NearLevels, Near, Agree, soon, later, known_members, log_before, exc_if, entered_if, task_if}
+use Rattle.job_meaning.specs.Walk.{Levels, Stack, Mode, two_walks, by_table, Here, walk, walk_step, walk_handler, walk_cleanup, done_at, raised_at, now_of, in_sequence, and_then, then_if, wait_by_sight, sleep_result, pace_result, wait_until, set_moment, wait_by, with_line_if, with_line, event_wait, cancel_result, set_result, is_among, from_for, stack_for, label_on, Kind, from_of, block, event_block, event_result, close_result, exit_with_from, left_with, left_as, exc_after, stack_inside, stack_in_event, with_sign, sign_if, home_of, latest, with_exc, excs_of, nursery_result, child, each, passes, handler_result, handler_for, handler_if_any, handler_exc, with_outcome, outcome_after, cleanup_result}
+use Rattle.job_meaning.specs.Before.{upto, NearLevels, Near, NearModes, Agree, soon, later, known_members, log_before, exc_if, entered_if, task_if}
 use Rattle.job_meaning.specs.Laws.{NothingBeforeItsCause}
 use Rattle.job_meaning.proofs.Late.{Timed, Late, late, late_waited, late_until, late_signed, late_gathered, latest_ends, child_ends, each_ends, late_passes}
+use Rattle.job_meaning.proofs.Agreeing.{agree_same, agree_joined, Past, past_same, past_joined, agree_past, agree_from, agree_and_then, agree_logs}
+use Rattle.job_meaning.proofs.OwnSight.{from_for_near, stack_for_near}
+use Rattle.job_meaning.proofs.Asking.{agree_acted, agree_asking}
 use Rattle.job_meaning.proofs.Clips.{upto_earlier_same, sight_near, seen_near, reached_near, label_near, NearEvents, event_near, home_near, both_clipped, clipped_late, clipped_tail, least_near, from_near, both_known, latest_known, all_known}
-
--- a walk agrees with itself
-pub agree_same : (c : ℕ) (r : Result) → Agree c r r
-agree_same c r = by_order (cases_lt r.end c)
-  where
-    by_order : (r.end < c) ⊎ (c ≤ r.end) → Agree c r r
-    by_order (inl lt) = soon lt refl refl refl refl refl
-    by_order (inr le) = later le le refl
-
--- one after another
-pub agree_joined : (c : ℕ) (r r' q q' : Result) → Agree c r r' → Agree c q q' → r.end ≤ q.end → r'.end ≤ q'.end →
-    Agree c (in_sequence r q) (in_sequence r' q')
-agree_joined c r r' q q' (soon b e o x m l) (soon b₂ e₂ o₂ x₂ m₂ l₂) le le' =
-    soon b₂ e₂ o₂ x₂ (both_known c _ _ _ _ m m₂) (both_clipped c r.log q.log r'.log q'.log l l₂)
-agree_joined c r r' q q' (soon b e o x m l) (later f s l₂) le le' = later f s (both_clipped c r.log q.log r'.log q'.log l l₂)
-agree_joined c r r' q q' (later f s l) (soon b₂ e₂ o₂ x₂ m₂ l₂) le le' = absurd (omega arith)
-agree_joined c r r' q q' (later f s l) (later f₂ s₂ l₂) le le' = later f₂ s₂ (both_clipped c r.log q.log r'.log q'.log l l₂)
-
--- x continues from r, which ended at c or later: before c it has the same log
-record Past (c : ℕ) (r x : Result) : Type 0 where
-  ends : c ≤ x.end
-  logs : log_before c x.log ≡ log_before c r.log
-
-past_same : (c : ℕ) (r : Result) → c ≤ r.end → Past c r r
-past_same c r le = record { ends = le; logs = refl }
-
-past_joined : (c : ℕ) (r q : Result) → c ≤ r.end → Late r.end q → Past c r (in_sequence r q)
-past_joined c r q le h =
-    let first = h.ends in
-    record { ends = omega arith; logs = clipped_tail c r.end r.log q.log le h.timed }
-
-agree_past : (c : ℕ) (r r' x x' : Result) → log_before c r.log ≡ log_before c r'.log → Past c r x → Past c r' x' → Agree c x x'
-agree_past c r r' x x' l p p' = later p.ends p'.ends (p.logs ∙ (l ∙ sym p'.logs))
-
-past_then : (c : ℕ) (r : Result) (go : Now → Result) → ((u : Now) → Late u.at (go u)) → c ≤ r.end → (o : Option Exc) → Past c r (then_if o r go)
-past_then c r go h le None = past_joined c r (go (now_of r)) le (h (now_of r))
-past_then c r go h le (Some e) = past_same c r le
-
-same_now : (r q : Result) → r.end ≡ q.end → r.own ≡ q.own → now_of r ≡ now_of q
-same_now r q e o = cc
-
--- the second walks agree where they start at one moment
-agree_from : (c : ℕ) (go go' : Now → Result) → ((u : Now) → Agree c (go u) (go' u)) → (r q : Result) → r.end ≡ q.end → r.own ≡ q.own
-    → Agree c (go (now_of r)) (go' (now_of q))
-agree_from c go go' h r q e o = subst (λ (w : Now). Agree c (go (now_of r)) (go' w)) (same_now r q e o) (h (now_of r))
-
--- if walks agree before c, and what continues them agrees before c from each tick on, the whole walks
--- agree
-pub agree_and_then : (c : ℕ) (r r' : Result) (go go' : Now → Result) → Agree c r r' → ((u : Now) → Agree c (go u) (go' u)) →
-    ((u : Now) → Late u.at (go u)) → ((u : Now) → Late u.at (go' u)) → Agree c (and_then r go) (and_then r' go')
-unfolding and_then
-agree_and_then c r r' go go' (soon b e o x m l) h k k' =
-    subst (λ (z : Option Exc). Agree c (then_if r.exc r go) (then_if z r' go')) x (by_exc r.exc)
-  where
-    by_exc : (z : Option Exc) → Agree c (then_if z r go) (then_if z r' go')
-    by_exc None = agree_joined c r r' (go (now_of r)) (go' (now_of r')) (soon b e o x m l) (agree_from c go go' h r r' e o) (k (now_of r)).ends
-        (k' (now_of r')).ends
-    by_exc (Some y) = soon b e o x m l
-agree_and_then c r r' go go' (later f s l) h k k' = agree_past c r r' _ _ l (past_then c r go k f r.exc) (past_then c r' go' k' s r'.exc)
 
 module _ (c least gives_up end : ℕ) (le : least ≤ gives_up) (hi : least ≤ end) where
   waits : Tick → Result
@@ -307,22 +251,6 @@ agree_setting c clock name st su t near =
     (label_near c name st.events su.events near.1)
     (agree_same c (set_result clock (label_on name st.events) t))
 
--- what a task sees of near stacks by its own cancels is near
-pub from_for_near : (c : ℕ) (own : List Label) (m : ℕ) (l k : Label) (f g : Tick) → l ≡ k → upto c f ≡ upto c g →
-    upto c (from_for own m l f) ≡ upto c (from_for own m k g)
-from_for_near c own m l k f g e h = subst (λ (z : Label). upto c (from_for own m l f) ≡ upto c (from_for own m z g)) e (by_own (is_among l own))
-  where
-    by_own : (b : Bool) → upto c (if b then earlier f (Some m) else f) ≡ upto c (if b then earlier g (Some m) else g)
-    by_own true = upto_earlier_same c f (Some m) g (Some m) h refl
-    by_own false = h
-
-pub stack_for_near : (c : ℕ) (own : List Label) (m : ℕ) (st su : Levels) → NearLevels c st su → NearLevels c (stack_for own m st) (stack_for own m su)
-stack_for_near c own m [] [] n = n
-stack_for_near c own m [] (k ∷ ks) n = absurd n
-stack_for_near c own m (l ∷ ls) [] n = absurd n
-stack_for_near c own m (l ∷ ls) (k ∷ ks) n =
-    (n.0, n.1, from_for_near c own m l.label k.label l.from k.from n.0 n.2, stack_for_near c own m ls ks n.3)
-
 -- whether a block catches in a tick before c depends only on stacks and moments of cancellation before c
 pub catches_near : (c : ℕ) (f g : Tick) (shield : Bool) (st su : Levels) (u v : ℕ) → upto c f ≡ upto c g → NearLevels c st su → u < c → u ≡ v →
     catches f shield st u ≡ catches g shield su v
@@ -339,11 +267,6 @@ catches_near c f g shield st su u v e near lt same =
             ≡ (is_reached g u && (shield || not (seen su u)))
         ap2 p q = cc
 
--- walks that agree before c have the same log cut at c
-pub agree_logs : {c : ℕ} {r q : Result} → Agree c r q → log_before c r.log ≡ log_before c q.log
-agree_logs (soon b e o x m l) = l
-agree_logs (later f s l) = l
-
 -- what is left of an inside that ended in moment u with an exception, caught or not
 abbrev left_result : Clock → Kind → Label → ℕ → Tick → Log → ℕ → List Label → Option Exc → Bool → Result
 left_result clock kind label t d log u own o caught =
@@ -356,12 +279,14 @@ left_result clock kind label t d log u own o caught =
     }
 
 -- the moments of cancellation of a block are near, where its insides agree
-block_near : (c : ℕ) (label : Label) (t : ℕ) (d : Tick) (m : Mode) (inside inside' : Tick → Result) →
+block_near : (c : ℕ) (label : Label) (t : ℕ) (d : Tick) (m other : Mode) (inside inside' : Tick → Result) → NearModes c m other →
     ((f : Tick) → Late t (inside f)) → ((f : Tick) → Late t (inside' f)) → ((f g : Tick) → upto c f ≡ upto c g → Agree c (inside f) (inside' g)) →
-    upto c (from_of m label d inside) ≡ upto c (from_of m label d inside')
-block_near c label t d two_walks inside inside' h h' k =
+    upto c (from_of m label d inside) ≡ upto c (from_of other label d inside')
+block_near c label t d (two_walks grants) (two_walks other) inside inside' near h h' k =
     from_near c d _ _ (least_near c t label _ _ (h d).timed (h' d).timed (agree_logs (k d d refl)))
-block_near c label t d (by_table table) inside inside' h h' k = refl
+block_near c label t d (by_table table grants) (by_table other_table other) inside inside' near h h' k = ap (λ (x : Tick). upto c x) (near.0 label)
+block_near c label t d (two_walks grants) (by_table table other) inside inside' near h h' k = absurd near
+block_near c label t d (by_table table grants) (two_walks other) inside inside' near h h' k = absurd near
 
 module _ (c : ℕ) (clock : Clock) (kind : Kind) (label : Label) (t : ℕ) (d : Tick) where
   same_left : (a b : Log) (u v : ℕ) (n w : List Label) (o p : Option Exc) (x y : Bool) → u < c → log_before c a ≡ log_before c b → u ≡ v → n ≡ w →
@@ -393,12 +318,12 @@ module _ (c : ℕ) (clock : Clock) (kind : Kind) (label : Label) (t : ℕ) (d : 
         (clipped_tail c r.end r.log _ p (omega arith, tt) ∙ (l ∙ sym (clipped_tail c q.end q.log _ s (omega arith, tt)))))
 
     -- blocks on near stacks agree before c where their insides do
-    pub agree_block : (m : Mode) (inside inside' : Tick → Result) → ((f : Tick) → Late t (inside f)) → ((f : Tick) → Late t (inside' f)) →
+    pub agree_block : (m other : Mode) (inside inside' : Tick → Result) → NearModes c m other → ((f : Tick) → Late t (inside f)) → ((f : Tick) → Late t (inside' f)) →
         ((f g : Tick) → upto c f ≡ upto c g → Agree c (inside f) (inside' g)) →
-        Agree c (block clock m kind label t d shield st inside) (block clock m kind label t d shield su inside')
+        Agree c (block clock m kind label t d shield st inside) (block clock other kind label t d shield su inside')
     unfolding block
-    agree_block m inside inside' h h' k =
-        let e = block_near c label t d m inside inside' h h' k in
+    agree_block m other inside inside' modes h h' k =
+        let e = block_near c label t d m other inside inside' modes h h' k in
         agree_left _ _ _ _ e (k _ _ e)
 
 -- near stacks stay near inside a block whose two moments of cancellation are the same when cut at c
@@ -412,18 +337,25 @@ agree_entered c label t r q (soon b e o x m l) = soon b e o x m (ap (λ (z : Log
 agree_entered c label t r q (later f s l) = later f s (ap (λ (z : Log). entered_if (nat_lt t c) label t None z) l)
 
 -- events agree before c where their insides do
-pub agree_event : (c : ℕ) (label : Label) (t : ℕ) (m : Mode) (inside inside' : Tick → Result) →
+pub agree_event : (c : ℕ) (label : Label) (t : ℕ) (m other : Mode) (inside inside' : Tick → Result) → NearModes c m other →
     ((f : Tick) → Late t (inside f)) → ((f : Tick) → Late t (inside' f)) → ((f g : Tick) → upto c f ≡ upto c g → Agree c (inside f) (inside' g)) →
-    Agree c (event_block m label t inside) (event_block m label t inside')
+    Agree c (event_block m label t inside) (event_block other label t inside')
 unfolding event_block
-agree_event c label t m inside inside' h h' k =
-    let e = block_near c label t None m inside inside' h h' k in
+agree_event c label t m other inside inside' modes h h' k =
+    let e = block_near c label t None m other inside inside' modes h h' k in
     agree_entered c label t _ _ (k _ _ e)
 
 -- and near stacks stay near inside an event
 pub near_in_event : (c : ℕ) (label : Label) (f g : Tick) (st su : Stack) → upto c f ≡ upto c g → Near c st su →
     Near c (stack_in_event label f st) (stack_in_event label g su)
 near_in_event c label f g st su e near = (near.0, (refl, refl, e, near.1))
+
+-- a `close` of a name agrees before c on near stacks
+pub agree_closing : (c : ℕ) (name : List ℕ) (st su : Stack) (t : Now) → Near c st su →
+    Agree c (close_result (label_on name st.events) t) (close_result (label_on name su.events) t)
+agree_closing c name st su t near =
+    subst (λ (o : Option Label). Agree c (close_result (label_on name st.events) t) (close_result o t)) (label_near c name st.events su.events near.1)
+    (agree_same c (close_result (label_on name st.events) t))
 
 -- a member's sign at the end of its log
 pub agree_signed : (c : ℕ) (st su : Stack) (r q : Result) → Near c st su → Agree c r q → Agree c (with_sign st r) (with_sign su q)
@@ -605,70 +537,84 @@ agree_cleaned c r r' go go' (later f s l) h k k' =
 mutual
   unfolding walk
 
-  -- on near stacks every walk agrees
-  pub agree : (c : ℕ) (m : Mode) (b : Steps) (here : Here) (st su : Stack) (t : Now) → Near c st su →
-      Agree c (walk m b here st t) (walk m b here su t)
-  agree c m stop here st su t near = agree_same c (done_at t)
-  agree c m (step s ss) here st su t near =
-      agree_and_then c _ _ _ _ (agree_step c m s here st su t near) (λ u. agree c m ss here st su u near) (λ u. late m ss here st u)
-      (λ u. late m ss here su u)
+  -- on near stacks and with near grants every walk agrees
+  pub agree : (c : ℕ) (m o : Mode) (b : Steps) (here : Here) (st su : Stack) (t : Now) → NearModes c m o → Near c st su →
+      Agree c (walk m b here st t) (walk o b here su t)
+  agree c m o stop here st su t modes near = agree_same c (done_at t)
+  agree c m o (step s ss) here st su t modes near =
+      agree_and_then c _ _ _ _ (agree_step c m o s here st su t modes near) (λ u. agree c m o ss here st su u modes near)
+      (λ u. late m ss here st u) (λ u. late o ss here su u)
 
   -- the same of one step
-  pub agree_step : (c : ℕ) (m : Mode) (s : Step) (here : Here) (st su : Stack) (t : Now) → Near c st su →
-      Agree c (walk_step m s here st t) (walk_step m s here su t)
-  agree_step c m (sleep n) here st su t near = agree_sleeping c here.clock st su _ t.at near
-  agree_step c m checkpoint here st su t near = agree_sleeping c here.clock st su _ t.at near
-  agree_step c m forever here st su t near = agree_sleeping c here.clock st su _ t.at near
-  agree_step c m (pace k) here st su t near = agree_pacing c here.clock st su _ t.at near
-  agree_step c m (find text) here st su t near = agree_same c _
-  agree_step c m (head n) here st su t near = agree_same c _
-  agree_step c m longest here st su t near = agree_same c _
-  agree_step c m (need text name) here st su t near = agree_same c _
-  agree_step c m (raise name) here st su t near = agree_same c _
-  agree_step c m (cancel name) here st su t near = agree_cancelling c here.clock name st su t near
-  agree_step c m (set_event name) here st su t near = agree_setting c here.clock name st su t near
-  agree_step c m (wait_for name) here st su t near =
+  pub agree_step : (c : ℕ) (m o : Mode) (s : Step) (here : Here) (st su : Stack) (t : Now) → NearModes c m o → Near c st su →
+      Agree c (walk_step m s here st t) (walk_step o s here su t)
+  agree_step c m o (sleep n) here st su t modes near = agree_sleeping c here.clock st su _ t.at near
+  agree_step c m o checkpoint here st su t modes near = agree_sleeping c here.clock st su _ t.at near
+  agree_step c m o forever here st su t modes near = agree_sleeping c here.clock st su _ t.at near
+  agree_step c m o (pace k) here st su t modes near = agree_pacing c here.clock st su _ t.at near
+  agree_step c m o (find text) here st su t modes near = agree_same c _
+  agree_step c m o (head n) here st su t modes near = agree_same c _
+  agree_step c m o longest here st su t modes near = agree_same c _
+  agree_step c m o (need text name) here st su t modes near = agree_same c _
+  agree_step c m o (raise name) here st su t modes near = agree_same c _
+  agree_step c m o (cancel name) here st su t modes near = agree_cancelling c here.clock name st su t near
+  agree_step c m o (set_event name) here st su t modes near = agree_setting c here.clock name st su t near
+  agree_step c m o (wait_for name) here st su t modes near =
       agree_awaiting c here.clock st su _ _ t near (event_near c name st.events su.events near.1)
-  agree_step c m (scope name d shield fail body) here st su t near =
-      agree_block c here.clock _ _ t.at _ shield st su near m _ _
+  agree_step c m o (ask_for name ask body) here st su t modes near =
+      agree_asking c m o ask _ _ here st su t _ _ (label_near c name st.events su.events near.1) modes near (λ inner u. agree c m o body inner st su u modes near) (λ inner u. late m body inner st u)
+      (λ inner u. late o body inner su u)
+  agree_step c m o (close_channel name) here st su t modes near = agree_closing c name st su t near
+  agree_step c m o (scope name d shield fail body) here st su t modes near =
+      agree_block c here.clock _ _ t.at _ shield st su near m o _ _ modes
       (λ f. late m body here _ t)
-      (λ f. late m body here _ t)
-      (λ f g e. agree c m body here _ _ t (near_within c _ shield f g st su e near))
-  agree_step c m (nursery name d shield body) here st su t near =
-      agree_block c here.clock _ _ t.at _ shield st su near m _ _
+      (λ f. late o body here _ t)
+      (λ f g e. agree c m o body here _ _ t modes (near_within c _ shield f g st su e near))
+  agree_step c m o (nursery name d shield body) here st su t modes near =
+      agree_block c here.clock _ _ t.at _ shield st su near m o _ _ modes
       (λ f. late_gathered here.clock t.at _ _ (late_signed t.at _ _ (late m body here _ t)))
-      (λ f. late_gathered here.clock t.at _ _ (late_signed t.at _ _ (late m body here _ t)))
+      (λ f. late_gathered here.clock t.at _ _ (late_signed t.at _ _ (late o body here _ t)))
       (λ f g e. agree_gathered c here.clock _ _ _ (agree_signed c _ _ _ _ (near_within c _ shield f g st su e near)
-      (agree c m body here _ _ t (near_within c _ shield f g st su e near))))
-  agree_step c m (event name body) here st su t near =
-      agree_event c _ t.at m _ _
+      (agree c m o body here _ _ t modes (near_within c _ shield f g st su e near))))
+  agree_step c m o (event name body) here st su t modes near =
+      agree_event c _ t.at m o _ _ modes
       (λ f. late m body here _ t)
+      (λ f. late o body here _ t)
+      (λ f g e. agree c m o body here _ _ t modes (near_in_event c _ f g st su e near))
+  agree_step c m o (object name kind body) here st su t modes near =
+      agree_acted c _ t.at _ _ _ _ refl
+      (agree_event c _ t.at m o _ _ modes
       (λ f. late m body here _ t)
-      (λ f g e. agree c m body here _ _ t (near_in_event c _ f g st su e near))
-  agree_step c m (start name None body) here st su t near =
-      agree_child c _ (a_round_after here.clock t.at) _ _ t (agree_signed c st su _ _ near (agree c m body _ st su (only_at (a_round_after here.clock t.at)) near))
-  agree_step c m (start name (Some k) body) here st su t near =
+      (λ f. late o body here _ t)
+      (λ f g e. agree c m o body here _ _ t modes (near_in_event c _ f g st su e near)))
+  agree_step c m o (start name None body) here st su t modes near =
+      agree_child c _ (a_round_after here.clock t.at) _ _ t
+      (agree_signed c st su _ _ near (agree c m o body _ st su (only_at (a_round_after here.clock t.at)) modes near))
+  agree_step c m o (start name (Some k) body) here st su t modes near =
       agree_each c k _ _ t (λ i. child_ends _ (a_round_after here.clock t.at) _ t) (λ i. child_ends _ (a_round_after here.clock t.at) _ t)
-      (λ i. agree_child c _ (a_round_after here.clock t.at) _ _ t (agree_signed c st su _ _ near (agree c m body _ st su (only_at (a_round_after here.clock t.at)) near)))
-  agree_step c m (repeat count over body) here st su t near =
-      agree_passes c count 0 _ _ t (λ i u. agree c m body _ st su u near) (λ i u. late m body _ st u) (λ i u. late m body _ su u)
-  agree_step c m (attempt body handler cleanup) here st su t near =
-      agree_cleanup c m cleanup here st su _ _ near (agree_handler c m handler here st su _ _ near (agree c m body here st su t near))
+      (λ i. agree_child c _ (a_round_after here.clock t.at) _ _ t
+      (agree_signed c st su _ _ near (agree c m o body _ st su (only_at (a_round_after here.clock t.at)) modes near)))
+  agree_step c m o (repeat count over body) here st su t modes near =
+      agree_passes c count 0 _ _ t (λ i u. agree c m o body _ st su u modes near) (λ i u. late m body _ st u) (λ i u. late o body _ su u)
+  agree_step c m o (attempt body handler cleanup) here st su t modes near =
+      agree_cleanup c m o cleanup here st su _ _ modes near
+      (agree_handler c m o handler here st su _ _ modes near (agree c m o body here st su t modes near))
 
   -- the same for a handler, if what it follows agrees
-  pub agree_handler : (c : ℕ) (m : Mode) (x : Handled) (here : Here) (st su : Stack) (r q : Result) → Near c st su → Agree c r q →
-      Agree c (walk_handler m x here st r) (walk_handler m x here su q)
-  agree_handler c m unhandled here st su r q near h = h
-  agree_handler c m (except name body) here st su r q near h =
-      agree_handled c _ r q _ _ h (λ u. agree c m body here st su u near) (λ u. late m body here st u) (λ u. late m body here su u)
+  pub agree_handler : (c : ℕ) (m o : Mode) (x : Handled) (here : Here) (st su : Stack) (r q : Result) → NearModes c m o → Near c st su → Agree c r q →
+      Agree c (walk_handler m x here st r) (walk_handler o x here su q)
+  agree_handler c m o unhandled here st su r q modes near h = h
+  agree_handler c m o (except name body) here st su r q modes near h =
+      agree_handled c _ r q _ _ h (λ u. agree c m o body here st su u modes near) (λ u. late m body here st u) (λ u. late o body here su u)
 
   -- the same for a cleanup, if what it follows agrees
-  pub agree_cleanup : (c : ℕ) (m : Mode) (x : Cleaned) (here : Here) (st su : Stack) (r q : Result) → Near c st su → Agree c r q →
-      Agree c (walk_cleanup m x here st r) (walk_cleanup m x here su q)
-  agree_cleanup c m uncleaned here st su r q near h = h
-  agree_cleanup c m (finally body) here st su r q near h =
-      agree_cleaned c r q _ _ h (λ u. agree c m body here st su u near) (λ u. late m body here st u) (λ u. late m body here su u)
+  pub agree_cleanup : (c : ℕ) (m o : Mode) (x : Cleaned) (here : Here) (st su : Stack) (r q : Result) → NearModes c m o → Near c st su → Agree c r q →
+      Agree c (walk_cleanup m x here st r) (walk_cleanup o x here su q)
+  agree_cleanup c m o uncleaned here st su r q modes near h = h
+  agree_cleanup c m o (finally body) here st su r q modes near h =
+      agree_cleaned c r q _ _ h (λ u. agree c m o body here st su u modes near) (λ u. late m body here st u) (λ u. late o body here su u)
 
--- on stacks that agree except where both moments of cancellation are at least c, a walk does the same before c
+-- on stacks that agree except where both moments of cancellation are at least c, and with grants that agree before c, a walk does the
+-- same before c
 pub nothing_before_its_cause : NothingBeforeItsCause
-nothing_before_its_cause c mode steps here stack other now near = agree c mode steps here stack other now near
+nothing_before_its_cause c mode other_mode steps here stack other now modes near = agree c mode other_mode steps here stack other now modes near

@@ -5,9 +5,9 @@ use Rattle.std.proofs.lemmas.Bool.Decides.{nat_tests}
 use Rattle.std.specs.Str.{bytes_eq}
 use Rattle.exceptions.specs.Exceptions.{Label, Exc}
 use Rattle.cancel_scopes.specs.Sight.{Tick, Level, earlier, is_reached, next, sight, seen}
-use Rattle.job_meaning.specs.Log.{Entry, Log, nil, entry, sign, entered, task, followed_by, Member, least_sign, tick_if, same_label, from_by}
+use Rattle.job_meaning.specs.Log.{Entry, Log, nil, entry, sign, entered, Act, act, task, followed_by, Member, least_sign, tick_if, same_label, from_by}
 use Rattle.job_meaning.specs.Walk.{Levels, label_on, label_if, event_on, level_if, home_of, latest}
-use Rattle.job_meaning.specs.Before.{upto, NearLevels, exc_if, known_member, known_members, entry_if, sign_before, entered_if, task_if, log_before}
+use Rattle.job_meaning.specs.Before.{upto, NearLevels, exc_if, known_member, known_members, entry_if, sign_before, entered_if, task_if, act_before, act_if, log_before}
 use Rattle.job_meaning.proofs.Late.{Timed}
 
 -- a tick cut at c is at most c
@@ -122,6 +122,10 @@ followed_entered : (b : Bool) (l : Label) (t : ℕ) (d : Tick) (x y : Log) →
 followed_entered true l t d x y = refl
 followed_entered false l t d x y = refl
 
+followed_act : (b : Bool) (l : Label) (t : ℕ) (a : Act) (x y : Log) → act_if b l t a (followed_by x y) ≡ followed_by (act_if b l t a x) y
+followed_act true l t a x y = refl
+followed_act false l t a x y = refl
+
 followed_task : (b : Bool) (l : Label) (s u : ℕ) (e : Option Exc) (own x y : Log) →
     task_if b l s u e own (followed_by x y) ≡ followed_by (task_if b l s u e own x) y
 followed_task true l s u e own x y = refl
@@ -136,6 +140,8 @@ clipped_followed c (sign l t rest) b = ap (λ (x : Log). sign_before (nat_lt t c
     ∙ followed_sign_before (nat_lt t c) l t (log_before c rest) (log_before c b)
 clipped_followed c (entered l t d rest) b = ap (λ (x : Log). entered_if (nat_lt t c) l t d x) (clipped_followed c rest b)
     ∙ followed_entered (nat_lt t c) l t d (log_before c rest) (log_before c b)
+clipped_followed c (act l t a rest) b = ap (λ (x : Log). act_if (nat_lt t c) l t (act_before c a) x) (clipped_followed c rest b)
+    ∙ followed_act (nat_lt t c) l t (act_before c a) (log_before c rest) (log_before c b)
 clipped_followed c (task l s u e own rest) b =
     ap (λ (x : Log). task_if (nat_lt s c) l s (min c u) (exc_if (nat_lt u c) e) (log_before c own) x) (clipped_followed c rest b)
     ∙ followed_task (nat_lt s c) l s (min c u) (exc_if (nat_lt u c) e) (log_before c own) (log_before c rest) (log_before c b)
@@ -151,6 +157,7 @@ followed_nil nil = refl
 followed_nil (entry t e rest) = ap (λ (x : Log). entry t e x) (followed_nil rest)
 followed_nil (sign l t rest) = ap (λ (x : Log). sign l t x) (followed_nil rest)
 followed_nil (entered l t d rest) = ap (λ (x : Log). entered l t d x) (followed_nil rest)
+followed_nil (act l t a rest) = ap (λ (x : Log). act l t a x) (followed_nil rest)
 followed_nil (task l s u e own rest) = ap (λ (x : Log). task l s u e own x) (followed_nil rest)
 
 without_entry : (b : Bool) (t : ℕ) (e : Entry) (x : Log) → b ≡ false → entry_if b t e x ≡ x
@@ -164,6 +171,10 @@ without_sign_before false l t x f = refl
 without_entered : (b : Bool) (l : Label) (t : ℕ) (d : Tick) (x : Log) → b ≡ false → entered_if b l t d x ≡ x
 without_entered true l t d x f = absurd (true≢false f)
 without_entered false l t d x f = refl
+
+pub without_act : (b : Bool) (l : Label) (t : ℕ) (a : Act) (x : Log) → b ≡ false → act_if b l t a x ≡ x
+without_act true l t a x f = absurd (true≢false f)
+without_act false l t a x f = refl
 
 without_task : (b : Bool) (l : Label) (s u : ℕ) (e : Option Exc) (own x : Log) → b ≡ false → task_if b l s u e own x ≡ x
 without_task true l s u e own x f = absurd (true≢false f)
@@ -183,6 +194,11 @@ clipped_late c t (sign l u rest) le h = without_sign_before (nat_lt u c) l u (lo
     past : t ≤ u → c ≤ u
     past k = omega arith
 clipped_late c t (entered l u d rest) le h = without_entered (nat_lt u c) l u d (log_before c rest) (le-ltb u c (past h.0))
+    ∙ clipped_late c t rest le h.1
+  where
+    past : t ≤ u → c ≤ u
+    past k = omega arith
+clipped_late c t (act l u a rest) le h = without_act (nat_lt u c) l u (act_before c a) (log_before c rest) (le-ltb u c (past h.0))
     ∙ clipped_late c t rest le h.1
   where
     past : t ≤ u → c ≤ u
@@ -217,6 +233,7 @@ least_late c t l (sign m u rest) le h =
     past : t ≤ u → c ≤ u
     past k = omega arith
 least_late c t l (entered m u d rest) le h = least_late c t l rest le h.1
+least_late c t l (act m u a rest) le h = least_late c t l rest le h.1
 least_late c t l (task m u v e own rest) le h =
     upto_earlier c (least_sign l own) (least_sign l rest)
     ∙ min_both c _ _ (least_late c u l own (past h.0) h.2) (least_late c t l rest le h.3)
@@ -252,6 +269,12 @@ least_clipped c t l (entered m u d rest) h = by_kept (nat_lt u c) (least_clipped
   where
     by_kept : (b : Bool) → upto c (least_sign l rest) ≡ upto c (least_sign l (log_before c rest)) →
         upto c (least_sign l rest) ≡ upto c (least_sign l (entered_if b m u d (log_before c rest)))
+    by_kept true k = k
+    by_kept false k = k
+least_clipped c t l (act m u a rest) h = by_kept (nat_lt u c) (least_clipped c t l rest h.1)
+  where
+    by_kept : (b : Bool) → upto c (least_sign l rest) ≡ upto c (least_sign l (log_before c rest)) →
+        upto c (least_sign l rest) ≡ upto c (least_sign l (act_if b m u (act_before c a) (log_before c rest)))
     by_kept true k = k
     by_kept false k = k
 least_clipped c t l (task m u v e own rest) h = by_kept (nat_lt u c) refl (least_clipped c u l own h.2) (least_clipped c t l rest h.3)

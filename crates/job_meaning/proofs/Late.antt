@@ -1,16 +1,21 @@
 -- A walk ends no earlier than it starts, and all that it notes has a tick from its start on.
-use Rattle.std.proofs.Common.{◌≡◌, ℕ, zero, suc, ◌≤◌, max, Bool, true, false, Option, Some, None, List, [], ◌∷◌, refl, sym, subst, arith, nat_le, nat_lt, if◌then◌else◌}
+use Rattle.std.proofs.Common.{◌≡◌, ℕ, zero, suc, ◌-◌, ◌<◌, ◌≤◌, max, Bool, true, false, ◌&&◌, Option, Some, None, List, [], ◌∷◌, refl, sym, ◌∙◌, subst, IsTrue, arith, nat_le, nat_lt, if◌then◌else◌}
+use Rattle.std.specs.Prelude.{codes}
 use Rattle.std.proofs.lemmas.Bool.Decides.{nat_tests}
-use Rattle.job_tree.specs.Tree.{Step, sleep, checkpoint, forever, pace, find, head, longest, need, raise, cancel, set_event, wait_for, scope, nursery, event, start, repeat, attempt, Steps, stop, step, Handled, unhandled, except, Cleaned, uncleaned, finally}
+use Rattle.job_tree.specs.Tree.{Step, sleep, checkpoint, forever, pace, find, head, longest, need, raise, cancel, set_event, wait_for, ask_for, close_channel, scope, nursery, event, object, start, repeat, attempt, Steps, stop, step, Handled, unhandled, except, Cleaned, uncleaned, finally}
+use Rattle.job_tree.specs.declared.object.Ask.{Ask}
 use Rattle.input_lines.specs.Lines.{Span}
-use Rattle.exceptions.specs.Exceptions.{Label, Exc, cancelled}
+use Rattle.exceptions.specs.Exceptions.{Label, Exc, cancelled, raised}
 use Rattle.exceptions.specs.Split.{Wanted, keep, drop}
-use Rattle.cancel_scopes.specs.Sight.{Tick, Level, sight}
-use Rattle.job_meaning.specs.Log.{Log, nil, entry, sign, entered, task, followed_by, Member, Result}
-use Rattle.job_meaning.specs.Moments.{a_round_after, wakes_at, gives_up_at, Now, only_at}
+use Rattle.cancel_scopes.specs.Sight.{Tick, Level, earlier, is_reached, sight, seen}
+use Rattle.job_meaning.specs.Log.{Log, nil, entry, waited, sign, entered, Act, act, task, followed_by, Member, Result}
+use Rattle.job_meaning.specs.Sharing.{What, a_token, was_sent, a_part, closed_resource, end_of_channel, Granted, granted_if}
+use Rattle.job_meaning.specs.Moments.{tick_of, a_round_after, far, wakes_at, gives_up_at, Now, only_at}
 use Rattle.job_meaning.specs.declared.clock.Clock.{Clock}
 use Rattle.job_meaning.proofs.MomentLemmas.{round_after, wakes_after, gives_up_after}
-use Rattle.job_meaning.specs.Walk.{Stack, Mode, Here, walk, walk_step, walk_handler, walk_cleanup, done_at, raised_at, now_of, in_sequence, and_then, then_if, wait_by_sight, sleep_result, pace_result, wait_until, set_moment, wait_by, with_line_if, with_line, event_wait, log_of_lines, lines_result, raise_result, need_result, cancel_result, set_result, Kind, from_of, block, event_block, with_sign, sign_if, home_of, latest, nursery_result, child, each, passes, handler_result, handler_for, handler_if_any, cleanup_result}
+use Rattle.job_meaning.proofs.Ticks.{lowering_shows}
+use Rattle.job_meaning.specs.Laws.{AtMost, Lowered}
+use Rattle.job_meaning.specs.Walk.{Levels, Stack, Mode, grants_in, Here, walk, walk_step, walk_handler, walk_cleanup, done_at, raised_at, now_of, in_sequence, and_then, then_if, wait_by_sight, sleep_result, pace_result, wait_until, set_moment, wait_by, with_line_if, with_line, event_wait, log_of_lines, lines_result, raise_result, need_result, cancel_result, set_result, is_among, from_for, stack_for, Kind, from_of, block, event_block, with_act, close_result, with_token_back, last_grant, leaves_queue, in_time, left_result, goes_on, granted_result, asked_result, asks_in, ask_result, with_sign, sign_if, home_of, latest, nursery_result, child, each, passes, handler_result, handler_for, handler_if_any, cleanup_result}
 
 -- all that is in a log is at tick t or later
 abbrev pub Timed : ℕ → Log → Type 0
@@ -18,6 +23,7 @@ Timed t nil = Unit {0}
 Timed t (entry u e rest) = (t ≤ u) × Timed t rest
 Timed t (sign l u rest) = (t ≤ u) × Timed t rest
 Timed t (entered l u d rest) = (t ≤ u) × Timed t rest
+Timed t (act l u a rest) = (t ≤ u) × Timed t rest
 Timed t (task l u v e own rest) = (t ≤ u) × (u ≤ v) × Timed u own × Timed t rest
 
 -- one log after another
@@ -26,6 +32,7 @@ timed_followed t nil b h k = k
 timed_followed t (entry u e rest) b h k = (h.0, timed_followed t rest b h.1 k)
 timed_followed t (sign l u rest) b h k = (h.0, timed_followed t rest b h.1 k)
 timed_followed t (entered l u d rest) b h k = (h.0, timed_followed t rest b h.1 k)
+timed_followed t (act l u a rest) b h k = (h.0, timed_followed t rest b h.1 k)
 timed_followed t (task l u v e own rest) b h k = (h.0, h.1, h.2, timed_followed t rest b h.3 k)
 
 -- what is timed from a tick on is timed from an earlier one on
@@ -40,6 +47,10 @@ timed_earlier t u (sign l v rest) le h = (earlier_still h.0, timed_earlier t u r
     earlier_still : u ≤ v → t ≤ v
     earlier_still k = omega arith
 timed_earlier t u (entered l v d rest) le h = (earlier_still h.0, timed_earlier t u rest le h.1)
+  where
+    earlier_still : u ≤ v → t ≤ v
+    earlier_still k = omega arith
+timed_earlier t u (act l v a rest) le h = (earlier_still h.0, timed_earlier t u rest le h.1)
   where
     earlier_still : u ≤ v → t ≤ v
     earlier_still k = omega arith
@@ -271,6 +282,115 @@ late_cleaned t r go h k =
     let both : Late t (in_sequence r (go (now_of r))) = late_joined t r (go (now_of r)) h (k (now_of r)) in
     record { ends = both.ends; timed = both.timed }
 
+-- an act before what is late
+pub late_act : (label : Label) (m : ℕ) (a : Act) (r : Result) → Late m r → Late m (with_act label m a r)
+late_act label m a r h = record { ends = h.ends; timed = (omega arith, h.timed) }
+
+-- a `close` is late, whether its name is found or not
+pub late_closing : (label : Option Label) (t : Now) → Late t.at (close_result label t)
+unfolding close_result
+late_closing None t = late_done t.at t (omega arith)
+late_closing (Some l) t = record { ends = omega arith; timed = (omega arith, tt) }
+
+-- what is late is late with a token that comes back at its end
+pub late_token_back : (t : ℕ) (label : Label) (r : Result) → Late t r → Late t (with_token_back label r)
+unfolding with_token_back
+late_token_back t label r h = record { ends = h.ends; timed = timed_followed t r.log _ h.timed (h.ends, tt) }
+
+-- what is late from a moment on is late from an earlier one on
+pub late_since : (t u : ℕ) (r : Result) → t ≤ u → Late u r → Late t r
+late_since t u r le h =
+    let end : u ≤ r.end = h.ends in
+    record { ends = omega arith; timed = timed_earlier t u r.log le h.timed }
+
+-- what a task sees of a stack by its own cancels is at least what is seen of the stack
+lowered_for : (own : List Label) (m : ℕ) (ls : Levels) → Lowered ls (stack_for own m ls)
+lowered_for own m [] = tt
+lowered_for own m (l ∷ ls) = (refl, refl, by_own (is_among l.label own) l.from, lowered_for own m ls)
+  where
+    by_own : (b : Bool) (f : Tick) → AtMost (if b then earlier f (Some m) else f) f
+    by_own true None = tt
+    by_own false None = tt
+    by_own true (Some x) = by_order (nat_lt m x) refl
+      where
+        by_order : (o : Bool) → nat_lt m x ≡ o → (if o then m else x) ≤ x
+        by_order true e = grind (arith, nat_tests)
+        by_order false e = omega arith
+    by_own false (Some x) = omega arith
+
+-- so where it sees no cancellation, none has come
+pub unseen_for : (own : List Label) (m : ℕ) (ls : Levels) → seen (stack_for own m ls) m ≡ false → seen ls m ≡ false
+unseen_for own m ls e = by_cases (seen ls m) (λ h. lowering_shows ls (stack_for own m ls) m (lowered_for own m ls) h)
+  where
+    by_cases : (b : Bool) → (IsTrue b → IsTrue (seen (stack_for own m ls) m)) → b ≡ false
+    by_cases true h = sym (h refl) ∙ e
+    by_cases false h = refl
+
+-- no wait for a limiter or channel ends before it begins
+pub last_after : (clock : Clock) (m : ℕ) → m ≤ last_grant clock m
+last_after clock m = omega (arith, round_after clock m, wakes_after clock (far - tick_of clock m) m)
+
+-- where no cancellation is seen, a task leaves the queue no earlier than it asked
+pub leaves_after : (from : Tick) (m last : ℕ) → is_reached from m ≡ false → m ≤ last → m ≤ leaves_queue from last
+leaves_after None m last e le = le
+leaves_after (Some x) m last e le = both (grind (arith, nat_tests))
+  where
+    both : m ≤ x → m ≤ leaves_queue (Some x) last
+    both h = omega arith
+
+-- who leaves the queue does so in that moment
+pub late_left : (here : Here) (from : Tick) (left t : ℕ) → t ≤ left → Late t (left_result here from left)
+late_left here from left t le = by_sight (is_reached from left)
+  where
+    by_sight : (b : Bool) → Late t (if b then raised_at cancelled (only_at left)
+        else raised_at (raised (codes "Deadlock") here.task (tick_of here.clock left)) (only_at left))
+    by_sight true = late_raised _ t (only_at left) le
+    by_sight false = late_raised _ t (only_at left) le
+
+-- the line of a wait for a limiter or channel that ended well
+abbrev pub noted_at : Label → ℕ → Result
+noted_at label m = record { end = m; own = []; exc = None; members = []; log = entry m (waited label) nil }
+
+pub late_goes_on : (label : Label) (m : ℕ) (go : Now → Result) → ((u : Now) → Late u.at (go u)) → Late m (goes_on label m go)
+late_goes_on label m go h = late_joined m (noted_at label m) (go (only_at m)) noted (h (only_at m))
+  where
+    noted : Late m (noted_at label m)
+    noted = record { ends = omega arith; timed = (omega arith, tt) }
+
+-- what a task does with what it is granted is late
+pub late_granted : (label : Label) (here : Here) (m : ℕ) (what : What) (go : Here → Now → Result) → ((inner : Here) (u : Now) → Late u.at (go inner u)) →
+    Late m (granted_result label here m what go)
+late_granted label here m a_token go h = late_goes_on label m _ (λ u. late_token_back u.at label _ (h here u))
+late_granted label here m was_sent go h = late_goes_on label m _ (λ u. h here u)
+late_granted label here m (a_part lent) go h = late_goes_on label m _ (λ u. h (record here { part = lent }) u)
+late_granted label here m closed_resource go h = late_raised _ m (only_at m) (omega arith)
+late_granted label here m end_of_channel go h = late_raised _ m (only_at m) (omega arith)
+
+-- what comes of an ask is late
+pub late_asked : (ask : Ask) (label : Label) (here : Here) (from : Tick) (m left : ℕ) (o : Option Granted) (go : Here → Now → Result) →
+    m ≤ left → ((inner : Here) (u : Now) → Late u.at (go inner u)) → Late m (asked_result ask label here from m left (in_time m left o) go)
+late_asked ask label here from m left None go le h = late_act label m _ _ (late_left here from left m le)
+late_asked ask label here from m left (Some g) go le h = by_time (nat_lt m g.at && nat_le g.at left) refl
+  where
+    by_time : (b : Bool) → (nat_lt m g.at && nat_le g.at left) ≡ b → Late m (asked_result ask label here from m left (granted_if b g None) go)
+    by_time true e = late_act label m _ _ (late_since m g.at _ (grind (arith, nat_tests)) (late_granted label here g.at g.what go h))
+    by_time false e = late_act label m _ _ (late_left here from left m le)
+
+-- an ask is late, with what follows it
+pub late_asking : (m : Mode) (ask : Ask) (label : Option Label) (here : Here) (st : Stack) (t : Now) (go : Here → Now → Result) →
+    ((inner : Here) (u : Now) → Late u.at (go inner u)) → Late t.at (ask_result m ask label here st t go)
+unfolding ask_result
+late_asking m ask None here st t go h = late_done t.at t (omega arith)
+late_asking m ask (Some label) here st t go h = by_sight (seen (stack_for t.own t.at st.scopes) t.at) refl
+  where
+    by_sight : (b : Bool) → seen (stack_for t.own t.at st.scopes) t.at ≡ b →
+        Late t.at (if b then raised_at cancelled (only_at (gives_up_at here.clock 0 t.at)) else asks_in m ask label here st t.at go)
+    by_sight true e =
+        late_raised cancelled t.at (only_at (gives_up_at here.clock 0 t.at)) (omega (arith, round_after here.clock t.at, gives_up_after here.clock 0 t.at))
+    by_sight false e =
+        late_asked ask label here (sight st.scopes) t.at _ (grants_in m label here.task t.at) go
+        (leaves_after (sight st.scopes) t.at (last_grant here.clock t.at) (unseen_for t.own t.at st.scopes e) (last_after here.clock t.at)) h
+
 mutual
   unfolding walk
 
@@ -293,11 +413,14 @@ mutual
   late_step m (cancel name) here st t = late_cancelling here.clock _ t
   late_step m (set_event name) here st t = late_setting here.clock _ t
   late_step m (wait_for name) here st t = late_awaiting here.clock st _ t
+  late_step m (ask_for name ask body) here st t = late_asking m ask _ here st t _ (λ inner u. late m body inner st u)
+  late_step m (close_channel name) here st t = late_closing _ t
   late_step m (scope name d shield fail body) here st t =
       late_block here.clock m _ _ t.at _ shield st _ (λ from. late m body here _ t)
   late_step m (nursery name d shield body) here st t =
       late_block here.clock m _ _ t.at _ shield st _ (λ from. late_gathered here.clock t.at _ _ (late_signed t.at _ _ (late m body here _ t)))
   late_step m (event name body) here st t = late_event m _ t.at _ (λ from. late m body here _ t)
+  late_step m (object name kind body) here st t = late_act _ t.at _ _ (late_event m _ t.at _ (λ from. late m body here _ t))
   late_step m (start name None body) here st t =
       late_child _ (a_round_after here.clock t.at) _ t (round_after here.clock t.at) (late_signed _ st _ (late m body _ st (only_at (a_round_after here.clock t.at))))
   late_step m (start name (Some k) body) here st t =

@@ -4,6 +4,9 @@ pub mod Late
 pub mod Leaves
 pub mod Root
 pub mod Clips
+pub mod Agreeing
+pub mod OwnSight
+pub mod Asking
 pub mod Causality
 pub mod Distinct
 pub mod Touched
