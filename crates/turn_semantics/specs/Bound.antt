@@ -1,6 +1,6 @@
 -- How many steps a turn takes at most, by the frames that are left.
 use Rattle.std.specs.Prelude.{ℕ, ◌+◌, ◌*◌, List, [], ◌∷◌}
-use Rattle.job_tree.specs.Tree.{Step, sleep, checkpoint, forever, pace, find, head, longest, need, raise, cancel, set_event, wait_for, scope, nursery, event, start, repeat, attempt, Steps, stop, step, Handled, unhandled, except, Cleaned, uncleaned, finally}
+use Rattle.job_tree.specs.Tree.{Step, sleep, checkpoint, forever, pace, find, head, longest, need, raise, cancel, set_event, wait_for, ask_for, close_channel, scope, nursery, event, object, start, repeat, attempt, Steps, stop, step, Handled, unhandled, except, Cleaned, uncleaned, finally}
 use Rattle.job_meaning.specs.Rest.{Frame, steps_left, in_scope, in_event, in_nursery, in_repeat, in_try, in_handler, in_cleanup}
 
 -- the maximum number of steps of a turn for the steps of a block, and for its end; children take
@@ -17,6 +17,8 @@ abbrev mutual
   step_length (scope name deadline shield fail body) = 2 + turn_length body
   step_length (nursery name deadline shield body) = 2 + turn_length body
   step_length (event name body) = 2 + turn_length body
+  step_length (object name kind body) = 2 + turn_length body
+  step_length (ask_for name ask body) = 2 + turn_length body
   step_length (repeat count over body) = 1 + count * (1 + turn_length body)
   step_length (attempt body handler cleanup) = 2 + turn_length body + (handler_length handler + cleanup_length cleanup)
   step_length _ = 1

@@ -8,15 +8,15 @@ use Rattle.cancel_scopes.specs.Sight.{Tick}
 use Rattle.job_meaning.specs.Log.{Table, from_by}
 use Rattle.job_meaning.specs.Moments.{a_round_after, Now}
 use Rattle.job_meaning.specs.declared.clock.Clock.{Clock}
-use Rattle.job_meaning.specs.Walk.{by_table, Here}
+use Rattle.job_meaning.specs.Walk.{Here}
 use Rattle.job_meaning.specs.Rest.{steps_left, Event, ChildOutcomes, fill, Stopped, Rest, rest_comes_to, task_comes_to, inside}
-use Rattle.turn_semantics.specs.Midway.{Place, stack_at, Midway, Move, now_after}
+use Rattle.turn_semantics.specs.Midway.{Place, Tables, by_tables, stack_at, Midway, Move, now_after}
 use Rattle.turn_semantics.specs.Steps.{cancelled_from_after, step_of}
 use Rattle.turn_semantics.specs.Placed.{Placed, IsSome, PlacedStop, outer_places}
 use Rattle.turn_semantics.specs.Wakes.{Wake, wake_of, turn_from, WakesBy, CanWake}
 use Rattle.turn_semantics.specs.Turned.{AgreesOn, AgreesAhead, AreOutcomes, MadeAt, made_sign, EntersIn, EntersOnceWith, Goes, TurnsOver}
 use Rattle.turn_semantics.specs.Bound.{frames_length}
-use Rattle.turn_semantics.specs.Names.{names_at, OwnNames, NewIn, StaysNew}
+use Rattle.turn_semantics.specs.Names.{names_at, OwnNames, NewIn, NewStop, StaysNew}
 
 -- each step keeps the promise
 abbrev pub EachStepGoes : Type 0
@@ -41,13 +41,13 @@ abbrev pub TaskComesToTheSame : Type 0
 TaskComesToTheSame =
     (u now : Now) (here : Here) (cancelled_from : Table) (w : Wake) (rest : Rest) (ps : List Place) (count : ℕ) (o : Move) (made : List Event)
     (s : Stopped) →
-    TurnsOver u now here cancelled_from w rest ps count o → o.stopped ≡ Some s → (table : Table) (outcomes : ChildOutcomes) →
+    TurnsOver u now here cancelled_from w rest ps count o → o.stopped ≡ Some s → (table : Tables) (outcomes : ChildOutcomes) →
     WakesBy table outcomes (inside rest.frames here) u now w rest.stopped ps →
-    AgreesOn now.at table cancelled_from ps →
-    AgreesAhead now.at table (fill outcomes o.made) (rest_comes_to (by_table table) outcomes rest here (stack_at table ps) u).log →
+    AgreesOn now.at table.cancelled_from cancelled_from ps →
+    AgreesAhead now.at table.cancelled_from (fill outcomes o.made) (rest_comes_to (by_tables table) outcomes rest here (stack_at table.cancelled_from ps) u).log →
     AreOutcomes (a_round_after here.clock now.at) table outcomes o.begun →
-    task_comes_to (by_table table) outcomes made rest here (stack_at table ps) u
-    ≡ task_comes_to (by_table table) outcomes (made ++ o.made) (record { stopped = s; frames = o.frames }) here (stack_at table o.places) (now_after here.clock now o.made)
+    task_comes_to (by_tables table) outcomes made rest here (stack_at table.cancelled_from ps) u
+    ≡ task_comes_to (by_tables table) outcomes (made ++ o.made) (record { stopped = s; frames = o.frames }) here (stack_at table.cancelled_from o.places) (now_after here.clock now o.made)
 
 -- the from of a label that was not entered is lowered by exactly the signs made for it
 abbrev pub CancelledFromIsLowered : Type 0
@@ -73,5 +73,5 @@ EachStepStaysNew = (cancelled_from : Table) (now : Now) (here : Here) (m : Midwa
 abbrev pub EachTurnStaysNew : Type 0
 EachTurnStaysNew =
     (n : ℕ) (now : Now) (here : Here) (cancelled_from : Table) (w : Wake) (rest : Rest) (ps : List Place) (count : ℕ) → CanWake w rest.stopped →
-    NewIn rest.frames (outer_places (Some rest.stopped) ps) → OwnNames (names_at ps) →
+    NewIn rest.frames (outer_places (Some rest.stopped) ps) → NewStop (Some rest.stopped) ps → OwnNames (names_at ps) →
     StaysNew (turn_from n cancelled_from now here w rest.stopped rest.frames ps count)

@@ -5,14 +5,23 @@ use Rattle.job_tree.specs.Tree.{Steps}
 use Rattle.exceptions.specs.Exceptions.{Label, Exc}
 use Rattle.cancel_scopes.specs.Sight.{Level}
 use Rattle.job_meaning.specs.Log.{nil, followed_by, Result, Table}
+use Rattle.job_meaning.specs.Sharing.{Grants}
 use Rattle.job_meaning.specs.Moments.{Now, only_at}
 use Rattle.job_meaning.specs.declared.clock.Clock.{Clock}
 use Rattle.job_meaning.specs.declared.clock.Clock.TheVariants.{ByTicks as by_ticks, ByRounds as by_rounds}
-use Rattle.job_meaning.specs.Walk.{Stack, no_stack, by_table, Here, label_if, done_at, with_own}
+use Rattle.job_meaning.specs.Walk.{Stack, no_stack, Mode, by_table, Here, label_if, done_at, with_own}
 use Rattle.turn_semantics.specs.Made.{SignedLabel, signed_in}
 use Rattle.job_meaning.specs.Rest.{Event, ChildOutcomes, fill, Frame, Stopped, finish, finished_from, rest_comes_to, rest_at_start}
 
--- a scope or nursery that encloses a task, or an event; its from is in the world's table
+-- The tables that a walk follows: from which moment each label is cancelled, or set, and what limiters and channels grant.
+pub record Tables : Type 0 where
+  pub cancelled_from : Table
+  pub granted : Grants
+
+abbrev pub by_tables : Tables → Mode
+by_tables tables = by_table tables.cancelled_from tables.granted
+
+-- a scope or nursery that encloses a task, or an event, a limiter or a channel; its from is in the world's table
 pub record Place : Type 0 where
   pub label : Label
   pub shield : Bool
@@ -23,7 +32,7 @@ abbrev pub is_of_kind : (events : Bool) → Place → Bool
 is_of_kind true p = p.is_event
 is_of_kind false p = not p.is_event
 
--- the label of the scope or nursery of this name that encloses the task, or of the event
+-- the label of the scope or nursery of this name that encloses the task, or of the event, limiter or channel
 abbrev pub label_among : (events : Bool) → List ℕ → List Place → Option Label
 label_among events name [] = None
 label_among events name (p ∷ ps) = label_if (is_of_kind events p && bytes_eq name p.label.name) p.label (label_among events name ps)
@@ -106,25 +115,25 @@ after_events outcomes es r = record r { log = followed_by (fill outcomes es) r.l
 
 -- the result of what is left of a task in the middle of a turn, with these frames, enclosing scopes and nurseries,
 -- and exception
-abbrev pub going_to : Table → ChildOutcomes → Here → Now → List Frame → List Place → Option Exc → Result
-going_to table outcomes here now fs ps exc = finish (by_table table) outcomes fs here (stack_at table ps) (so_far exc now)
+abbrev pub going_to : Tables → ChildOutcomes → Here → Now → List Frame → List Place → Option Exc → Result
+going_to tables outcomes here now fs ps exc = finish (by_tables tables) outcomes fs here (stack_at tables.cancelled_from ps) (so_far exc now)
 
-abbrev pub stop_comes_to : Option Stopped → Table → ChildOutcomes → Here → Now → List Frame → List Place → Option Exc → Result
-stop_comes_to None table outcomes here now fs ps exc = going_to table outcomes here now fs ps exc
-stop_comes_to (Some s) table outcomes here now fs ps exc = finished_from (by_table table) outcomes s fs here (stack_at table ps) now
+abbrev pub stop_comes_to : Option Stopped → Tables → ChildOutcomes → Here → Now → List Frame → List Place → Option Exc → Result
+stop_comes_to None tables outcomes here now fs ps exc = going_to tables outcomes here now fs ps exc
+stop_comes_to (Some s) tables outcomes here now fs ps exc = finished_from (by_tables tables) outcomes s fs here (stack_at tables.cancelled_from ps) now
 
 -- the result of what is left of a task after a move
-abbrev pub left_after : Table → ChildOutcomes → Here → Now → Move → Result
-left_after table outcomes here now o = stop_comes_to o.stopped table outcomes here (now_after here.clock now o.made) o.frames o.places o.exc
+abbrev pub left_after : Tables → ChildOutcomes → Here → Now → Move → Result
+left_after tables outcomes here now o = stop_comes_to o.stopped tables outcomes here (now_after here.clock now o.made) o.frames o.places o.exc
 
 -- the result of what is left of a task in the middle of a turn
-abbrev pub left_of : Table → ChildOutcomes → Here → Now → Midway → Result
-left_of table outcomes here now m = going_to table outcomes here now m.frames m.places m.exc
+abbrev pub left_of : Tables → ChildOutcomes → Here → Now → Midway → Result
+left_of tables outcomes here now m = going_to tables outcomes here now m.frames m.places m.exc
 
 -- nothing is recorded of the children of a task that has none
 abbrev pub no_outcomes : ChildOutcomes
 no_outcomes i = done_at (only_at 0)
 
--- the result of a child that began in moment t, following a table from its start
-abbrev pub begun_comes_to : Table → ℕ → Begun → Result
-begun_comes_to table t b = rest_comes_to (by_table table) no_outcomes (rest_at_start b.body) b.here (stack_at table b.places) (only_at t)
+-- the result of a child that began in moment t, following tables from its start
+abbrev pub begun_comes_to : Tables → ℕ → Begun → Result
+begun_comes_to tables t b = rest_comes_to (by_tables tables) no_outcomes (rest_at_start b.body) b.here (stack_at tables.cancelled_from b.places) (only_at t)

@@ -1,7 +1,7 @@
 -- Names of nested scopes and nurseries.
-use Rattle.std.specs.Prelude.{◌≡◌, ◌⊎◌, ℕ, List, [], ◌∷◌}
-use Rattle.job_tree.specs.Tree.{Step, sleep, checkpoint, forever, pace, find, head, longest, need, raise, cancel, set_event, wait_for, scope, nursery, event, start, repeat, attempt, Steps, stop, step, Handled, unhandled, except, Cleaned, uncleaned, finally}
-use Rattle.job_meaning.specs.Rest.{Frame, steps_left, in_scope, in_event, in_nursery, in_repeat, in_try, in_handler, in_cleanup}
+use Rattle.std.specs.Prelude.{◌≡◌, ◌⊎◌, ℕ, Option, Some, None, List, [], ◌∷◌}
+use Rattle.job_tree.specs.Tree.{Step, sleep, checkpoint, forever, pace, find, head, longest, need, raise, cancel, set_event, wait_for, ask_for, close_channel, scope, nursery, event, object, start, repeat, attempt, Steps, stop, step, Handled, unhandled, except, Cleaned, uncleaned, finally}
+use Rattle.job_meaning.specs.Rest.{Frame, steps_left, in_scope, in_event, with_token, with_part, in_nursery, in_repeat, in_try, in_handler, in_cleanup, Stopped, queued}
 use Rattle.turn_semantics.specs.Lists.{IsAmong}
 use Rattle.turn_semantics.specs.Midway.{Place, Begun, Move}
 use Rattle.turn_semantics.specs.Placed.{outer_places}
@@ -29,6 +29,8 @@ abbrev mutual
   IsNew around (scope name deadline shield fail body) = (IsAmong name around → ⊥) × AreNew (name ∷ around) body
   IsNew around (nursery name deadline shield body) = (IsAmong name around → ⊥) × AreNew (name ∷ around) body
   IsNew around (event name body) = (IsAmong name around → ⊥) × AreNew (name ∷ around) body
+  IsNew around (object name kind body) = (IsAmong name around → ⊥) × AreNew (name ∷ around) body
+  IsNew around (ask_for name ask body) = AreNew around body
   IsNew around (start name over body) = AreNew around body
   IsNew around (repeat count over body) = AreNew around body
   IsNew around (attempt body handler cleanup) = AreNew around body × IsNewHandler around handler × IsNewCleanup around cleanup
@@ -48,12 +50,20 @@ NewIn [] ps = Unit {0}
 NewIn (steps_left ss ∷ fs) ps = AreNew (names_at ps) ss × NewIn fs ps
 NewIn (in_scope fail ∷ fs) (p ∷ ps) = NewIn fs ps
 NewIn (in_event ∷ fs) (p ∷ ps) = NewIn fs ps
+NewIn (with_token limiter ∷ fs) ps = NewIn fs ps
+NewIn (with_part received ∷ fs) ps = NewIn fs ps
 NewIn (in_nursery children ∷ fs) (p ∷ ps) = NewIn fs ps
 NewIn (in_repeat pass left cuts body ∷ fs) ps = AreNew (names_at ps) body × NewIn fs ps
 NewIn (in_try handler cleanup ∷ fs) ps = IsNewHandler (names_at ps) handler × IsNewCleanup (names_at ps) cleanup × NewIn fs ps
 NewIn (in_handler rest cleanup ∷ fs) ps = IsNewCleanup (names_at ps) cleanup × NewIn fs ps
 NewIn (in_cleanup outcome ∷ fs) ps = NewIn fs ps
 NewIn (_ ∷ fs) [] = NewIn fs []
+
+-- and so has the block of what a task asked
+abbrev pub NewStop : Option Stopped → List Place → Type 0
+NewStop None ps = Unit {0}
+NewStop (Some (queued name ask since body)) ps = AreNew (names_at ps) body
+NewStop (Some _) ps = Unit {0}
 
 -- and for each child begun
 abbrev pub AllNew : List Begun → Type 0
@@ -63,5 +73,6 @@ AllNew (b ∷ bs) = AreNew (names_at b.places) b.body × OwnNames (names_at b.pl
 -- What a move keeps: no scope is entered that has the name of an enclosing one, by the task and by the children begun.
 pub record StaysNew (o : Move) : Type 0 where
   pub frames : NewIn o.frames (outer_places o.stopped o.places)
+  pub stop : NewStop o.stopped o.places
   pub own : OwnNames (names_at o.places)
   pub begun : AllNew o.begun

@@ -2,7 +2,7 @@
 use Rattle.std.specs.Prelude.{◌≡◌, ◌⊎◌, ℕ, ◌<◌, Bool, true, false, Option, Some, None, is_some, List, [], ◌∷◌}
 use Rattle.job_tree.specs.Starting.{starts_in_pass, StartsIn, HandlerStarts, CleanupStarts}
 use Rattle.job_meaning.specs.Asking.{Suits}
-use Rattle.job_meaning.specs.Rest.{Frame, steps_left, in_scope, in_event, in_nursery, in_repeat, in_try, in_handler, in_cleanup, Stopped, to_begin, asking, asleep, waiting_for, giving_up, awaiting, at_end}
+use Rattle.job_meaning.specs.Rest.{Frame, steps_left, in_scope, in_event, with_token, with_part, in_nursery, in_repeat, in_try, in_handler, in_cleanup, Stopped, to_begin, asking, asleep, waiting_for, queued, giving_up, awaiting, at_end}
 use Rattle.turn_semantics.specs.Lists.{Each, IsAmong}
 use Rattle.turn_semantics.specs.Midway.{Place, label_among, Begun}
 
@@ -21,6 +21,8 @@ Placed [] ps = Unit {0}
 Placed (steps_left ss ∷ fs) ps = StartsIn (in_body fs) ss × Placed fs ps
 Placed (in_scope fail ∷ fs) (p ∷ ps) = (p.is_event ≡ false) × Placed fs ps
 Placed (in_event ∷ fs) (p ∷ ps) = (p.is_event ≡ true) × Placed fs ps
+Placed (with_token limiter ∷ fs) ps = Placed fs ps
+Placed (with_part received ∷ fs) ps = Placed fs ps
 Placed (in_nursery children ∷ fs) (p ∷ ps) = (p.is_event ≡ false) × Placed fs ps
 Placed (in_repeat pass left cuts body ∷ fs) ps = StartsIn (starts_in_pass (is_some cuts) (in_body fs)) body × Placed fs ps
 Placed (in_try handler cleanup ∷ fs) ps = HandlerStarts handler × CleanupStarts cleanup × Placed fs ps
@@ -38,6 +40,7 @@ abbrev pub PlacedStop : Stopped → List Frame → List Place → Type 0
 PlacedStop to_begin fs ps = Placed fs ps
 PlacedStop (asking kernel purpose) fs ps = Suits kernel purpose × Placed fs ps
 PlacedStop (waiting_for event since) fs ps = IsSome (label_among true event ps) × Placed fs ps
+PlacedStop (queued object ask since body) fs ps = IsSome (label_among true object ps) × StartsIn false body × Placed fs ps
 PlacedStop (awaiting children ended exc) fs [] = ⊥
 PlacedStop (awaiting children ended exc) fs (p ∷ ps) = (p.is_event ≡ false) × Placed fs ps
 PlacedStop (at_end u e) fs ps = fs ≡ []

@@ -1,16 +1,18 @@
 -- One step of a task in the middle of a turn, and a whole turn.
 use Rattle.std.specs.Prelude.{ℕ, zero, suc, ◌+◌, ◌-◌, Bool, true, false, not, Option, Some, None, List, [], ◌∷◌, ◌++◌}
-use Rattle.job_tree.specs.Tree.{Step, sleep, checkpoint, forever, pace, find, head, longest, need, raise, cancel, set_event, wait_for, scope, nursery, event, start, repeat, attempt, Steps, stop, step, Handled, unhandled, except, Cleaned, uncleaned, finally}
+use Rattle.job_tree.specs.Tree.{Step, sleep, checkpoint, forever, pace, find, head, longest, need, raise, cancel, set_event, wait_for, ask_for, close_channel, scope, nursery, event, object, start, repeat, attempt, Steps, stop, step, Handled, unhandled, except, Cleaned, uncleaned, finally}
+use Rattle.job_tree.specs.declared.object.Ask.{Ask}
+use Rattle.job_tree.specs.declared.object.ObjectKind.{ObjectKind}
 use Rattle.input_lines.specs.Cuts.{cut_of}
 use Rattle.exceptions.specs.Exceptions.{Label, Exc, cancelled, raised}
 use Rattle.exceptions.specs.Split.{named, keep, drop}
 use Rattle.cancel_scopes.specs.Sight.{Tick, earlier, next, seen, catches}
-use Rattle.job_meaning.specs.Log.{Table, same_label}
+use Rattle.job_meaning.specs.Log.{Act, opens, gives_back, closes, Table, same_label}
 use Rattle.job_meaning.specs.Moments.{tick_of, a_round_after, due, Now, far}
 use Rattle.job_meaning.specs.declared.clock.Clock.{Clock}
 use Rattle.job_meaning.specs.declared.clock.Clock.TheVariants.{ByTicks as by_ticks, ByRounds as by_rounds}
 use Rattle.job_meaning.specs.Walk.{Here, cuts_over, from_for, stack_for, label_here, label_over, label_if, here_in, Kind, a_scope, left_as, left_with, exc_after, handler_exc, outcome_after}
-use Rattle.job_meaning.specs.Rest.{Event, noted, signs, enters, starts, starts_over, consecutive, Frame, steps_left, in_scope, in_event, in_nursery, in_repeat, in_try, in_handler, in_cleanup, inside, Stopped, asking, asleep, waiting_for, awaiting, at_end}
+use Rattle.job_meaning.specs.Rest.{Event, noted, signs, enters, acts, starts, starts_over, consecutive, Frame, steps_left, in_scope, in_event, with_token, with_part, in_nursery, in_repeat, in_try, in_handler, in_cleanup, inside, Stopped, asking, asleep, waiting_for, queued, giving_up, awaiting, at_end}
 use Rattle.job_meaning.specs.Asking.{shows, needs, paces}
 use Rattle.job_meaning.specs.Asking as ask
 use Rattle.turn_semantics.specs.Midway.{Place, label_among, stack_at, Midway, Begun, Move, after_move, no_move, then_move, now_after}
@@ -74,6 +76,22 @@ abbrev pub waits_on : Option Label → List ℕ → ℕ → List Frame → List 
 waits_on None name t fs ps = onward fs ps None
 waits_on (Some l) name t fs ps = blocks_on (waiting_for name t) fs ps
 
+-- A task that sees a cancellation, its own of this moment too, does not ask: it raises as a checkpoint does that is cancelled.
+abbrev pub asks_if : Clock → (seen_now : Bool) → List ℕ → Ask → ℕ → Steps → List Frame → List Place → Move
+asks_if clock false name ask t body fs ps = blocks_on (queued name ask t body) fs ps
+asks_if by_ticks true name ask t body fs ps = onward fs ps (Some cancelled)
+asks_if by_rounds true name ask t body fs ps = blocks_on (giving_up (suc t)) fs ps
+
+-- a task asks something of a limiter or channel of this name that encloses it
+abbrev pub asks_of : Clock → Option Label → (seen_now : Bool) → List ℕ → Ask → ℕ → Steps → List Frame → List Place → Move
+asks_of clock None seen_now name ask t body fs ps = onward fs ps None
+asks_of clock (Some l) seen_now name ask t body fs ps = asks_if clock seen_now name ask t body fs ps
+
+-- an act on a limiter or channel
+abbrev pub acts_on : Option Label → ℕ → Act → List Event
+acts_on None t a = []
+acts_on (Some l) t a = acts l t a ∷ []
+
 -- the innermost scope or nursery
 abbrev pub home_among : List Place → Option Label
 home_among [] = None
@@ -113,6 +131,17 @@ abbrev pub enters_event : Label → ℕ → Steps → List Frame → List Place 
 enters_event label t body fs ps =
     makes (enters label t None ∷ []) (steps_left body ∷ in_event ∷ fs) (record { label = label; shield = false; is_event = true } ∷ ps)
 
+-- a limiter or channel is opened and entered: its body comes first
+abbrev pub enters_object : Label → ObjectKind → ℕ → Steps → List Frame → List Place → Move
+enters_object label kind t body fs ps =
+    makes (acts label t (opens kind) ∷ enters label t None ∷ []) (steps_left body ∷ in_event ∷ fs)
+    (record { label = label; shield = false; is_event = true } ∷ ps)
+
+-- a block that has a token has ended, and the token comes back
+abbrev pub gives_token_back : Label → ℕ → List Frame → List Place → Option Exc → Move
+gives_token_back label t fs ps exc =
+    record { frames = fs; places = ps; exc = exc; made = acts label t gives_back ∷ []; begun = []; stopped = None }
+
 -- the first pass of a `repeat`, if it has one, before what comes after it
 abbrev pub begins_passes : ℕ → (over : Bool) → Steps → List Frame → List Place → Move
 begins_passes zero over body fs ps = onward fs ps None
@@ -133,12 +162,18 @@ step_on cancelled_from now here (raise name) ss fs ps count = onward (steps_left
 step_on cancelled_from now here (cancel name) ss fs ps count = makes (signs_to (label_among false name ps) now.at) (steps_left ss ∷ fs) ps
 step_on cancelled_from now here (set_event name) ss fs ps count = makes (signs_to (label_among true name ps) now.at) (steps_left ss ∷ fs) ps
 step_on cancelled_from now here (wait_for name) ss fs ps count = waits_on (label_among true name ps) name now.at (steps_left ss ∷ fs) ps
+step_on cancelled_from now here (ask_for name ask body) ss fs ps count =
+    asks_of here.clock (label_among true name ps) (seen (stack_for now.own now.at (stack_at cancelled_from ps).scopes) now.at) name ask now.at body
+    (steps_left ss ∷ fs) ps
+step_on cancelled_from now here (close_channel name) ss fs ps count = makes (acts_on (label_among true name ps) now.at closes) (steps_left ss ∷ fs) ps
 step_on cancelled_from now here (scope name deadline shield fail body) ss fs ps count =
     enters_block (label_here name here) shield (due here.clock deadline now.at) now.at body (in_scope fail) (steps_left ss ∷ fs) ps
 step_on cancelled_from now here (nursery name deadline shield body) ss fs ps count =
     enters_block (label_here name here) shield (due here.clock deadline now.at) now.at body (in_nursery []) (steps_left ss ∷ fs) ps
 step_on cancelled_from now here (event name body) ss fs ps count =
     enters_event (label_here name here) now.at body (steps_left ss ∷ fs) ps
+step_on cancelled_from now here (object name kind body) ss fs ps count =
+    enters_object (label_here name here) kind now.at body (steps_left ss ∷ fs) ps
 step_on cancelled_from now here (start name None body) ss fs ps count =
     record {
       frames = steps_left ss ∷ with_started (count ∷ []) fs;
@@ -208,6 +243,8 @@ step_frames cancelled_from now here [] ps exc count = ends_as (at_end now.at exc
 step_frames cancelled_from now here (steps_left ss ∷ fs) ps exc count = step_steps cancelled_from now here ss fs ps exc count
 step_frames cancelled_from now here (in_scope fail ∷ fs) (p ∷ ps) exc count = leaves here.clock cancelled_from now (a_scope fail) fs p ps exc
 step_frames cancelled_from now here (in_event ∷ fs) (p ∷ ps) exc count = onward fs ps exc
+step_frames cancelled_from now here (with_token limiter ∷ fs) ps exc count = gives_token_back limiter now.at fs ps exc
+step_frames cancelled_from now here (with_part received ∷ fs) ps exc count = onward fs ps exc
 step_frames cancelled_from now here (in_nursery children ∷ fs) (p ∷ ps) exc count = ends_as (awaiting children now.at exc) exc now.at fs (p ∷ ps)
 step_frames cancelled_from now here (in_repeat pass left cuts body ∷ fs) ps exc count = step_pass pass left cuts body fs ps exc
 step_frames cancelled_from now here (in_try handler cleanup ∷ fs) ps exc count = step_try handler cleanup fs ps exc

@@ -1,18 +1,18 @@
 -- What a turn promises of a task: its result is the same as before, and what it did, began and left.
-use Rattle.std.specs.Prelude.{◌≡◌, ◌⊎◌, ℕ, suc, ◌+◌, ◌<◌, Bool, false, Option, Some, None, List, [], ◌∷◌, length}
+use Rattle.std.specs.Prelude.{◌≡◌, ◌⊎◌, ℕ, suc, ◌+◌, ◌<◌, ◌≤◌, Bool, false, Option, Some, None, List, [], ◌∷◌, length}
 use Rattle.exceptions.specs.Exceptions.{Label}
 use Rattle.cancel_scopes.specs.Sight.{Tick, earlier, seen}
-use Rattle.job_meaning.specs.Log.{Log, nil, entry, sign, entered, task, Result, Table, same_label, tick_if}
+use Rattle.job_meaning.specs.Log.{Act, opens, asks, gives_back, closes, Log, nil, entry, sign, entered, act, task, Result, Table, same_label, tick_if}
 use Rattle.job_meaning.specs.Moments.{a_round_after, Now}
 use Rattle.job_meaning.specs.declared.clock.Clock.{Clock}
 use Rattle.job_meaning.specs.declared.clock.Clock.TheVariants.{ByTicks as by_ticks, ByRounds as by_rounds}
-use Rattle.job_meaning.specs.Walk.{by_table, Here}
+use Rattle.job_meaning.specs.Walk.{Here}
 use Rattle.job_meaning.specs.Before.{upto}
 use Rattle.job_tree.specs.Starting.{StartsIn}
-use Rattle.job_meaning.specs.Rest.{Event, noted, signs, enters, starts, ChildOutcomes, fill, Frame, Stopped, to_begin, asking, asleep, waiting_for, giving_up, awaiting, at_end, Rest, rest_comes_to, rest_at_start, rest_weight, frames_weight, stop_weight, inside}
+use Rattle.job_meaning.specs.Rest.{Event, noted, signs, enters, acts, starts, ChildOutcomes, fill, Frame, Stopped, to_begin, asking, asleep, waiting_for, queued, giving_up, awaiting, at_end, Rest, rest_comes_to, rest_at_start, rest_weight, frames_weight, stop_weight, inside}
 use Rattle.turn_semantics.specs.Lists.{Each, Exists, IsAmong}
 use Rattle.turn_semantics.specs.Made.{EnteredLabel, SignedLabel, StartedChild, entered_in, signed_in, started_in, labels_entered}
-use Rattle.turn_semantics.specs.Midway.{Place, stack_at, Midway, Begun, Move, OwnFits, after_events, left_of, left_after, begun_comes_to}
+use Rattle.turn_semantics.specs.Midway.{Place, Tables, by_tables, stack_at, Midway, Begun, Move, OwnFits, after_events, left_of, left_after, begun_comes_to}
 use Rattle.turn_semantics.specs.Placed.{PlacedAfter, outer_places, home_after, KidsAfter, HasChild, HasChildAfter, AllHoused}
 use Rattle.turn_semantics.specs.Wakes.{Wake, WakesBy}
 use Rattle.turn_semantics.specs.Steps.{cancelled_from_after}
@@ -30,6 +30,7 @@ AgreesIn t table nil = Unit {0}
 AgreesIn t table (entry u e rest) = AgreesIn t table rest
 AgreesIn t table (sign l u rest) = AgreesIn t table rest
 AgreesIn t table (entered l u d rest) = (upto (suc t) (table l) ≡ upto (suc t) d) × AgreesIn t table rest
+AgreesIn t table (act l u a rest) = AgreesIn t table rest
 AgreesIn t table (task l s u e own rest) = AgreesIn t table rest
 
 -- A table agrees at tick t with the deadlines of these labels that a move enters; or with those of all labels that the task
@@ -38,7 +39,7 @@ abbrev pub AgreesAhead : ℕ → Table → Log → Log → Type 0
 AgreesAhead t table made ahead = AgreesIn t table made ⊎ AgreesIn t table ahead
 
 -- what is recorded of each child begun in moment t is the result of following the table from its start
-abbrev pub AreOutcomes : ℕ → Table → ChildOutcomes → List Begun → Type 0
+abbrev pub AreOutcomes : ℕ → Tables → ChildOutcomes → List Begun → Type 0
 AreOutcomes t table outcomes bs = Each (λ (b : Begun). outcomes b.number ≡ begun_comes_to table t b) bs
 
 -- ---- what was made
@@ -61,13 +62,19 @@ known_with ls (l ∷ others) = known_with (l ∷ ls) others
 abbrev pub known_after : List Label → List Event → List Label
 known_after ls es = known_with ls (labels_entered es)
 
--- each event is in moment t, but for the start of a child, which begins a round later; and each sign is for a label that was known
--- then: of a scope or nursery that enclosed the task before, or that was entered since
+-- an act is in moment t; of who asked it is known in t whether it was granted, or left the queue
+abbrev pub ActAt : ℕ → Act → ℕ → Type 0
+ActAt t (asks ask part left) u = u ≤ t
+ActAt t _ u = u ≡ t
+
+-- each event is in moment t, but for the start of a child, which begins a round later, and for what was asked before; and each sign is for
+-- a label that was known then: of a scope or nursery that enclosed the task before, or that was entered since
 abbrev pub MadeAt : Clock → ℕ → List Label → List Event → Type 0
 MadeAt clock t ls [] = Unit {0}
 MadeAt clock t ls (noted u e ∷ es) = (u ≡ t) × MadeAt clock t ls es
 MadeAt clock t ls (signs l u ∷ es) = (u ≡ t) × IsAmong l ls × MadeAt clock t ls es
 MadeAt clock t ls (enters l u d ∷ es) = (u ≡ t) × MadeAt clock t (l ∷ ls) es
+MadeAt clock t ls (acts l u a ∷ es) = ActAt t a u × MadeAt clock t ls es
 MadeAt clock t ls (starts i l u ∷ es) = (u ≡ a_round_after clock t) × MadeAt clock t ls es
 
 -- the children begun are those that were started, in order, and numbered consecutively from n
@@ -125,7 +132,8 @@ StopsAt clock t cancelled_from (Some to_begin) ps = ⊥
 StopsAt clock t cancelled_from (Some (asking kernel purpose)) ps = Unit {0}
 StopsAt clock t cancelled_from (Some (asleep paced n since)) ps = (since ≡ t) × FallsAsleep clock n (seen (stack_at cancelled_from ps).scopes t)
 StopsAt clock t cancelled_from (Some (waiting_for event since)) ps = since ≡ t
-StopsAt clock t cancelled_from (Some (giving_up since)) ps = since ≡ t
+StopsAt clock t cancelled_from (Some (queued object ask since body)) ps = since ≡ t
+StopsAt clock t cancelled_from (Some (giving_up since)) ps = (since ≡ t) ⊎ (since ≡ suc t)
 StopsAt clock t cancelled_from (Some (awaiting children ended e)) ps = ended ≡ t
 StopsAt clock t cancelled_from (Some (at_end u e)) ps = u ≡ t
 
@@ -149,8 +157,8 @@ pub record TurnContext : Type 1 where
   pub now : Now
   pub here : Here
   pub cancelled_from : Table
-  pub Given : Table → ChildOutcomes → Type 0
-  pub before : Table → ChildOutcomes → Result
+  pub Given : Tables → ChildOutcomes → Type 0
+  pub before : Tables → ChildOutcomes → Result
   pub bound : ℕ
   pub stopped : Option Stopped
   pub frames : List Frame
@@ -164,8 +172,8 @@ pub record Turned (c : TurnContext) (o : Move) : Type 0 where
   -- results in the events made, followed by the result of what is left after the move. Of the table this requires only that it
   -- agrees in the moment with the moments of cancellation after the move: for others a sign takes effect from the next moment on.
   pub keeps :
-      (table : Table) (outcomes : ChildOutcomes) → c.Given table outcomes → AgreesOn c.now.at table c.cancelled_from c.places →
-      AgreesAhead c.now.at table (fill outcomes o.made) (c.before table outcomes).log →
+      (table : Tables) (outcomes : ChildOutcomes) → c.Given table outcomes → AgreesOn c.now.at table.cancelled_from c.cancelled_from c.places →
+      AgreesAhead c.now.at table.cancelled_from (fill outcomes o.made) (c.before table outcomes).log →
       AreOutcomes (a_round_after c.here.clock c.now.at) table outcomes o.begun → c.before table outcomes ≡ after_events outcomes o.made (left_after table outcomes c.here c.now o)
   -- the frames that are left fit the enclosing scopes and nurseries
   pub placed : PlacedAfter o.stopped o.frames o.places
@@ -219,7 +227,7 @@ TurnsOver u now here cancelled_from w rest ps count o =
       here = here;
       cancelled_from = cancelled_from;
       Given = λ table outcomes. WakesBy table outcomes (inside rest.frames here) u now w rest.stopped ps;
-      before = λ table outcomes. rest_comes_to (by_table table) outcomes rest here (stack_at table ps) u;
+      before = λ table outcomes. rest_comes_to (by_tables table) outcomes rest here (stack_at table.cancelled_from ps) u;
       bound = rest_weight rest;
       stopped = Some rest.stopped;
       frames = rest.frames;

@@ -3,6 +3,7 @@ use Rattle.std.specs.Prelude.{◌≡◌, ℕ, true, false, None, Some, List, [],
 use Rattle.job_tree.specs.Tree.{Step, sleep, checkpoint, find, raise, cancel, set_event, wait_for, stop}
 use Rattle.exceptions.specs.Exceptions.{cancelled}
 use Rattle.job_meaning.specs.Log.{Result, nil, entry, sign, entered, Table, line, waited, scope_left, nursery_left}
+use Rattle.job_meaning.specs.Sharing.{no_grants}
 use Rattle.job_meaning.specs.Moments.{only_at}
 use Rattle.job_meaning.specs.declared.clock.Clock.TheVariants.{ByTicks as by_ticks}
 use Rattle.job_meaning.specs.Walk.{by_table, walk, and_then, sleep_result, lines_result, need_result, cancel_result, block, with_sign, nursery_result, child, handler_result, cleanup_result, Here, here_in}
@@ -179,7 +180,7 @@ wait_is_noted = refl
 -- the result of `main` by a table in which each label is cancelled from tick 1 on, with nothing recorded of children
 unfoldable pub final_result_of : List Event → Rest → List Place → Result
 unfolding finish walk and_then sleep_result lines_result need_result cancel_result block with_sign nursery_result child handler_result cleanup_result
-final_result_of made rest ps = task_comes_to (by_table (λ l. Some 1)) no_outcomes made rest (main_at []) (stack_at (λ l. Some 1) ps) (only_at 0)
+final_result_of made rest ps = task_comes_to (by_table (λ l. Some 1) no_grants) no_outcomes made rest (main_at []) (stack_at (λ l. Some 1) ps) (only_at 0)
 
 -- it is cancelled in tick 1, and the scope catches that
 abbrev pub caught_at_one : Result
