@@ -10,7 +10,8 @@ use Rattle.job_meaning.specs.declared.clock.Clock.TheVariants.{ByTicks as by_tic
 use Rattle.job_meaning.specs.Walk.{Levels, Stack, from_for, stack_for, wait_by_sight, sleep_result, pace_result, raised_at, done_at, label_on, label_if, event_on, level_if, home_of}
 use Rattle.job_meaning.specs.Before.{upto, Near}
 use Rattle.job_meaning.proofs.Clips.{upto_most, upto_earlier, seen_near}
-use Rattle.job_meaning.proofs.Causality.{from_for_near, stack_for_near, catches_near}
+use Rattle.job_meaning.proofs.Causality.{catches_near}
+use Rattle.job_meaning.proofs.OwnSight.{from_for_near, stack_for_near}
 use Rattle.job_meaning.proofs.Distinct.{same_label_equal, same_label_itself}
 use Rattle.turn_semantics.specs.Midway.{Place, label_among, level_on, stack_at}
 use Rattle.turn_semantics.specs.Steps.{home_among, cancelled_from_after_sign, from_lowered_if, cancelled_from_after_entry, from_entered_if}
@@ -35,6 +36,13 @@ pub seen_alike : (t : ℕ) (table cancelled_from : Table) (ps : List Place) → 
     seen (stack_at table ps).scopes t ≡ seen (stack_at cancelled_from ps).scopes t
 seen_alike t table cancelled_from ps a =
     seen_near (suc t) (stack_at table ps).scopes (stack_at cancelled_from ps).scopes t (near_stacks t table cancelled_from ps a).0 (omega arith)
+
+-- by a task that has cancelled some labels too
+pub own_seen_alike : (own : List Label) (t : ℕ) (table cancelled_from : Table) (ps : List Place) → AgreesOn t table cancelled_from ps →
+    seen (stack_for own t (stack_at table ps).scopes) t ≡ seen (stack_for own t (stack_at cancelled_from ps).scopes) t
+own_seen_alike own t table cancelled_from ps a =
+    seen_near (suc t) (stack_for own t (stack_at table ps).scopes) (stack_for own t (stack_at cancelled_from ps).scopes) t
+    (stack_for_near (suc t) own t (stack_at table ps).scopes (stack_at cancelled_from ps).scopes (near_stacks t table cancelled_from ps a).0) (omega arith)
 
 -- and the innermost enclosing scope or nursery catches in the same way, for a task that has cancelled some labels
 pub catches_alike : (own : List Label) (t : ℕ) (table cancelled_from : Table) (p : Place) (ps : List Place) → AgreesOn t table cancelled_from (p ∷ ps) →

@@ -7,7 +7,7 @@ use Rattle.exceptions.specs.Exceptions.{Label}
 use Rattle.cancel_scopes.specs.Sight.{Tick, earlier, next}
 use Rattle.job_meaning.specs.Log.{Table, same_label, tick_if, from_by}
 use Rattle.job_meaning.specs.declared.clock.Clock.{Clock}
-use Rattle.job_meaning.specs.Rest.{Event, noted, signs, enters, starts}
+use Rattle.job_meaning.specs.Rest.{Event, noted, signs, enters, acts, starts}
 use Rattle.job_meaning.proofs.Touched.{earlier_never}
 use Rattle.job_meaning.proofs.Distinct.{same_label_equal, same_label_itself}
 use Rattle.turn_semantics.specs.Steps.{cancelled_from_after_sign, from_lowered_if, cancelled_from_after_entry, from_entered_if, cancelled_from_after}
@@ -53,6 +53,7 @@ from_lowered (signs m t ∷ es) cancelled_from l h = from_lowered es (cancelled_
 from_lowered (enters m t d ∷ es) cancelled_from l h =
     from_lowered es (cancelled_from_after_entry cancelled_from m d) l (λ i. h (inr i))
     ∙ ap (λ (b : Bool). from_by (from_entered_if b d (cancelled_from l)) (made_sign l es)) (same_differs l m (λ e. h (inl e)))
+from_lowered (acts m t done ∷ es) cancelled_from l h = from_lowered es cancelled_from l h
 from_lowered (starts i m t ∷ es) cancelled_from l h = from_lowered es cancelled_from l h
 
 -- the from of a label that was entered once, and was not known before, is its deadline, lowered likewise
@@ -77,6 +78,7 @@ from_opened clock t (enters m u c ∷ es) ls cancelled_from l d a k (inr o) = fr
     new : IsAmong l (m ∷ ls) → ⊥
     new (inl e) = o.0 e
     new (inr i) = k i
+from_opened clock t (acts m u done ∷ es) ls cancelled_from l d a k o = from_opened clock t es ls cancelled_from l d a.1 k o
 from_opened clock t (starts i m u ∷ es) ls cancelled_from l d a k o = from_opened clock t es ls cancelled_from l d a.1 k o
 
 -- a sign that was made now is of this moment
@@ -90,6 +92,7 @@ signed_now clock t (signs m v ∷ es) ls l u a e = by_sign (same_label l m) (mad
     by_sign true None h e = let f : v ≡ u = cc in sym f ∙ a.0
     by_sign true (Some w) h e = let i = h w refl in let j = a.0 in grind (arith, nat_tests)
 signed_now clock t (enters m v d ∷ es) ls l u a e = signed_now clock t es (m ∷ ls) l u a.1 e
+signed_now clock t (acts m v done ∷ es) ls l u a e = signed_now clock t es ls l u a.1 e
 signed_now clock t (starts i m v ∷ es) ls l u a e = signed_now clock t es ls l u a.1 e
 
 -- and there is one only for a label that was known, or was entered
@@ -105,4 +108,5 @@ unsigned clock t (enters m v d ∷ es) ls l a k h = unsigned clock t es (m ∷ l
     new : IsAmong l (m ∷ ls) → ⊥
     new (inl e) = h (inl e)
     new (inr i) = k i
+unsigned clock t (acts m v done ∷ es) ls l a k h = unsigned clock t es ls l a.1 k h
 unsigned clock t (starts i m v ∷ es) ls l a k h = unsigned clock t es ls l a.1 k h

@@ -3,23 +3,25 @@ use Rattle.std.proofs.Common.{◌≡◌, inl, inr, ℕ, zero, suc, ◌+◌, ◌-
 use Rattle.std.specs.Prelude.{is_some}
 use Rattle.std.specs.Str.{bytes_eq}
 use Rattle.turn_semantics.specs.Lists.{IsAmong}
-use Rattle.job_tree.specs.Tree.{Step, sleep, checkpoint, forever, pace, find, head, longest, need, raise, cancel, set_event, wait_for, scope, nursery, event, start, repeat, attempt, Steps, stop, step, Handled, unhandled, except, Cleaned, uncleaned, finally}
+use Rattle.job_tree.specs.Tree.{Step, sleep, checkpoint, forever, pace, find, head, longest, need, raise, cancel, set_event, wait_for, ask_for, close_channel, scope, nursery, event, object, start, repeat, attempt, Steps, stop, step, Handled, unhandled, except, Cleaned, uncleaned, finally}
 use Rattle.job_tree.specs.Names.{size_of}
+use Rattle.job_tree.specs.declared.object.Ask.{Ask}
+use Rattle.job_tree.specs.declared.object.ObjectKind.{ObjectKind}
 use Rattle.job_tree.specs.Starting.{starts_in_pass, StartsIn, StartsAt, HandlerStarts, CleanupStarts}
 use Rattle.input_lines.specs.Cuts.{cut_of}
 use Rattle.exceptions.specs.Exceptions.{Label, Exc, cancelled}
 use Rattle.exceptions.specs.Split.{named, keep, drop}
 use Rattle.cancel_scopes.specs.Sight.{Tick, seen}
-use Rattle.job_meaning.specs.Log.{Table}
+use Rattle.job_meaning.specs.Log.{closes, Table}
 use Rattle.job_meaning.specs.Moments.{tick_of, a_round_after, due, Now, far}
 use Rattle.job_meaning.specs.declared.clock.Clock.{Clock}
 use Rattle.job_meaning.specs.declared.clock.Clock.TheVariants.{ByTicks as by_ticks, ByRounds as by_rounds}
-use Rattle.job_meaning.specs.Walk.{Here, here_in, label_here, label_over, label_if, Kind, a_scope}
-use Rattle.job_meaning.specs.Rest.{Event, starts, starts_over, sleep_weight, consecutive, Frame, steps_left, in_scope, in_event, in_nursery, in_repeat, in_try, in_handler, in_cleanup, inside, asking, asleep, frames_weight}
+use Rattle.job_meaning.specs.Walk.{Here, stack_for, here_in, label_here, label_over, label_if, Kind, a_scope}
+use Rattle.job_meaning.specs.Rest.{Event, starts, starts_over, sleep_weight, consecutive, Frame, steps_left, in_scope, in_event, with_token, with_part, in_nursery, in_repeat, in_try, in_handler, in_cleanup, inside, asking, asleep, frames_weight}
 use Rattle.job_meaning.specs.Asking.{Kernel, Purpose, Suits, shows, needs, paces}
 use Rattle.job_meaning.specs.Asking as ask
 use Rattle.turn_semantics.specs.Midway.{Place, is_of_kind, label_among, stack_at, Midway, Begun, Move}
-use Rattle.turn_semantics.specs.Steps.{cancelled_from_after, onward, blocks_on, makes, falls_asleep, sleeps, signs_to, waits_on, home_among, signs_home, with_started, begun_one, begun_over, enters_block, enters_event, step_on, step_steps, leaves, handler_if, step_try, step_frames, step_of, begins_passes, step_pass}
+use Rattle.turn_semantics.specs.Steps.{cancelled_from_after, onward, blocks_on, makes, falls_asleep, sleeps, signs_to, waits_on, asks_if, asks_of, acts_on, home_among, signs_home, with_started, begun_one, begun_over, enters_block, enters_event, enters_object, gives_token_back, step_on, step_steps, leaves, handler_if, step_try, step_frames, step_of, begins_passes, step_pass}
 use Rattle.turn_semantics.specs.Placed.{in_body, Placed, IsSome, PlacedAfter, home_places, home_after}
 use Rattle.turn_semantics.specs.Turned.{labels_of, AllKnown, known_after, MadeAt, Starts, BegunIn, AllBy, FallsAsleep, StopsAt, weight_of_stop, weight_of_begun}
 use Rattle.turn_semantics.proofs.Events.{all_own, all_grow, known_stays, begun_append, clocks_append, made_append, starts_append, weight_append}
@@ -218,6 +220,109 @@ waits_case clock t cancelled_from name w home fs ps count p h le = by_label (lab
           weight = omega arith;
         }
 
+-- the case of a step that asks something of a limiter or channel
+queues_case : (clock : Clock) (t : ℕ) (cancelled_from : Table) (b : Bool) (name : List ℕ) (ask : Ask) (body : Steps) (w : ℕ) (home : List Place)
+    (fs : List Frame) (ps : List Place) (count : ℕ) → StartsIn false body → Placed fs ps → home_places fs ps ≡ home →
+    1 + 2 * size_of body + frames_weight fs ≤ w → Case clock t cancelled_from w home ps count (asks_of clock (label_among true name ps) b name ask t body fs ps)
+queues_case clock t cancelled_from b name ask body w home fs ps count s p h le = by_label (label_among true name ps) refl
+  where
+    found : (o : Option Label) → label_among true name ps ≡ o → IsSome o → IsSome (label_among true name ps)
+    found o e i = subst (λ (x : Option Label). IsSome x) (sym e) i
+
+    by_seen : (clock : Clock) (b : Bool) → IsSome (label_among true name ps) → Case clock t cancelled_from w home ps count (asks_if clock b name ask t body fs ps)
+    by_seen by_ticks true i = onward_case by_ticks t cancelled_from w home fs ps (Some cancelled) count p h (omega arith)
+    by_seen by_rounds true i =
+        record {
+          placed = p;
+          at_home = h;
+          made_now = tt;
+          places = all_own ps;
+          starts_made = tt;
+          begun_in = tt;
+          clocks = tt;
+          stops = inr refl;
+          weight = omega arith;
+        }
+    by_seen by_ticks false i =
+        record {
+          placed = (i, s, p);
+          at_home = h;
+          made_now = tt;
+          places = all_own ps;
+          starts_made = tt;
+          begun_in = tt;
+          clocks = tt;
+          stops = refl;
+          weight = omega arith;
+        }
+    by_seen by_rounds false i =
+        record {
+          placed = (i, s, p);
+          at_home = h;
+          made_now = tt;
+          places = all_own ps;
+          starts_made = tt;
+          begun_in = tt;
+          clocks = tt;
+          stops = refl;
+          weight = omega arith;
+        }
+
+    by_label : (o : Option Label) → label_among true name ps ≡ o → Case clock t cancelled_from w home ps count (asks_of clock o b name ask t body fs ps)
+    by_label None e = onward_case clock t cancelled_from w home fs ps None count p h (omega arith)
+    by_label (Some l) e = by_seen clock b (found (Some l) e tt)
+
+-- the case of a step that closes a channel, if there is one
+closes_case : (clock : Clock) (t : ℕ) (cancelled_from : Table) (o : Option Label) (w : ℕ) (home : List Place) (fs : List Frame) (ps : List Place) (count : ℕ) →
+    Placed fs ps → home_places fs ps ≡ home → frames_weight fs ≤ w → Case clock t cancelled_from w home ps count (makes (acts_on o t closes) fs ps)
+closes_case clock t cancelled_from None w home fs ps count p h le = onward_case clock t cancelled_from w home fs ps None count p h le
+closes_case clock t cancelled_from (Some l) w home fs ps count p h le =
+    record {
+      placed = p;
+      at_home = h;
+      made_now = (refl, tt);
+      places = all_own ps;
+      starts_made = tt;
+      begun_in = tt;
+      clocks = tt;
+      stops = tt;
+      weight = omega arith;
+    }
+
+-- the case of a step that opens a limiter or channel, and enters it
+object_case : (clock : Clock) (t : ℕ) (cancelled_from : Table) (label : Label) (kind : ObjectKind) (body : Steps) (w : ℕ) (home : List Place)
+    (fs : List Frame) (ps : List Place) (count : ℕ) → StartsIn false body → Placed fs ps → home_places fs ps ≡ home →
+    frames_weight (steps_left body ∷ in_event ∷ fs) ≤ w → Case clock t cancelled_from w home ps count (enters_object label kind t body fs ps)
+object_case clock t cancelled_from label kind body w home fs ps count b p h le =
+    record {
+      placed = (b, (refl, p));
+      at_home = h;
+      made_now = (refl, (refl, tt));
+      places = (inl refl, all_grow (labels_of ps) (label ∷ labels_of ps) (λ l k. inr k) ps (all_own ps));
+      starts_made = tt;
+      begun_in = tt;
+      clocks = tt;
+      stops = tt;
+      weight = omega arith;
+    }
+
+-- a token that is given back
+token_case : (clock : Clock) (t : ℕ) (cancelled_from : Table) (limiter : Label) (fs : List Frame) (ps : List Place) (exc : Option Exc) (count : ℕ) →
+    Placed fs ps →
+    Case clock t cancelled_from (frames_weight (with_token limiter ∷ fs)) (home_places fs ps) ps count (gives_token_back limiter t fs ps exc)
+token_case clock t cancelled_from limiter fs ps exc count p =
+    record {
+      placed = p;
+      at_home = refl;
+      made_now = (refl, tt);
+      places = all_own ps;
+      starts_made = tt;
+      begun_in = tt;
+      clocks = tt;
+      stops = tt;
+      weight = omega arith;
+    }
+
 -- the case of a step that enters an event
 event_case : (clock : Clock) (t : ℕ) (cancelled_from : Table) (label : Label) (body : Steps) (w : ℕ) (home : List Place) (fs : List Frame) (ps : List Place)
     (count : ℕ) → StartsIn false body → Placed fs ps → home_places fs ps ≡ home → frames_weight (steps_left body ∷ in_event ∷ fs) ≤ w →
@@ -277,6 +382,8 @@ body_started more (in_nursery children ∷ fs) = refl
 body_started more (steps_left ss ∷ fs) = body_started more fs
 body_started more (in_scope fail ∷ fs) = refl
 body_started more (in_event ∷ fs) = refl
+body_started more (with_token limiter ∷ fs) = refl
+body_started more (with_part received ∷ fs) = refl
 body_started more (in_repeat pass left cuts again ∷ fs) = ap (starts_in_pass (is_some cuts)) (body_started more fs)
 body_started more (in_try handler cleanup ∷ fs) = refl
 body_started more (in_handler rest cleanup ∷ fs) = refl
@@ -291,6 +398,8 @@ placed_started more (steps_left ss ∷ fs) ps p =
     (subst (λ (x : Bool). StartsIn x ss) (sym (body_started more fs)) p.0, placed_started more fs ps p.1)
 placed_started more (in_scope fail ∷ fs) ps p = p
 placed_started more (in_event ∷ fs) ps p = p
+placed_started more (with_token limiter ∷ fs) ps p = p
+placed_started more (with_part received ∷ fs) ps p = p
 placed_started more (in_repeat pass left cuts again ∷ fs) ps p =
     (subst (λ (x : Bool). StartsIn (starts_in_pass (is_some cuts) x) again) (sym (body_started more fs)) p.0, placed_started more fs ps p.1)
 placed_started more (in_try handler cleanup ∷ fs) ps p = p
@@ -304,6 +413,8 @@ home_started more (in_nursery children ∷ fs) (p ∷ ps) = refl
 home_started more (steps_left ss ∷ fs) ps = home_started more fs ps
 home_started more (in_scope fail ∷ fs) ps = refl
 home_started more (in_event ∷ fs) ps = refl
+home_started more (with_token limiter ∷ fs) ps = refl
+home_started more (with_part received ∷ fs) ps = refl
 home_started more (in_repeat pass left cuts again ∷ fs) ps = home_started more fs ps
 home_started more (in_try handler cleanup ∷ fs) ps = refl
 home_started more (in_handler rest cleanup ∷ fs) ps = refl
@@ -315,6 +426,8 @@ weight_started more (in_nursery children ∷ fs) = refl
 weight_started more (steps_left ss ∷ fs) = let e = weight_started more fs in omega arith
 weight_started more (in_scope fail ∷ fs) = refl
 weight_started more (in_event ∷ fs) = refl
+weight_started more (with_token limiter ∷ fs) = refl
+weight_started more (with_part received ∷ fs) = refl
 weight_started more (in_repeat pass left cuts again ∷ fs) = let e = weight_started more fs in omega arith
 weight_started more (in_try handler cleanup ∷ fs) = refl
 weight_started more (in_handler rest cleanup ∷ fs) = refl
@@ -465,6 +578,11 @@ step_case now cancelled_from here (set_event name) ss fs ps count a b p =
     signs_case here.clock now.at cancelled_from (label_among true name ps) _ _ (steps_left ss ∷ fs) ps count (found_among true name ps) (b, p) refl (omega arith)
 step_case now cancelled_from here (wait_for name) ss fs ps count a b p =
     waits_case here.clock now.at cancelled_from name _ _ (steps_left ss ∷ fs) ps count (b, p) refl (omega arith)
+step_case now cancelled_from here (ask_for name ask body) ss fs ps count a b p =
+    queues_case here.clock now.at cancelled_from (seen (stack_for now.own now.at (stack_at cancelled_from ps).scopes) now.at) name ask body _ _
+    (steps_left ss ∷ fs) ps count a (b, p) refl (omega arith)
+step_case now cancelled_from here (close_channel name) ss fs ps count a b p =
+    closes_case here.clock now.at cancelled_from (label_among true name ps) _ _ (steps_left ss ∷ fs) ps count (b, p) refl (omega arith)
 step_case now cancelled_from here (scope name d shield fail body) ss fs ps count a b p =
     enter_case here.clock now.at cancelled_from (label_here name here) shield (due here.clock d now.at) body (in_scope fail) _ _ (steps_left ss ∷ fs) ps count (a, (refl, (b, p))) refl
     (omega arith)
@@ -473,6 +591,8 @@ step_case now cancelled_from here (nursery name d shield body) ss fs ps count a 
     (omega arith)
 step_case now cancelled_from here (event name body) ss fs ps count a b p =
     event_case here.clock now.at cancelled_from (label_here name here) body _ _ (steps_left ss ∷ fs) ps count a (b, p) refl (omega arith)
+step_case now cancelled_from here (object name kind body) ss fs ps count a b p =
+    object_case here.clock now.at cancelled_from (label_here name here) kind body _ _ (steps_left ss ∷ fs) ps count a (b, p) refl (omega arith)
 step_case now cancelled_from here (start name over body) ss fs ps count a b p = start_case now cancelled_from here name over body ss fs ps count a.1 b p
 step_case now cancelled_from here (repeat n over body) ss fs ps count a b p =
     passes_case here.clock now.at cancelled_from n over body _ _ (steps_left ss ∷ fs) ps count a (b, p) refl (omega arith)
@@ -524,6 +644,8 @@ frames_case now cancelled_from here (in_scope fail ∷ fs) (q ∷ ps) exc count 
     leaves_case here.clock now cancelled_from (a_scope fail) _ _ fs q ps exc count p.1 refl (omega arith)
 frames_case now cancelled_from here (in_event ∷ fs) [] exc count p = absurd p
 frames_case now cancelled_from here (in_event ∷ fs) (q ∷ ps) exc count p = event_left_case here.clock now.at cancelled_from fs q ps exc count p.1
+frames_case now cancelled_from here (with_token limiter ∷ fs) ps exc count p = token_case here.clock now.at cancelled_from limiter fs ps exc count p
+frames_case now cancelled_from here (with_part received ∷ fs) ps exc count p = onward_case here.clock now.at cancelled_from _ _ fs ps _ count p refl (omega arith)
 frames_case now cancelled_from here (in_nursery children ∷ fs) [] exc count p = absurd p
 frames_case now cancelled_from here (in_nursery children ∷ fs) (q ∷ ps) exc count p =
     record {

@@ -1,6 +1,7 @@
 -- Every turn comes to a stop.
 use Rattle.std.proofs.Common.{◌≡◌, ℕ, zero, suc, ◌+◌, ◌-◌, ◌<◌, ◌≤◌, Bool, true, false, Option, Some, None, List, [], ◌∷◌, length, refl, sym, subst, arith, ◌*◌}
-use Rattle.job_tree.specs.Tree.{Step, sleep, checkpoint, forever, pace, find, head, longest, need, raise, cancel, set_event, wait_for, scope, nursery, event, start, repeat, attempt, Steps, stop, step, Handled, unhandled, except, Cleaned, uncleaned, finally}
+use Rattle.job_tree.specs.Tree.{Step, sleep, checkpoint, forever, pace, find, head, longest, need, raise, cancel, set_event, wait_for, ask_for, close_channel, scope, nursery, event, object, start, repeat, attempt, Steps, stop, step, Handled, unhandled, except, Cleaned, uncleaned, finally}
+use Rattle.job_tree.specs.declared.object.Ask.{Ask}
 use Rattle.exceptions.specs.Exceptions.{Label, Exc}
 use Rattle.exceptions.specs.Split.{named, keep, drop}
 use Rattle.cancel_scopes.specs.Sight.{seen}
@@ -8,10 +9,10 @@ use Rattle.job_meaning.specs.Log.{Table}
 use Rattle.job_meaning.specs.Moments.{tick_of, Now, far}
 use Rattle.job_meaning.specs.declared.clock.Clock.{Clock}
 use Rattle.job_meaning.specs.declared.clock.Clock.TheVariants.{ByTicks as by_ticks, ByRounds as by_rounds}
-use Rattle.job_meaning.specs.Walk.{Here}
-use Rattle.job_meaning.specs.Rest.{Frame, steps_left, in_scope, in_event, in_nursery, in_repeat, in_try, in_handler, in_cleanup, inside, consecutive, Stopped}
+use Rattle.job_meaning.specs.Walk.{Here, stack_for}
+use Rattle.job_meaning.specs.Rest.{Frame, steps_left, in_scope, in_event, with_token, with_part, in_nursery, in_repeat, in_try, in_handler, in_cleanup, inside, consecutive, Stopped}
 use Rattle.turn_semantics.specs.Midway.{Place, label_among, stack_at, Midway, Move, after_move, then_move, now_after}
-use Rattle.turn_semantics.specs.Steps.{sleeps, falls_asleep, waits_on, with_started, handler_if, step_try, step_on, step_steps, step_frames, step_of, cancelled_from_after, turn_of, begins_passes, step_pass}
+use Rattle.turn_semantics.specs.Steps.{sleeps, falls_asleep, waits_on, asks_of, with_started, handler_if, step_try, step_on, step_steps, step_frames, step_of, cancelled_from_after, turn_of, begins_passes, step_pass}
 use Rattle.turn_semantics.specs.Wakes.{Wake, wake_of, turn_from}
 use Rattle.turn_semantics.specs.Placed.{IsSome}
 use Rattle.turn_semantics.specs.Bound.{turn_length, frames_length}
@@ -36,6 +37,8 @@ length_started more (in_nursery children ∷ fs) = refl
 length_started more (steps_left ss ∷ fs) = let e = length_started more fs in omega arith
 length_started more (in_scope fail ∷ fs) = refl
 length_started more (in_event ∷ fs) = refl
+length_started more (with_token limiter ∷ fs) = refl
+length_started more (with_part received ∷ fs) = refl
 length_started more (in_repeat pass left cuts again ∷ fs) = let e = length_started more fs in omega arith
 length_started more (in_try handler cleanup ∷ fs) = refl
 length_started more (in_handler rest cleanup ∷ fs) = refl
@@ -56,6 +59,14 @@ module _ (now : Now) (cancelled_from : Table) (here : Here) where
       MoveShrinks before (waits_on o name t fs ps)
   shrinks_waits None name t before fs ps lt = lt
   shrinks_waits (Some l) name t before fs ps lt = tt
+
+  shrinks_asks : (clock : Clock) (o : Option Label) (b : Bool) (name : List ℕ) (ask : Ask) (t before : ℕ) (body : Steps) (fs : List Frame) (ps : List Place) →
+      frames_length fs < before → MoveShrinks before (asks_of clock o b name ask t body fs ps)
+  shrinks_asks clock None b name ask t before body fs ps lt = lt
+  shrinks_asks by_ticks (Some l) true name ask t before body fs ps lt = lt
+  shrinks_asks by_ticks (Some l) false name ask t before body fs ps lt = tt
+  shrinks_asks by_rounds (Some l) true name ask t before body fs ps lt = tt
+  shrinks_asks by_rounds (Some l) false name ask t before body fs ps lt = tt
 
   shrinks_passes : (n before : ℕ) (over : Bool) (body : Steps) (fs : List Frame) (ps : List Place) →
       n * (1 + turn_length body) + frames_length fs < before → MoveShrinks before (begins_passes n over body fs ps)
@@ -82,9 +93,14 @@ module _ (now : Now) (cancelled_from : Table) (here : Here) where
   shrinks_step at (cancel name) ss fs ps count = omega arith
   shrinks_step at (set_event name) ss fs ps count = omega arith
   shrinks_step at (wait_for name) ss fs ps count = shrinks_waits (label_among true name ps) name now.at _ (steps_left ss ∷ fs) ps (omega arith)
+  shrinks_step at (ask_for name ask body) ss fs ps count =
+      shrinks_asks at.clock (label_among true name ps) (seen (stack_for now.own now.at (stack_at cancelled_from ps).scopes) now.at) name ask now.at _ body
+      (steps_left ss ∷ fs) ps (omega arith)
+  shrinks_step at (close_channel name) ss fs ps count = omega arith
   shrinks_step at (scope name d shield fail body) ss fs ps count = omega arith
   shrinks_step at (nursery name d shield body) ss fs ps count = omega arith
   shrinks_step at (event name body) ss fs ps count = omega arith
+  shrinks_step at (object name kind body) ss fs ps count = omega arith
   shrinks_step at (start name None body) ss fs ps count = let e = length_started (count ∷ []) fs in omega arith
   shrinks_step at (start name (Some k) body) ss fs ps count = let e = length_started (consecutive count k) fs in omega arith
   shrinks_step at (repeat n over body) ss fs ps count = shrinks_passes n _ over body (steps_left ss ∷ fs) ps (omega arith)
@@ -116,6 +132,8 @@ module _ (now : Now) (cancelled_from : Table) (here : Here) where
   shrinks_frames (in_scope fail ∷ fs) (p ∷ ps) exc count = omega arith
   shrinks_frames (in_event ∷ fs) [] exc count = omega arith
   shrinks_frames (in_event ∷ fs) (p ∷ ps) exc count = omega arith
+  shrinks_frames (with_token limiter ∷ fs) ps exc count = omega arith
+  shrinks_frames (with_part received ∷ fs) ps exc count = omega arith
   shrinks_frames (in_nursery children ∷ fs) [] exc count = omega arith
   shrinks_frames (in_nursery children ∷ fs) (p ∷ ps) exc count = tt
   shrinks_frames (in_repeat pass left cuts body ∷ fs) ps exc count = shrinks_pass pass left cuts body fs ps exc

@@ -6,7 +6,7 @@ use Rattle.job_meaning.specs.Log.{Table}
 use Rattle.job_meaning.specs.declared.clock.Clock.{Clock}
 use Rattle.job_meaning.specs.declared.clock.Clock.TheVariants.{ByTicks as by_ticks, ByRounds as by_rounds}
 use Rattle.job_meaning.specs.Walk.{with_own}
-use Rattle.job_meaning.specs.Rest.{Event, noted, signs, enters, starts, ChildOutcomes, fill}
+use Rattle.job_meaning.specs.Rest.{Event, noted, signs, enters, acts, starts, ChildOutcomes, fill}
 use Rattle.turn_semantics.specs.Midway.{Place, Begun, own_after, OwnFits}
 use Rattle.turn_semantics.specs.Steps.{cancelled_from_after_sign, cancelled_from_after_entry, cancelled_from_after}
 use Rattle.turn_semantics.specs.Turned.{AgreesOn, AgreesIn, labels_of, AllKnown, known_after, MadeAt, Starts, BegunIn, AllBy, weight_of_begun}
@@ -24,6 +24,7 @@ known_stays l [] ls k = k
 known_stays l (noted t e ∷ es) ls k = known_stays l es ls k
 known_stays l (signs m t ∷ es) ls k = known_stays l es ls k
 known_stays l (enters m t d ∷ es) ls k = known_stays l es (m ∷ ls) (inr k)
+known_stays l (acts m t done ∷ es) ls k = known_stays l es ls k
 known_stays l (starts i m t ∷ es) ls k = known_stays l es ls k
 
 -- more labels known before, more after
@@ -37,6 +38,7 @@ known_grows ls ms h (enters m t d ∷ es) l k = known_grows (m ∷ ls) (m ∷ ms
     grown : (l : Label) → IsAmong l (m ∷ ls) → IsAmong l (m ∷ ms)
     grown l (inl e) = inl e
     grown l (inr k) = inr (h l k)
+known_grows ls ms h (acts m t done ∷ es) l k = known_grows ls ms h es l k
 known_grows ls ms h (starts i m t ∷ es) l k = known_grows ls ms h es l k
 
 -- labels known after events, and more of them
@@ -45,6 +47,7 @@ known_append [] fs ls = refl
 known_append (noted t e ∷ es) fs ls = known_append es fs ls
 known_append (signs m t ∷ es) fs ls = known_append es fs ls
 known_append (enters m t d ∷ es) fs ls = known_append es fs (m ∷ ls)
+known_append (acts m t done ∷ es) fs ls = known_append es fs ls
 known_append (starts i m t ∷ es) fs ls = known_append es fs ls
 
 -- each enclosing scope or nursery whose label was known is known where more labels are known
@@ -91,6 +94,7 @@ made_grows clock t ls ms h (enters m u d ∷ es) a = (a.0, made_grows clock t (m
     grown : (l : Label) → IsAmong l (m ∷ ls) → IsAmong l (m ∷ ms)
     grown l (inl e) = inl e
     grown l (inr k) = inr (h l k)
+made_grows clock t ls ms h (acts m u done ∷ es) a = (a.0, made_grows clock t ls ms h es a.1)
 made_grows clock t ls ms h (starts i l u ∷ es) a = (a.0, made_grows clock t ls ms h es a.1)
 
 -- events made, and more of them
@@ -99,6 +103,7 @@ made_append clock t [] fs ls a b = b
 made_append clock t (noted u e ∷ es) fs ls a b = (a.0, made_append clock t es fs ls a.1 b)
 made_append clock t (signs l u ∷ es) fs ls a b = (a.0, a.1, made_append clock t es fs ls a.2 b)
 made_append clock t (enters m u d ∷ es) fs ls a b = (a.0, made_append clock t es fs (m ∷ ls) a.1 b)
+made_append clock t (acts m u done ∷ es) fs ls a b = (a.0, made_append clock t es fs ls a.1 b)
 made_append clock t (starts i l u ∷ es) fs ls a b = (a.0, made_append clock t es fs ls a.1 b)
 
 -- ---- what a task has cancelled in this moment
@@ -110,6 +115,7 @@ own_append clock [] fs own = refl
 own_append clock (noted t e ∷ es) fs own = own_append clock es fs own
 own_append clock (signs l t ∷ es) fs own = own_append clock es fs (with_own clock (Some l) own)
 own_append clock (enters l t d ∷ es) fs own = own_append clock es fs own
+own_append clock (acts m t done ∷ es) fs own = own_append clock es fs own
 own_append clock (starts i l t ∷ es) fs own = own_append clock es fs own
 
 -- where moments are ticks, it stays none
@@ -121,6 +127,7 @@ own_fits by_ticks own es h = unchanged es own ∙ h
     unchanged (noted t e ∷ es) own = unchanged es own
     unchanged (signs l t ∷ es) own = unchanged es own
     unchanged (enters l t d ∷ es) own = unchanged es own
+    unchanged (acts m t done ∷ es) own = unchanged es own
     unchanged (starts i l t ∷ es) own = unchanged es own
 own_fits by_rounds own es h = tt
 
@@ -139,6 +146,7 @@ starts_append [] fs n (x ∷ bs) cs a b = absurd a
 starts_append (noted t e ∷ es) fs n bs cs a b = starts_append es fs n bs cs a b
 starts_append (signs m t ∷ es) fs n bs cs a b = starts_append es fs n bs cs a b
 starts_append (enters m t d ∷ es) fs n bs cs a b = starts_append es fs n bs cs a b
+starts_append (acts m t done ∷ es) fs n bs cs a b = starts_append es fs n bs cs a b
 starts_append (starts i l t ∷ es) fs n [] cs a b = absurd a
 starts_append (starts i l t ∷ es) fs n (x ∷ bs) cs a b =
     (a.0, a.1, a.2, starts_append es fs (suc n) bs cs a.3 (subst (λ (k : ℕ). Starts k fs cs) (moved n (length bs)) b))
@@ -159,6 +167,7 @@ cancelled_from_append [] fs cancelled_from = refl
 cancelled_from_append (noted t e ∷ es) fs cancelled_from = cancelled_from_append es fs cancelled_from
 cancelled_from_append (signs l t ∷ es) fs cancelled_from = cancelled_from_append es fs (cancelled_from_after_sign cancelled_from l t)
 cancelled_from_append (enters l t d ∷ es) fs cancelled_from = cancelled_from_append es fs (cancelled_from_after_entry cancelled_from l d)
+cancelled_from_append (acts m t done ∷ es) fs cancelled_from = cancelled_from_append es fs cancelled_from
 cancelled_from_append (starts i l t ∷ es) fs cancelled_from = cancelled_from_append es fs cancelled_from
 
 -- A table that agrees at t with the moments of cancellation of known labels, and with the deadlines of those entered, agrees
@@ -177,6 +186,7 @@ known_agree clock t table outcomes (enters m u d ∷ es) ls cancelled_from a b h
     grown : (x : Label) → IsAmong x (m ∷ ls) → SameFrom t table (cancelled_from_after_entry cancelled_from m d) x
     grown x (inl e) = subst (λ (y : Label). SameFrom t table (cancelled_from_after_entry cancelled_from m d) y) (sym e) (agrees_own t table cancelled_from m d b.0)
     grown x (inr i) = agrees_opened t table cancelled_from m d x b.0 (h x i)
+known_agree clock t table outcomes (acts m u done ∷ es) ls cancelled_from a b h l k = known_agree clock t table outcomes es ls cancelled_from a.1 b h l k
 known_agree clock t table outcomes (starts i m u ∷ es) ls cancelled_from a b h l k = known_agree clock t table outcomes es ls cancelled_from a.1 b h l k
 
 -- if tables agree on enclosing scopes and nurseries, they agree on each of their labels

@@ -1,21 +1,24 @@
 -- Each child that a task begins belongs to a nursery of the task, which keeps it until it is settled.
 use Rattle.std.proofs.Common.{◌≡◌, ◌⊎◌, inl, inr, ℕ, zero, suc, ◌+◌, ◌-◌, ◌<◌, Bool, true, false, IsTrue, Option, Some, None, List, [], ◌∷◌, ◌++◌, refl, ap, arith}
 use Rattle.turn_semantics.specs.Lists.{IsAmong}
-use Rattle.job_tree.specs.Tree.{Step, sleep, checkpoint, forever, pace, find, head, longest, need, raise, cancel, set_event, wait_for, scope, nursery, event, start, repeat, attempt, Steps, stop, step, Handled, unhandled, except, Cleaned, uncleaned, finally}
+use Rattle.job_tree.specs.Tree.{Step, sleep, checkpoint, forever, pace, find, head, longest, need, raise, cancel, set_event, wait_for, ask_for, close_channel, scope, nursery, event, object, start, repeat, attempt, Steps, stop, step, Handled, unhandled, except, Cleaned, uncleaned, finally}
 use Rattle.job_tree.specs.Starting.{StartsIn, StartsAt}
-use Rattle.exceptions.specs.Exceptions.{Label, Exc}
+use Rattle.std.specs.Prelude.{codes}
+use Rattle.job_tree.specs.declared.object.Ask.{Ask}
+use Rattle.exceptions.specs.Exceptions.{Label, Exc, cancelled, raised}
 use Rattle.exceptions.specs.Split.{named, keep, drop}
 use Rattle.cancel_scopes.specs.Sight.{Level, seen}
 use Rattle.job_meaning.specs.Log.{Table}
+use Rattle.job_meaning.specs.Sharing.{What, a_token, was_sent, a_part, closed_resource, end_of_channel}
 use Rattle.job_meaning.specs.Moments.{tick_of, Now, far}
 use Rattle.job_meaning.specs.declared.clock.Clock.{Clock}
 use Rattle.job_meaning.specs.declared.clock.Clock.TheVariants.{ByTicks as by_ticks, ByRounds as by_rounds}
-use Rattle.job_meaning.specs.Walk.{Here, event_on, pace_ticks}
-use Rattle.job_meaning.specs.Rest.{consecutive, Frame, steps_left, in_scope, in_event, in_nursery, in_repeat, in_try, in_handler, in_cleanup, inside, Stopped, to_begin, asking, asleep, waiting_for, giving_up, awaiting, at_end}
+use Rattle.job_meaning.specs.Walk.{Here, stack_for, event_on, pace_ticks}
+use Rattle.job_meaning.specs.Rest.{consecutive, Frame, steps_left, in_scope, in_event, with_token, with_part, in_nursery, in_repeat, in_try, in_handler, in_cleanup, inside, Stopped, to_begin, asking, asleep, waiting_for, queued, giving_up, awaiting, at_end}
 use Rattle.job_meaning.specs.Asking.{Answer, lines, missing, counted, Purpose, shows, needs, paces}
 use Rattle.turn_semantics.specs.Midway.{Place, label_among, stack_at, Midway, Begun, Move}
-use Rattle.turn_semantics.specs.Steps.{sleeps, falls_asleep, waits_on, with_started, begun_over, handler_if, step_try, step_on, step_steps, step_frames, step_of, begins_passes, step_pass}
-use Rattle.turn_semantics.specs.Wakes.{Wake, begins, sees, gives_up, is_due, has_answer, settles, goes_on_with, with_answer, leaves_settled, ends_at, is_checkpoint, gives_up_if, notes_wait, sees_from, is_due_from, wake_of, CanWake, from_start, from_asking, from_sleep, from_due, from_seen_waiting, from_set, from_giving_up, from_wait}
+use Rattle.turn_semantics.specs.Steps.{sleeps, falls_asleep, waits_on, asks_of, with_started, begun_over, handler_if, step_try, step_on, step_steps, step_frames, step_of, begins_passes, step_pass}
+use Rattle.turn_semantics.specs.Wakes.{Wake, begins, sees, gives_up, is_due, has_answer, is_granted, settles, goes_on_with, with_answer, leaves_settled, ends_at, is_checkpoint, gives_up_if, notes_wait, leaves_the_queue, granted_on, with_grant, sees_from, is_due_from, wake_of, CanWake, from_start, from_asking, from_sleep, from_due, from_seen_waiting, from_set, from_granted, from_seen_queued, from_deadlock, from_giving_up, from_wait}
 use Rattle.turn_semantics.specs.Placed.{in_body, Placed, outer_places, HasChild, HasChildAfter, AllHoused}
 use Rattle.turn_semantics.proofs.Keeps.{last_or_before}
 use Rattle.turn_semantics.proofs.Passes.{loop_body}
@@ -80,6 +83,8 @@ module _ (now : Now) (cancelled_from : Table) (here : Here) (i : ℕ) (home : Li
   stays_started more (steps_left ss ∷ fs) ps h = stays_started more fs ps h
   stays_started more (in_scope fail ∷ fs) ps h = h
   stays_started more (in_event ∷ fs) ps h = h
+  stays_started more (with_token limiter ∷ fs) ps h = h
+  stays_started more (with_part received ∷ fs) ps h = h
   stays_started more (in_repeat pass left cuts again ∷ fs) ps h = stays_started more fs ps h
   stays_started more (in_try handler cleanup ∷ fs) ps h = h
   stays_started more (in_handler rest cleanup ∷ fs) ps h = h
@@ -89,6 +94,14 @@ module _ (now : Now) (cancelled_from : Table) (here : Here) (i : ℕ) (home : Li
       Stays (waits_on o name t fs ps)
   stays_waits None name t fs ps h = inr h
   stays_waits (Some l) name t fs ps h = inr h
+
+  stays_asks : (clock : Clock) (o : Option Label) (b : Bool) (name : List ℕ) (ask : Ask) (t : ℕ) (body : Steps) (fs : List Frame) (ps : List Place) →
+      HasChild i home fs ps → Stays (asks_of clock o b name ask t body fs ps)
+  stays_asks clock None b name ask t body fs ps h = inr h
+  stays_asks by_ticks (Some l) true name ask t body fs ps h = inr h
+  stays_asks by_ticks (Some l) false name ask t body fs ps h = inr h
+  stays_asks by_rounds (Some l) true name ask t body fs ps h = inr h
+  stays_asks by_rounds (Some l) false name ask t body fs ps h = inr h
 
   stays_passes : (m : ℕ) (over : Bool) (body : Steps) (fs : List Frame) (ps : List Place) → HasChild i home fs ps → Stays (begins_passes m over body fs ps)
   stays_passes zero over body fs ps h = inr h
@@ -114,9 +127,14 @@ module _ (now : Now) (cancelled_from : Table) (here : Here) (i : ℕ) (home : Li
   stays_step at (cancel name) ss fs ps n h = inr h
   stays_step at (set_event name) ss fs ps n h = inr h
   stays_step at (wait_for name) ss fs ps n h = stays_waits (label_among true name ps) name now.at (steps_left ss ∷ fs) ps h
+  stays_step at (ask_for name ask body) ss fs ps n h =
+      stays_asks at.clock (label_among true name ps) (seen (stack_for now.own now.at (stack_at cancelled_from ps).scopes) now.at) name ask now.at body
+      (steps_left ss ∷ fs) ps h
+  stays_step at (close_channel name) ss fs ps n h = inr h
   stays_step at (scope name d shield fail body) ss fs ps n h = inr h
   stays_step at (nursery name d shield body) ss fs ps n h = inr (inr h)
   stays_step at (event name body) ss fs ps n h = inr h
+  stays_step at (object name kind body) ss fs ps n h = inr h
   stays_step at (start name None body) ss fs ps n h = inr (stays_started (n ∷ []) fs ps h)
   stays_step at (start name (Some c) body) ss fs ps n h = inr (stays_started (consecutive n c) fs ps h)
   stays_step at (repeat m over body) ss fs ps n h = stays_passes m over body (steps_left ss ∷ fs) ps h
@@ -147,6 +165,8 @@ module _ (now : Now) (cancelled_from : Table) (here : Here) (i : ℕ) (home : Li
   stays_frames (in_scope fail ∷ fs) (q ∷ ps) exc n p h = inr h
   stays_frames (in_event ∷ fs) [] exc n p h = absurd p
   stays_frames (in_event ∷ fs) (q ∷ ps) exc n p h = inr h
+  stays_frames (with_token limiter ∷ fs) ps exc n p h = inr h
+  stays_frames (with_part received ∷ fs) ps exc n p h = inr h
   stays_frames (in_nursery children ∷ fs) [] exc n p h = absurd p
   stays_frames (in_nursery children ∷ fs) (q ∷ ps) exc n p (inl e) = inl e
   stays_frames (in_nursery children ∷ fs) (q ∷ ps) exc n p (inr h) = inr h
@@ -178,6 +198,20 @@ module _ (now : Now) (cancelled_from : Table) (here : Here) (i : ℕ) (home : Li
   stays_noted None t fs ps h = inr h
   stays_noted (Some l) t fs ps h = inr h
 
+  stays_leaving : (o : Option Label) (at : Here) (ask : Ask) (since t : ℕ) (e : Exc) (fs : List Frame) (ps : List Place) → HasChild i home fs ps →
+      Stays (leaves_the_queue o at ask since t e fs ps)
+  stays_leaving None at ask since t e fs ps h = inr h
+  stays_leaving (Some l) at ask since t e fs ps h = inr h
+
+  stays_granted : (what : What) (o : Option Label) (at : Here) (ask : Ask) (since t : ℕ) (body : Steps) (fs : List Frame) (ps : List Place) →
+      HasChild i home fs ps → Stays (granted_on o at ask since t body what fs ps)
+  stays_granted what None at ask since t body fs ps h = inr h
+  stays_granted a_token (Some l) at ask since t body fs ps h = inr h
+  stays_granted was_sent (Some l) at ask since t body fs ps h = inr h
+  stays_granted (a_part received) (Some l) at ask since t body fs ps h = inr h
+  stays_granted closed_resource (Some l) at ask since t body fs ps h = inr h
+  stays_granted end_of_channel (Some l) at ask since t body fs ps h = inr h
+
   -- a wake
   pub wake_stays : {w : Wake} {s : Stopped} → CanWake w s → (fs : List Frame) (ps : List Place) →
       HasChild i home fs (outer_places (Some s) ps) →
@@ -190,6 +224,12 @@ module _ (now : Now) (cancelled_from : Table) (here : Here) (i : ℕ) (home : Li
   wake_stays (from_seen_waiting {event = name} {since}) fs ps h =
       stays_giving (is_checkpoint here.clock (ends_at here.clock cancelled_from name since ps) since) now.at fs ps h
   wake_stays (from_set {event = name} {since}) fs ps h = stays_noted (event_on name (stack_at cancelled_from ps).events) now.at fs ps h
+  wake_stays (from_granted {what} {object = name} {ask} {since} {body}) fs ps h =
+      stays_granted what (label_among true name ps) (inside fs here) ask since now.at body fs ps h
+  wake_stays (from_seen_queued {object = name} {ask} {since} {body}) fs ps h =
+      stays_leaving (label_among true name ps) (inside fs here) ask since now.at cancelled fs ps h
+  wake_stays (from_deadlock {object = name} {ask} {since} {body}) fs ps h =
+      stays_leaving (label_among true name ps) (inside fs here) ask since now.at (raised (codes "Deadlock") here.task (tick_of here.clock now.at)) fs ps h
   wake_stays from_giving_up fs ps h = inr h
   wake_stays from_due fs ps h = inr h
   wake_stays from_wait fs [] h = inr h
@@ -218,6 +258,8 @@ started_housed i more (in_repeat pass left cuts again ∷ fs) ps b w a =
 started_housed i more [] ps b w a = absurd (cc)
 started_housed i more (in_scope fail ∷ fs) ps b w a = absurd (cc)
 started_housed i more (in_event ∷ fs) ps b w a = absurd (cc)
+started_housed i more (with_token limiter ∷ fs) ps b w a = absurd (cc)
+started_housed i more (with_part received ∷ fs) ps b w a = absurd (cc)
 started_housed i more (in_try handler cleanup ∷ fs) ps b w a = absurd (cc)
 started_housed i more (in_handler rest cleanup ∷ fs) ps b w a = absurd (cc)
 started_housed i more (in_cleanup outcome ∷ fs) ps b w a = absurd (cc)
@@ -248,6 +290,14 @@ module _ (now : Now) (cancelled_from : Table) (here : Here) where
   housed_waits None name t fs ps = tt
   housed_waits (Some l) name t fs ps = tt
 
+  housed_asks : (clock : Clock) (o : Option Label) (b : Bool) (name : List ℕ) (ask : Ask) (t : ℕ) (body : Steps) (fs : List Frame) (ps : List Place) →
+      Housed (asks_of clock o b name ask t body fs ps)
+  housed_asks clock None b name ask t body fs ps = tt
+  housed_asks by_ticks (Some l) true name ask t body fs ps = tt
+  housed_asks by_ticks (Some l) false name ask t body fs ps = tt
+  housed_asks by_rounds (Some l) true name ask t body fs ps = tt
+  housed_asks by_rounds (Some l) false name ask t body fs ps = tt
+
   housed_passes : (m : ℕ) (over : Bool) (body : Steps) (fs : List Frame) (ps : List Place) → Housed (begins_passes m over body fs ps)
   housed_passes zero over body fs ps = tt
   housed_passes (suc m) over body fs ps = tt
@@ -272,9 +322,14 @@ module _ (now : Now) (cancelled_from : Table) (here : Here) where
   housed_step at (cancel name) ss fs ps n b p = tt
   housed_step at (set_event name) ss fs ps n b p = tt
   housed_step at (wait_for name) ss fs ps n b p = housed_waits (label_among true name ps) name now.at (steps_left ss ∷ fs) ps
+  housed_step at (ask_for name ask body) ss fs ps n b p =
+      housed_asks at.clock (label_among true name ps) (seen (stack_for now.own now.at (stack_at cancelled_from ps).scopes) now.at) name ask now.at body
+      (steps_left ss ∷ fs) ps
+  housed_step at (close_channel name) ss fs ps n b p = tt
   housed_step at (scope name d shield fail body) ss fs ps n b p = tt
   housed_step at (nursery name d shield body) ss fs ps n b p = tt
   housed_step at (event name body) ss fs ps n b p = tt
+  housed_step at (object name kind body) ss fs ps n b p = tt
   housed_step at (start name over body) ss fs ps n b p = housed_start at name over body ss fs ps n b.0 p
   housed_step at (repeat m over body) ss fs ps n b p = housed_passes m over body (steps_left ss ∷ fs) ps
   housed_step at (attempt body handler cleanup) ss fs ps n b p = tt
@@ -304,6 +359,8 @@ module _ (now : Now) (cancelled_from : Table) (here : Here) where
   housed_frames (in_scope fail ∷ fs) (q ∷ ps) exc n p = tt
   housed_frames (in_event ∷ fs) [] exc n p = tt
   housed_frames (in_event ∷ fs) (q ∷ ps) exc n p = tt
+  housed_frames (with_token limiter ∷ fs) ps exc n p = tt
+  housed_frames (with_part received ∷ fs) ps exc n p = tt
   housed_frames (in_nursery children ∷ fs) [] exc n p = tt
   housed_frames (in_nursery children ∷ fs) (q ∷ ps) exc n p = tt
   housed_frames (in_repeat pass left cuts body ∷ fs) ps exc n p = housed_pass pass left cuts body fs ps exc
@@ -331,6 +388,7 @@ module _ (now : Now) (cancelled_from : Table) (here : Here) where
   housed_with a to_begin fs ps = tt
   housed_with a (asleep paced m since) fs ps = tt
   housed_with a (waiting_for name since) fs ps = tt
+  housed_with a (queued name ask since body) fs ps = tt
   housed_with a (giving_up since) fs ps = tt
   housed_with a (awaiting children ended exc) fs ps = tt
   housed_with a (at_end u e) fs ps = tt
@@ -347,7 +405,31 @@ module _ (now : Now) (cancelled_from : Table) (here : Here) where
   housed_noted None t fs ps = tt
   housed_noted (Some l) t fs ps = tt
 
-  housed_seen : (t : ℕ) (s : Stopped) (fs : List Frame) (ps : List Place) → Housed (sees_from here.clock cancelled_from t s fs ps)
+  housed_leaving : (o : Option Label) (at : Here) (ask : Ask) (since t : ℕ) (e : Exc) (fs : List Frame) (ps : List Place) →
+      Housed (leaves_the_queue o at ask since t e fs ps)
+  housed_leaving None at ask since t e fs ps = tt
+  housed_leaving (Some l) at ask since t e fs ps = tt
+
+  housed_granted : (what : What) (o : Option Label) (at : Here) (ask : Ask) (since t : ℕ) (body : Steps) (fs : List Frame) (ps : List Place) →
+      Housed (granted_on o at ask since t body what fs ps)
+  housed_granted what None at ask since t body fs ps = tt
+  housed_granted a_token (Some l) at ask since t body fs ps = tt
+  housed_granted was_sent (Some l) at ask since t body fs ps = tt
+  housed_granted (a_part received) (Some l) at ask since t body fs ps = tt
+  housed_granted closed_resource (Some l) at ask since t body fs ps = tt
+  housed_granted end_of_channel (Some l) at ask since t body fs ps = tt
+
+  housed_grant : (what : What) (s : Stopped) (fs : List Frame) (ps : List Place) → Housed (with_grant now.at here what s fs ps)
+  housed_grant what (queued name ask since body) fs ps = housed_granted what (label_among true name ps) (inside fs here) ask since now.at body fs ps
+  housed_grant what to_begin fs ps = tt
+  housed_grant what (asking kernel purpose) fs ps = tt
+  housed_grant what (asleep paced n since) fs ps = tt
+  housed_grant what (waiting_for name since) fs ps = tt
+  housed_grant what (giving_up since) fs ps = tt
+  housed_grant what (awaiting children ended exc) fs ps = tt
+  housed_grant what (at_end u e) fs ps = tt
+
+  housed_seen : (t : ℕ) (s : Stopped) (fs : List Frame) (ps : List Place) → Housed (sees_from here cancelled_from t s fs ps)
   housed_seen t (asleep false zero since) fs ps = tt
   housed_seen t (asleep false (suc n) since) fs ps = tt
   housed_seen t (asleep true n since) fs ps = tt
@@ -355,15 +437,18 @@ module _ (now : Now) (cancelled_from : Table) (here : Here) where
   housed_seen t (asking kernel purpose) fs ps = tt
   housed_seen t (waiting_for name since) fs ps =
       housed_giving (is_checkpoint here.clock (ends_at here.clock cancelled_from name since ps) since) t fs ps
+  housed_seen t (queued name ask since body) fs ps = housed_leaving (label_among true name ps) (inside fs here) ask since t cancelled fs ps
   housed_seen t (giving_up since) fs ps = tt
   housed_seen t (awaiting children ended exc) fs ps = tt
   housed_seen t (at_end u e) fs ps = tt
 
-  housed_due : (t : ℕ) (s : Stopped) (fs : List Frame) (ps : List Place) → Housed (is_due_from cancelled_from t s fs ps)
+  housed_due : (t : ℕ) (s : Stopped) (fs : List Frame) (ps : List Place) → Housed (is_due_from here cancelled_from t s fs ps)
   housed_due t (waiting_for name since) fs ps = housed_noted (event_on name (stack_at cancelled_from ps).events) t fs ps
   housed_due t to_begin fs ps = tt
   housed_due t (asking kernel purpose) fs ps = tt
   housed_due t (asleep paced n since) fs ps = tt
+  housed_due t (queued name ask since body) fs ps =
+      housed_leaving (label_among true name ps) (inside fs here) ask since t (raised (codes "Deadlock") here.task (tick_of here.clock t)) fs ps
   housed_due t (giving_up since) fs ps = tt
   housed_due t (awaiting children ended exc) fs ps = tt
   housed_due t (at_end u e) fs ps = tt
@@ -375,4 +460,5 @@ module _ (now : Now) (cancelled_from : Table) (here : Here) where
   wake_housed gives_up s fs ps = tt
   wake_housed is_due s fs ps = housed_due now.at s fs ps
   wake_housed (has_answer a) s fs ps = housed_with a s fs ps
+  wake_housed (is_granted what) s fs ps = housed_grant what s fs ps
   wake_housed (settles exc) s fs ps = housed_settled exc fs ps

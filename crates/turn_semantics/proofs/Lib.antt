@@ -1,5 +1,6 @@
 pub mod Agreeing
 pub mod Waits
+pub mod Queued
 pub mod Keeps
 pub mod Events
 pub mod Cases

@@ -2,13 +2,13 @@
 use Rattle.std.proofs.Common.{◌≡◌, inl, inr, ℕ, zero, suc, ◌+◌, Option, Some, None, List, ◌++◌, length, refl, ap, sym, ◌∙◌, subst, length-append, arith}
 use Rattle.turn_semantics.specs.Lists.{IsAmong}
 use Rattle.exceptions.specs.Exceptions.{Label}
-use Rattle.job_meaning.specs.Log.{Log, nil, entry, sign, entered, task, followed_by, Result, Table}
+use Rattle.job_meaning.specs.Log.{Log, nil, entry, sign, entered, act, task, followed_by, Result, Table}
 use Rattle.job_meaning.specs.Moments.{a_round_after, Now}
 use Rattle.job_meaning.specs.declared.clock.Clock.{Clock}
 use Rattle.job_meaning.specs.Walk.{Here}
-use Rattle.job_meaning.specs.Rest.{Event, ChildOutcomes, fill, Frame, Stopped, to_begin, asking, asleep, waiting_for, giving_up, awaiting, at_end, frames_weight}
+use Rattle.job_meaning.specs.Rest.{Event, ChildOutcomes, fill, Frame, Stopped, to_begin, asking, asleep, waiting_for, queued, giving_up, awaiting, at_end, frames_weight}
 use Rattle.job_meaning.proofs.Finish.{followed_assoc, fill_append}
-use Rattle.turn_semantics.specs.Midway.{Place, Midway, Move, after_move, no_move, then_move, OwnFits, now_after, after_events, left_of, left_after, stop_comes_to}
+use Rattle.turn_semantics.specs.Midway.{Place, Tables, Midway, Move, after_move, no_move, then_move, OwnFits, now_after, after_events, left_of, left_after, stop_comes_to}
 use Rattle.turn_semantics.specs.Steps.{cancelled_from_after, step_of, turn_of}
 use Rattle.turn_semantics.specs.Placed.{Placed, PlacedAfter, home_after, KidsAfter, HasChildAfter, AllHoused}
 use Rattle.turn_semantics.specs.Turned.{AgreesOn, AgreesIn, AgreesAhead, AreOutcomes, labels_of, AllKnown, known_after, StopsAt, BegunIn, TurnContext, Turned, Goes}
@@ -32,6 +32,7 @@ agrees_in_first t table nil b h = tt
 agrees_in_first t table (entry u e a) b h = agrees_in_first t table a b h
 agrees_in_first t table (sign l u a) b h = agrees_in_first t table a b h
 agrees_in_first t table (entered l u d a) b h = (h.0, agrees_in_first t table a b h.1)
+agrees_in_first t table (act l u done a) b h = agrees_in_first t table a b h
 agrees_in_first t table (task l s u e own a) b h = agrees_in_first t table a b h
 
 -- and with the second
@@ -40,6 +41,7 @@ agrees_in_second t table nil b h = h
 agrees_in_second t table (entry u e a) b h = agrees_in_second t table a b h
 agrees_in_second t table (sign l u a) b h = agrees_in_second t table a b h
 agrees_in_second t table (entered l u d a) b h = agrees_in_second t table a b h.1
+agrees_in_second t table (act l u done a) b h = agrees_in_second t table a b h
 agrees_in_second t table (task l s u e own a) b h = agrees_in_second t table a b h
 
 -- ---- one step, and no step
@@ -94,13 +96,14 @@ stops_append clock t cancelled_from made (Some (asking kernel purpose)) ps more 
 stops_append clock t cancelled_from made (Some (asleep paced n since)) ps more h =
     subst (λ (f : Table). StopsAt clock t f (Some (asleep paced n since)) ps) (sym (cancelled_from_append made more cancelled_from)) h
 stops_append clock t cancelled_from made (Some (waiting_for event since)) ps more h = h
+stops_append clock t cancelled_from made (Some (queued object ask since body)) ps more h = h
 stops_append clock t cancelled_from made (Some (giving_up since)) ps more h = h
 stops_append clock t cancelled_from made (Some (awaiting children u e)) ps more h = h
 stops_append clock t cancelled_from made (Some (at_end u e)) ps more h = h
 
 -- a move that did not stop, and one from where it led
-module _ (now : Now) (here : Here) (cancelled_from : Table) (Given : Table → ChildOutcomes → Type 0)
-    (fits : (table : Table) (outcomes : ChildOutcomes) → Given table outcomes → OwnFits here.clock now.own) (before : Table → ChildOutcomes → Result) (bound : ℕ)
+module _ (now : Now) (here : Here) (cancelled_from : Table) (Given : Tables → ChildOutcomes → Type 0)
+    (fits : (table : Tables) (outcomes : ChildOutcomes) → Given table outcomes → OwnFits here.clock now.own) (before : Tables → ChildOutcomes → Result) (bound : ℕ)
     (was : Option Stopped) (fs : List Frame) (ps : List Place) (n : ℕ)
   where
     abbrev pub begins : TurnContext
@@ -118,9 +121,9 @@ module _ (now : Now) (here : Here) (cancelled_from : Table) (Given : Table → C
     }
 
     -- a table that agrees with the moments of cancellation before a move agrees with those after it
-    pub turned_agrees : (o : Move) → Turned begins o → (table : Table) (outcomes : ChildOutcomes) →
-        AgreesOn now.at table cancelled_from ps → AgreesIn now.at table (fill outcomes o.made) → AgreesOn now.at table (cancelled_from_after cancelled_from o.made) o.places
-    turned_agrees o h table outcomes a b = agrees_after here.clock now.at table outcomes o.made ps o.places cancelled_from h.made_now h.places a b
+    pub turned_agrees : (o : Move) → Turned begins o → (table : Tables) (outcomes : ChildOutcomes) →
+        AgreesOn now.at table.cancelled_from cancelled_from ps → AgreesIn now.at table.cancelled_from (fill outcomes o.made) → AgreesOn now.at table.cancelled_from (cancelled_from_after cancelled_from o.made) o.places
+    turned_agrees o h table outcomes a b = agrees_after here.clock now.at table.cancelled_from outcomes o.made ps o.places cancelled_from h.made_now h.places a b
 
     -- the two of them keep the promise of one
     pub turned_then : (o q : Move) → o.stopped ≡ None → Turned begins o →
@@ -173,7 +176,7 @@ module _ (now : Now) (here : Here) (cancelled_from : Table) (Given : Table → C
         later : Now
         later = now_after here.clock now o.made
 
-        joined : (table : Table) (outcomes : ChildOutcomes) → left_after table outcomes here later q ≡ left_after table outcomes here now (then_move None o q)
+        joined : (table : Tables) (outcomes : ChildOutcomes) → left_after table outcomes here later q ≡ left_after table outcomes here now (then_move None o q)
         joined table outcomes = ap after_own (sym (own_append here.clock o.made q.made now.own))
           where
             after_own : List Label → Result
@@ -185,13 +188,13 @@ module _ (now : Now) (here : Here) (cancelled_from : Table) (Given : Table → C
         known : (l : Label) → IsAmong l (labels_of o.places) → IsAmong l between
         known l k = place_known between o.places x.places l k
 
-        on : (table : Table) (outcomes : ChildOutcomes) → left_after table outcomes here now o ≡ left_of table outcomes here later after
+        on : (table : Tables) (outcomes : ChildOutcomes) → left_after table outcomes here now o ≡ left_of table outcomes here later after
         on table outcomes = ap (λ (z : Option Stopped). stop_comes_to z table outcomes here later o.frames o.places o.exc) s
 
         -- by a table that agrees with what both moves enter
-        both : (table : Table) (outcomes : ChildOutcomes) → Given table outcomes → AgreesOn now.at table cancelled_from ps → AgreesIn now.at table (fill outcomes o.made) →
-            AgreesAhead now.at table (fill outcomes o.made) (before table outcomes).log →
-            AgreesAhead now.at table (fill outcomes q.made) (left_of table outcomes here later after).log → AreOutcomes (a_round_after here.clock now.at) table outcomes (o.begun ++ q.begun) →
+        both : (table : Tables) (outcomes : ChildOutcomes) → Given table outcomes → AgreesOn now.at table.cancelled_from cancelled_from ps → AgreesIn now.at table.cancelled_from (fill outcomes o.made) →
+            AgreesAhead now.at table.cancelled_from (fill outcomes o.made) (before table outcomes).log →
+            AgreesAhead now.at table.cancelled_from (fill outcomes q.made) (left_of table outcomes here later after).log → AreOutcomes (a_round_after here.clock now.at) table outcomes (o.begun ++ q.begun) →
             before table outcomes ≡ after_events outcomes (o.made ++ q.made) (left_after table outcomes here now (then_move None o q))
         both table outcomes g a made ahead more h =
             x.keeps table outcomes g a ahead (outcomes_of_first (a_round_after here.clock now.at) table outcomes o.begun q.begun h)
@@ -200,21 +203,21 @@ module _ (now : Now) (here : Here) (cancelled_from : Table) (Given : Table → C
             ∙ sym (after_append outcomes o.made q.made (left_after table outcomes here later q))
             ∙ ap (λ (r : Result). after_events outcomes (o.made ++ q.made) r) (joined table outcomes)
 
-        keeps : (table : Table) (outcomes : ChildOutcomes) → Given table outcomes → AgreesOn now.at table cancelled_from ps →
-            AgreesAhead now.at table (fill outcomes (o.made ++ q.made)) (before table outcomes).log → AreOutcomes (a_round_after here.clock now.at) table outcomes (o.begun ++ q.begun) →
+        keeps : (table : Tables) (outcomes : ChildOutcomes) → Given table outcomes → AgreesOn now.at table.cancelled_from cancelled_from ps →
+            AgreesAhead now.at table.cancelled_from (fill outcomes (o.made ++ q.made)) (before table outcomes).log → AreOutcomes (a_round_after here.clock now.at) table outcomes (o.begun ++ q.begun) →
             before table outcomes ≡ after_events outcomes (o.made ++ q.made) (left_after table outcomes here now (then_move None o q))
         keeps table outcomes g a (inl b) h =
-            let parts = subst (λ (l : Log). AgreesIn now.at table l) (fill_append outcomes o.made q.made) b in
-            let made = agrees_in_first now.at table (fill outcomes o.made) (fill outcomes q.made) parts in
-            both table outcomes g a made (inl made) (inl (agrees_in_second now.at table (fill outcomes o.made) (fill outcomes q.made) parts)) h
+            let parts = subst (λ (l : Log). AgreesIn now.at table.cancelled_from l) (fill_append outcomes o.made q.made) b in
+            let made = agrees_in_first now.at table.cancelled_from (fill outcomes o.made) (fill outcomes q.made) parts in
+            both table outcomes g a made (inl made) (inl (agrees_in_second now.at table.cancelled_from (fill outcomes o.made) (fill outcomes q.made) parts)) h
         keeps table outcomes g a (inr b) h =
             let left = (left_of table outcomes here later after).log in
             let first : before table outcomes ≡ after_events outcomes o.made (left_of table outcomes here later after) =
             x.keeps table outcomes g a (inr b) (outcomes_of_first (a_round_after here.clock now.at) table outcomes o.begun q.begun h)
             ∙ ap (λ (r : Result). after_events outcomes o.made r) (on table outcomes) in
-            let parts : AgreesIn now.at table (followed_by (fill outcomes o.made) left) = subst (λ (r : Result). AgreesIn now.at table r.log) first b in
-            both table outcomes g a (agrees_in_first now.at table (fill outcomes o.made) left parts) (inr b)
-            (inr (agrees_in_second now.at table (fill outcomes o.made) left parts)) h
+            let parts : AgreesIn now.at table.cancelled_from (followed_by (fill outcomes o.made) left) = subst (λ (r : Result). AgreesIn now.at table.cancelled_from r.log) first b in
+            both table outcomes g a (agrees_in_first now.at table.cancelled_from (fill outcomes o.made) left parts) (inr b)
+            (inr (agrees_in_second now.at table.cancelled_from (fill outcomes o.made) left parts)) h
 
     -- a move, and then a turn from there
     pub turned_on : (s : Option Stopped) (o q : Move) → o.stopped ≡ s → Turned begins o →

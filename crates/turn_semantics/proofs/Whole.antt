@@ -5,10 +5,10 @@ use Rattle.job_tree.specs.Starting.{StartsIn}
 use Rattle.exceptions.specs.Exceptions.{Label}
 use Rattle.job_meaning.specs.Log.{Result, Table}
 use Rattle.job_meaning.specs.Moments.{a_round_after, Now, only_at}
-use Rattle.job_meaning.specs.Walk.{by_table, Here}
+use Rattle.job_meaning.specs.Walk.{Here}
 use Rattle.job_meaning.specs.Rest.{Event, ChildOutcomes, fill, steps_left, Stopped, to_begin, Rest, rest_comes_to, task_comes_to, rest_at_start, inside}
 use Rattle.job_meaning.proofs.Finish.{finish_begin}
-use Rattle.turn_semantics.specs.Midway.{Place, stack_at, Begun, Move, after_events, left_after, stop_comes_to, begun_comes_to, no_outcomes, now_after}
+use Rattle.turn_semantics.specs.Midway.{Place, Tables, by_tables, stack_at, Begun, Move, after_events, left_after, stop_comes_to, begun_comes_to, no_outcomes, now_after}
 use Rattle.turn_semantics.specs.Placed.{PlacedStop}
 use Rattle.turn_semantics.specs.Wakes.{Wake, WakesBy}
 use Rattle.turn_semantics.specs.Turned.{AgreesOn, AgreesAhead, AreOutcomes, BegunIn, TurnsOver}
@@ -18,13 +18,13 @@ use Rattle.turn_semantics.proofs.Turns.{after_append}
 -- have the same result as what it has done, its stop and its frames after it.
 pub turn_comes_to : (u now : Now) (here : Here) (cancelled_from : Table) (w : Wake) (rest : Rest) (ps : List Place) (count : ℕ) (o : Move)
     (made : List Event) (s : Stopped) →
-    TurnsOver u now here cancelled_from w rest ps count o → o.stopped ≡ Some s → (table : Table) (outcomes : ChildOutcomes) →
+    TurnsOver u now here cancelled_from w rest ps count o → o.stopped ≡ Some s → (table : Tables) (outcomes : ChildOutcomes) →
     WakesBy table outcomes (inside rest.frames here) u now w rest.stopped ps →
-    AgreesOn now.at table cancelled_from ps →
-    AgreesAhead now.at table (fill outcomes o.made) (rest_comes_to (by_table table) outcomes rest here (stack_at table ps) u).log →
+    AgreesOn now.at table.cancelled_from cancelled_from ps →
+    AgreesAhead now.at table.cancelled_from (fill outcomes o.made) (rest_comes_to (by_tables table) outcomes rest here (stack_at table.cancelled_from ps) u).log →
     AreOutcomes (a_round_after here.clock now.at) table outcomes o.begun →
-    task_comes_to (by_table table) outcomes made rest here (stack_at table ps) u
-    ≡ task_comes_to (by_table table) outcomes (made ++ o.made) (record { stopped = s; frames = o.frames }) here (stack_at table o.places) (now_after here.clock now o.made)
+    task_comes_to (by_tables table) outcomes made rest here (stack_at table.cancelled_from ps) u
+    ≡ task_comes_to (by_tables table) outcomes (made ++ o.made) (record { stopped = s; frames = o.frames }) here (stack_at table.cancelled_from o.places) (now_after here.clock now o.made)
 turn_comes_to u now here cancelled_from w rest ps count o made s x e table outcomes g a b h =
     ap (λ (r : Result). after_events outcomes made r) (x.keeps table outcomes g a b h)
     ∙ (sym (after_append outcomes made o.made (left_after table outcomes here now o))
@@ -47,8 +47,8 @@ begun_placed ls (b ∷ bs) a = ((a.1, tt), begun_placed ls bs a.2)
 
 -- the result of a child, before it began: the same whatever is recorded of the children, and the result of its
 -- block's walk
-pub begun_final_result : (table : Table) (outcomes : ChildOutcomes) (t : ℕ) (b : Begun) →
-    task_comes_to (by_table table) outcomes [] (rest_at_start b.body) b.here (stack_at table b.places) (only_at t) ≡ begun_comes_to table t b
+pub begun_final_result : (table : Tables) (outcomes : ChildOutcomes) (t : ℕ) (b : Begun) →
+    task_comes_to (by_tables table) outcomes [] (rest_at_start b.body) b.here (stack_at table.cancelled_from b.places) (only_at t) ≡ begun_comes_to table t b
 begun_final_result table outcomes t b =
-    finish_begin (by_table table) outcomes b.body b.here (stack_at table b.places) (only_at t)
-    ∙ sym (finish_begin (by_table table) no_outcomes b.body b.here (stack_at table b.places) (only_at t))
+    finish_begin (by_tables table) outcomes b.body b.here (stack_at table.cancelled_from b.places) (only_at t)
+    ∙ sym (finish_begin (by_tables table) no_outcomes b.body b.here (stack_at table.cancelled_from b.places) (only_at t))
