@@ -1,5 +1,5 @@
 -- A task that wakes has the same result as when it stopped, and so does its whole turn.
-use Rattle.std.proofs.Common.{◌≡◌, ℕ, zero, suc, ◌+◌, ◌-◌, ◌<◌, ◌≤◌, Bool, true, false, Option, Some, None, List, [], ◌∷◌, length, refl, ap, sym, ◌∙◌, subst, arith}
+use Rattle.std.proofs.Common.{◌≡◌, inl, ℕ, zero, suc, ◌+◌, ◌-◌, ◌*◌, ◌<◌, ◌≤◌, Bool, true, false, Option, Some, None, List, [], ◌∷◌, length, refl, ap, sym, ◌∙◌, subst, arith}
 use Rattle.std.specs.Prelude.{codes}
 use Rattle.job_tree.specs.Tree.{Steps}
 use Rattle.job_tree.specs.Names.{size_of}
@@ -281,7 +281,7 @@ giving_case clock t cancelled_from true w fs ps count p le =
       starts_made = tt;
       begun_in = tt;
       clocks = tt;
-      stops = refl;
+      stops = inl refl;
       weight = omega arith;
     }
 giving_case clock t cancelled_from false w fs ps count p le = onward_case clock t cancelled_from w _ fs ps _ count p refl (omega arith)
