@@ -13,6 +13,9 @@ pub mod Touched
 pub mod Tidy
 pub mod Fits
 pub mod Settled
+pub mod ServedAlike
+pub mod GrantsBefore
+pub mod Granting
 pub mod Finish
 pub mod Once
 pub mod LateRest

@@ -550,7 +550,8 @@ mutual
       (event_is_inside m body (label_here name here) here st t)
       (event_is_inside other body (label_here name here) here st t)
       (λ g h. settled table m other same body here _ t distinct.1 (fresh_in_event name (names_of body) here g st distinct fresh) h)
-      (fits_acted table (label_here name here) t.at (opens kind) _ f))
+      (fits_acted table (label_here name here) t.at (opens kind)
+      (event_block m (label_here name here) t.at (λ from. walk m body here (stack_in_event (label_here name here) from st) t)) f))
   settled_step table m other same (start name None body) here st t distinct fresh f =
       settled_child table (label_here name here) (a_round_after here.clock t.at) _ _ t
       (settled_signed table st (Belongs (names_of body) here.path) _ _ (tidy m body _ st (only_at (a_round_after here.clock t.at)))
