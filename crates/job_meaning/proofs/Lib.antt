@@ -17,6 +17,7 @@ pub mod ServedAlike
 pub mod GrantsBefore
 pub mod Granting
 pub mod Finish
+pub mod FinishAsking
 pub mod Once
 pub mod LateRest
 pub mod Ends
