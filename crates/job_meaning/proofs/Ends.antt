@@ -93,6 +93,7 @@ all_append : (b : ℕ) (ms ns : List Member) → AllBy b ms → AllBy b ns → A
 all_append b [] ns h k = k
 all_append b (m ∷ ms) ns h k = (h.0, all_append b ms ns h.1 k)
 
+-- what is done by a moment is done by a later one
 acts_later : (b c : ℕ) (a : Log) → b ≤ c → ActsBy b a → ActsBy c a
 acts_later b c nil le h = tt
 acts_later b c (entry t e rest) le h = acts_later b c rest le h
@@ -257,6 +258,7 @@ by_token_back : (label : Label) (b : ℕ) (r : Result) → EndsBy b r → EndsBy
 unfolding with_token_back
 by_token_back label b r h = record { end = h.end; members = h.members; acts = acts_followed b r.log _ h.acts (h.end, tt) }
 
+-- who leaves the queue
 by_left : (here : Here) (from : Tick) (left b : ℕ) → left ≤ b → EndsBy b (left_result here from left)
 by_left here from left b le = by_sight (is_reached from left)
   where
@@ -268,6 +270,7 @@ by_left here from left b le = by_sight (is_reached from left)
 by_goes_on : (label : Label) (b m : ℕ) (go : Now → Result) → EndsBy b (go (only_at m)) → EndsBy b (goes_on label m go)
 by_goes_on label b m go h = by_joined b (noted_at label m) (go (only_at m)) tt tt h
 
+-- what a task does with what it is granted
 by_granted : (label : Label) (here : Here) (b m : ℕ) (what : What) (go : Here → Now → Result) → m ≤ b →
     ((lent : Range) → EndsBy b (go (record here { part = lent }) (only_at m))) → EndsBy b (granted_result label here m what go)
 by_granted label here b m a_token go le h = by_goes_on label b m (λ u. with_token_back label (go here u)) (by_token_back label b _ (h here.part))
@@ -301,7 +304,8 @@ by_asking m st ask (Some label) here t go b c le more h = by_sight (seen (stack_
     by_time : (g : Granted) (o : Bool) → (nat_lt t.at g.at && nat_le g.at left) ≡ o →
         EndsBy c (asked_result ask label here (sight st.scopes) t.at left (granted_if o g None) go)
     by_time g true e =
-        by_acted label c t.at _ _ (omega arith) (by_granted label here c g.at g.what go (by_more in_time_left) (λ lent. h lent (only_at g.at) (by_left_then in_time_left)))
+        by_acted label c t.at _ _ (omega arith)
+        (by_granted label here c g.at g.what go (by_more in_time_left) (λ lent. h lent (only_at g.at) (by_left_then in_time_left)))
       where
         in_time_left : g.at ≤ left
         in_time_left = grind (arith, nat_tests)
@@ -434,7 +438,8 @@ mutual
   ends_step m (wait_for name) here st t h small = by_awaiting here.clock st _ t _ (omega arith)
   ends_step m (ask_for name ask body) here st t h small =
       by_asking m st ask _ here t _ (reach here.clock t.at + span here.clock) _ (omega arith) (omega arith)
-      (λ (lent : Range) (u : Now) (le : u.at ≤ reach here.clock t.at + span here.clock). later (reach here.clock u.at + size_of body * span here.clock) _ _
+      (λ (lent : Range) (u : Now) (le : u.at ≤ reach here.clock t.at + span here.clock). later
+      (reach here.clock u.at + size_of body * span here.clock) _ _
       (omega arith) (ends_by m body (record here { part = lent }) st u h small))
   ends_step m (close_channel name) here st t h small = by_closing _ _ t (omega arith)
   ends_step m (scope name d shield fail body) here st t h small =
@@ -505,4 +510,5 @@ pub ends_by_the_last_tick : EndsByTheLastTick
 unfolding meaning
 ends_by_the_last_tick job input in_range small =
     in_ticks_by (clock_of job.format) (size_of job.steps) (root_walk (two_walks (meaning_grants job input)) job input).end
-    (at_most_a_million job.format (size_of job.steps) in_range.size) (root_ends_by (two_walks (meaning_grants job input)) job input in_range small).end
+    (at_most_a_million job.format (size_of job.steps) in_range.size)
+    (root_ends_by (two_walks (meaning_grants job input)) job input in_range small).end

@@ -2,21 +2,19 @@
 use Rattle.std.proofs.Common.{◌≡◌, ℕ, zero, suc, ◌+◌, Bool, Option, Some, None, List, [], ◌∷◌, ◌++◌, refl, ap, sym, ◌∙◌, append_assoc, ◌<◌, arith}
 use Rattle.std.proofs.lemmas.List.{append-nil}
 use Rattle.job_tree.specs.declared.deadline.Deadline.{Deadline}
-use Rattle.job_tree.specs.declared.object.Ask.{Ask}
 use Rattle.job_tree.specs.declared.object.ObjectKind.{ObjectKind}
-use Rattle.job_tree.specs.Tree.{Step, ask_for, close_channel, scope, nursery, event, object, start, repeat, attempt, Steps, stop, step, Handled, unhandled, except, Cleaned, uncleaned, finally}
-use Rattle.input_lines.specs.Lines.{Range}
+use Rattle.job_tree.specs.Tree.{Step, scope, nursery, event, object, start, repeat, attempt, Steps, stop, step, Handled, unhandled, except, Cleaned, uncleaned, finally}
 use Rattle.input_lines.specs.Cuts.{cut_of}
-use Rattle.exceptions.specs.Exceptions.{Label, Exc, cancelled}
+use Rattle.exceptions.specs.Exceptions.{Label, Exc}
 use Rattle.exceptions.specs.Split.{Wanted, named, keep, drop}
-use Rattle.cancel_scopes.specs.Sight.{Tick, Level, sight, seen}
+use Rattle.cancel_scopes.specs.Sight.{Level}
 use Rattle.job_meaning.proofs.Clips.{followed_nil}
-use Rattle.job_meaning.specs.Log.{Log, nil, entry, waited, sign, entered, Act, opens, asks, gives_back, closes, act, task, followed_by, Member, Result, Table}
-use Rattle.job_meaning.specs.Sharing.{What, a_token, was_sent, a_part, Granted, Grants}
-use Rattle.job_meaning.specs.Moments.{due, a_round_after, gives_up_at, Now, only_at}
+use Rattle.job_meaning.specs.Log.{Log, nil, entry, sign, entered, opens, gives_back, act, task, followed_by, Member, Result, Table}
+use Rattle.job_meaning.specs.Sharing.{Grants}
+use Rattle.job_meaning.specs.Moments.{due, a_round_after, Now, only_at}
 use Rattle.job_meaning.specs.declared.clock.Clock.{Clock}
-use Rattle.job_meaning.specs.Walk.{now_of, cuts_over, in_pass, passes, Levels, Stack, Mode, by_table, grants_in, Here, walk, walk_step, walk_handler, walk_cleanup, done_at, raised_at, in_sequence, and_then, then_if, block, event_block, with_act, close_result, with_token_back, last_grant, leaves_queue, in_time, left_result, granted_result, asked_result, asks_in, ask_result, stack_for, label_on, stack_inside, stack_in_event, Kind, with_sign, nursery_result, child, handler_result, handler_for, handler_if_any, cleanup_result, with_outcome, handler_exc, outcome_after, sign_if, a_scope, a_nursery, label_here, label_over, each, here_in}
-use Rattle.job_meaning.specs.Rest.{Event, noted, signs, enters, acts, starts, fill, consecutive, starts_over, ChildOutcomes, outcome_members, Frame, steps_left, in_scope, in_event, with_token, with_part, in_nursery, in_repeat, in_try, in_handler, in_cleanup, inside, block_left, left_if, without_scope, without_event, with_children, wait_result, queued, finish, finished_from, rest_comes_to, rest_at_start}
+use Rattle.job_meaning.specs.Walk.{now_of, cuts_over, in_pass, passes, Levels, Stack, Mode, by_table, Here, walk, walk_step, walk_handler, walk_cleanup, done_at, in_sequence, and_then, then_if, block, event_block, with_token_back, stack_inside, stack_in_event, Kind, with_sign, nursery_result, child, handler_result, handler_for, handler_if_any, cleanup_result, with_outcome, handler_exc, outcome_after, sign_if, a_scope, a_nursery, label_here, label_over, each, here_in}
+use Rattle.job_meaning.specs.Rest.{Event, noted, signs, enters, acts, starts, fill, consecutive, starts_over, ChildOutcomes, outcome_members, Frame, steps_left, in_scope, in_event, with_token, with_part, in_nursery, in_repeat, in_try, in_handler, in_cleanup, inside, block_left, left_if, without_scope, without_event, with_children, wait_result, finish, rest_comes_to, rest_at_start}
 
 -- three logs one after another are the same, whichever two are joined first
 pub followed_assoc : (a b c : Log) → followed_by (followed_by a b) c ≡ followed_by a (followed_by b c)
@@ -154,7 +152,8 @@ unfolding finish and_then
 finish_raised fs m outcomes ss here st r e = refl
 
 -- a scope is entered
-pub finish_scope : (fs : List Frame) (table : Table) (grants : Grants) (outcomes : ChildOutcomes) (name : List ℕ) (d : Deadline) (shield fail : Bool) (body ss : Steps)
+pub finish_scope : (fs : List Frame) (table : Table) (grants : Grants) (outcomes : ChildOutcomes) (name : List ℕ) (d : Deadline) (shield fail : Bool)
+    (body ss : Steps)
     (here : Here) (st : Stack) (t : Now) →
     finish (by_table table grants) outcomes (steps_left (step (scope name d shield fail body) ss) ∷ fs) here st (done_at t)
     ≡ after (entered (label_here name (inside fs here)) t.at (due here.clock d t.at) nil)
@@ -167,7 +166,8 @@ finish_scope fs table grants outcomes name d shield fail body ss here st t =
     (stack_inside (label_here name (inside fs here)) shield (table (label_here name (inside fs here))) st) (done_at t)
 
 -- an event is entered
-pub finish_event : (fs : List Frame) (table : Table) (grants : Grants) (outcomes : ChildOutcomes) (name : List ℕ) (body ss : Steps) (here : Here) (st : Stack) (t : Now) →
+pub finish_event : (fs : List Frame) (table : Table) (grants : Grants) (outcomes : ChildOutcomes) (name : List ℕ) (body ss : Steps) (here : Here)
+    (st : Stack) (t : Now) →
     finish (by_table table grants) outcomes (steps_left (step (event name body) ss) ∷ fs) here st (done_at t)
     ≡ after (entered (label_here name (inside fs here)) t.at None nil)
     (finish (by_table table grants) outcomes (steps_left body ∷ in_event ∷ steps_left ss ∷ fs) here
@@ -179,7 +179,8 @@ finish_event fs table grants outcomes name body ss here st t =
     (stack_in_event (label_here name (inside fs here)) (table (label_here name (inside fs here))) st) (done_at t)
 
 -- a limiter or channel is entered
-pub finish_object : (fs : List Frame) (table : Table) (grants : Grants) (outcomes : ChildOutcomes) (name : List ℕ) (kind : ObjectKind) (body ss : Steps)
+pub finish_object : (fs : List Frame) (table : Table) (grants : Grants) (outcomes : ChildOutcomes) (name : List ℕ) (kind : ObjectKind)
+    (body ss : Steps)
     (here : Here) (st : Stack) (t : Now) →
     finish (by_table table grants) outcomes (steps_left (step (object name kind body) ss) ∷ fs) here st (done_at t)
     ≡ after (act (label_here name (inside fs here)) t.at (opens kind) (entered (label_here name (inside fs here)) t.at None nil))
@@ -193,7 +194,8 @@ finish_object fs table grants outcomes name kind body ss here st t =
     (stack_in_event (label_here name (inside fs here)) (table (label_here name (inside fs here))) st) (done_at t)
 
 -- a nursery is entered
-pub finish_nursery : (fs : List Frame) (table : Table) (grants : Grants) (outcomes : ChildOutcomes) (name : List ℕ) (d : Deadline) (shield : Bool) (body ss : Steps)
+pub finish_nursery : (fs : List Frame) (table : Table) (grants : Grants) (outcomes : ChildOutcomes) (name : List ℕ) (d : Deadline) (shield : Bool)
+    (body ss : Steps)
     (here : Here) (st : Stack) (t : Now) →
     finish (by_table table grants) outcomes (steps_left (step (nursery name d shield body) ss) ∷ fs) here st (done_at t)
     ≡ after (entered (label_here name (inside fs here)) t.at (due here.clock d t.at) nil)

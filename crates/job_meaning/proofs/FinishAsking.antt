@@ -1,10 +1,10 @@
 -- What comes of a task that asks a limiter or channel, with the frames that it has left.
-use Rattle.std.proofs.Common.{◌≡◌, ℕ, Bool, true, false, Option, Some, None, List, [], ◌∷◌, refl, ap, sym, ◌∙◌, if◌then◌else◌}
+use Rattle.std.proofs.Common.{◌≡◌, ℕ, Bool, true, false, Option, Some, None, List, ◌∷◌, refl, ap, sym, ◌∙◌, if◌then◌else◌}
 use Rattle.job_tree.specs.declared.object.Ask.{Ask}
 use Rattle.job_tree.specs.Tree.{ask_for, close_channel, Steps, step}
 use Rattle.input_lines.specs.Lines.{Range}
-use Rattle.exceptions.specs.Exceptions.{Label, Exc, cancelled}
-use Rattle.cancel_scopes.specs.Sight.{Tick, sight, seen}
+use Rattle.exceptions.specs.Exceptions.{Label, cancelled}
+use Rattle.cancel_scopes.specs.Sight.{sight, seen}
 use Rattle.job_meaning.specs.Log.{nil, entry, waited, asks, gives_back, closes, act, Result}
 use Rattle.job_meaning.specs.Sharing.{a_token, was_sent, a_part, Granted}
 use Rattle.job_meaning.specs.Moments.{gives_up_at, Now, only_at}
@@ -25,49 +25,58 @@ finish_close fs m outcomes name ss here st t label e =
 -- where no channel of the name encloses the task, nothing happens
 pub finish_no_close : (fs : List Frame) (m : Mode) (outcomes : ChildOutcomes) (name : List ℕ) (ss : Steps) (here : Here) (st : Stack) (t : Now) →
     label_on name st.events ≡ None →
-    finish m outcomes (steps_left (step (close_channel name) ss) ∷ fs) here st (done_at t) ≡ finish m outcomes (steps_left ss ∷ fs) here st (done_at t)
+    finish m outcomes (steps_left (step (close_channel name) ss) ∷ fs) here st (done_at t)
+    ≡ finish m outcomes (steps_left ss ∷ fs) here st (done_at t)
 unfolding finish and_then walk close_result
 finish_no_close fs m outcomes name ss here st t e =
     ap (λ (o : Option Label). finish m outcomes (steps_left ss ∷ fs) here st (close_on o t)) e
 
 -- a task that asks is in the queue from then on
-pub finish_ask : (fs : List Frame) (m : Mode) (outcomes : ChildOutcomes) (name : List ℕ) (ask : Ask) (body ss : Steps) (here : Here) (st : Stack) (t : Now)
+pub finish_ask : (fs : List Frame) (m : Mode) (outcomes : ChildOutcomes) (name : List ℕ) (ask : Ask) (body ss : Steps) (here : Here) (st : Stack)
+    (t : Now)
     (label : Label) → label_on name st.events ≡ Some label → seen (stack_for t.own t.at st.scopes) t.at ≡ false →
     finish m outcomes (steps_left (step (ask_for name ask body) ss) ∷ fs) here st (done_at t)
     ≡ finished_from m outcomes (queued name ask t.at body) (steps_left ss ∷ fs) here st t
 unfolding finish and_then walk ask_result
 finish_ask fs m outcomes name ask body ss here st t label e unseen =
-    ap (λ (o : Option Label). finish m outcomes (steps_left ss ∷ fs) here st (ask_on m ask o (inside fs here) st t (λ inner u. walk m body inner st u))) e
+    ap (λ (o : Option Label). finish m outcomes (steps_left ss ∷ fs) here st
+    (ask_on m ask o (inside fs here) st t (λ inner u. walk m body inner st u))) e
     ∙ (ap (λ (b : Bool). finish m outcomes (steps_left ss ∷ fs) here st (if b then raised_at cancelled (only_at (gives_up_at here.clock 0 t.at))
     else asks_in m ask label (inside fs here) st t.at (λ inner u. walk m body inner st u))) unseen
     ∙ sym (ap (λ (o : Option Label). finish m outcomes (steps_left ss ∷ fs) here st
     (queue_result m ask o (inside fs here) st t.at (λ inner u. walk m body inner st u))) e))
 
 -- where it sees a cancellation, it gives up
-pub finish_ask_cancelled : (fs : List Frame) (m : Mode) (outcomes : ChildOutcomes) (name : List ℕ) (ask : Ask) (body ss : Steps) (here : Here) (st : Stack)
+pub finish_ask_cancelled : (fs : List Frame) (m : Mode) (outcomes : ChildOutcomes) (name : List ℕ) (ask : Ask) (body ss : Steps) (here : Here)
+    (st : Stack)
     (t : Now) (label : Label) → label_on name st.events ≡ Some label → seen (stack_for t.own t.at st.scopes) t.at ≡ true →
     finish m outcomes (steps_left (step (ask_for name ask body) ss) ∷ fs) here st (done_at t)
     ≡ finish m outcomes (steps_left ss ∷ fs) here st (raised_at cancelled (only_at (gives_up_at here.clock 0 t.at)))
 unfolding finish and_then walk ask_result
 finish_ask_cancelled fs m outcomes name ask body ss here st t label e is_seen =
-    ap (λ (o : Option Label). finish m outcomes (steps_left ss ∷ fs) here st (ask_on m ask o (inside fs here) st t (λ inner u. walk m body inner st u))) e
+    ap (λ (o : Option Label). finish m outcomes (steps_left ss ∷ fs) here st
+    (ask_on m ask o (inside fs here) st t (λ inner u. walk m body inner st u))) e
     ∙ ap (λ (b : Bool). finish m outcomes (steps_left ss ∷ fs) here st (if b then raised_at cancelled (only_at (gives_up_at here.clock 0 t.at))
     else asks_in m ask label (inside fs here) st t.at (λ inner u. walk m body inner st u))) is_seen
 
 -- and where no limiter or channel of the name encloses it, nothing happens
-pub finish_no_ask : (fs : List Frame) (m : Mode) (outcomes : ChildOutcomes) (name : List ℕ) (ask : Ask) (body ss : Steps) (here : Here) (st : Stack) (t : Now) →
+pub finish_no_ask : (fs : List Frame) (m : Mode) (outcomes : ChildOutcomes) (name : List ℕ) (ask : Ask) (body ss : Steps) (here : Here) (st : Stack)
+    (t : Now) →
     label_on name st.events ≡ None →
-    finish m outcomes (steps_left (step (ask_for name ask body) ss) ∷ fs) here st (done_at t) ≡ finish m outcomes (steps_left ss ∷ fs) here st (done_at t)
+    finish m outcomes (steps_left (step (ask_for name ask body) ss) ∷ fs) here st (done_at t)
+    ≡ finish m outcomes (steps_left ss ∷ fs) here st (done_at t)
 unfolding finish and_then walk ask_result
 finish_no_ask fs m outcomes name ask body ss here st t e =
-    ap (λ (o : Option Label). finish m outcomes (steps_left ss ∷ fs) here st (ask_on m ask o (inside fs here) st t (λ inner u. walk m body inner st u))) e
+    ap (λ (o : Option Label). finish m outcomes (steps_left ss ∷ fs) here st
+    (ask_on m ask o (inside fs here) st t (λ inner u. walk m body inner st u))) e
 
 -- the moment in which a task that asked in moment m leaves the queue
 abbrev pub queue_left : Here → Stack → ℕ → ℕ
 queue_left here st m = leaves_queue (sight st.scopes) (last_grant here.clock m)
 
 -- a task in the queue is granted something in time
-pub finish_granted : (fs : List Frame) (m : Mode) (outcomes : ChildOutcomes) (name : List ℕ) (ask : Ask) (since : ℕ) (body : Steps) (here : Here) (st : Stack)
+pub finish_granted : (fs : List Frame) (m : Mode) (outcomes : ChildOutcomes) (name : List ℕ) (ask : Ask) (since : ℕ) (body : Steps) (here : Here)
+    (st : Stack)
     (t : Now) (label : Label) (g : Granted) → label_on name st.events ≡ Some label →
     in_time since (queue_left here st since) (grants_in m label here.task since) ≡ Some g →
     finished_from m outcomes (queued name ask since body) fs here st t
@@ -81,7 +90,8 @@ finish_granted fs m outcomes name ask since body here st t label g e granted =
     (granted_result label (inside fs here) g.at g.what (λ inner u. walk m body inner st u)))
 
 -- or it leaves the queue
-pub finish_left : (fs : List Frame) (m : Mode) (outcomes : ChildOutcomes) (name : List ℕ) (ask : Ask) (since : ℕ) (body : Steps) (here : Here) (st : Stack)
+pub finish_left : (fs : List Frame) (m : Mode) (outcomes : ChildOutcomes) (name : List ℕ) (ask : Ask) (since : ℕ) (body : Steps) (here : Here)
+    (st : Stack)
     (t : Now) (label : Label) → label_on name st.events ≡ Some label →
     in_time since (queue_left here st since) (grants_in m label here.task since) ≡ None →
     finished_from m outcomes (queued name ask since body) fs here st t
@@ -111,7 +121,8 @@ finish_sent fs m outcomes body here st label t =
     finish_after fs (entry t (waited label) nil) m outcomes here st (walk m body (inside fs here) st (only_at t))
 
 -- with a part it runs the block of the step on that part
-pub finish_with_part : (fs : List Frame) (m : Mode) (outcomes : ChildOutcomes) (body : Steps) (here : Here) (st : Stack) (label : Label) (t : ℕ) (lent : Range) →
+pub finish_with_part : (fs : List Frame) (m : Mode) (outcomes : ChildOutcomes) (body : Steps) (here : Here) (st : Stack) (label : Label) (t : ℕ)
+    (lent : Range) →
     finish m outcomes fs here st (granted_result label (inside fs here) t (a_part lent) (λ inner u. walk m body inner st u))
     ≡ after (entry t (waited label) nil) (finish m outcomes (steps_left body ∷ with_part lent ∷ fs) here st (done_at (only_at t)))
 unfolding finish and_then

@@ -1,21 +1,21 @@
 -- What limiters and channels grant in a walk with what they grant: it is determined, and the meaning has it.
-use Rattle.std.proofs.Common.{◌≡◌, ℕ, zero, suc, ◌+◌, ◌*◌, ◌<◌, ◌≤◌, max, Bool, true, false, Option, Some, None, List, [], ◌∷◌, ◌++◌, length, refl, ap, sym, ◌∙◌, arith, nat_le, if◌then◌else◌}
+use Rattle.std.proofs.Common.{◌≡◌, ℕ, zero, suc, ◌+◌, ◌*◌, ◌≤◌, max, Bool, true, false, Option, Some, None, List, ◌++◌, length, refl, ap, sym, ◌∙◌, arith, nat_le}
 use Rattle.std.proofs.Math.Path.{fun_ext}
 use Rattle.std.proofs.lemmas.Bool.Decides.{nat_tests}
 use Rattle.job_tree.specs.Tree.{Tree}
 use Rattle.job_tree.specs.Names.{GivesNamesOnce, size_of}
 use Rattle.job_tree.specs.InRange.{IsInRange}
 use Rattle.exceptions.specs.Exceptions.{Label}
-use Rattle.job_meaning.specs.Log.{Act, Log, nil, entry, sign, entered, act, task, Result, same_label, Table, table_of}
-use Rattle.job_meaning.specs.Sharing.{Done, done_if, own_acts, acts_in, by_moment, unopened, serve_acts, Granted, granted_if, find_given, Grants, grants_of, granted_before}
+use Rattle.job_meaning.specs.Log.{Log, nil, entry, sign, entered, act, task, Result, same_label, Table, table_of}
+use Rattle.job_meaning.specs.Sharing.{done_if, own_acts, acts_in, by_moment, unopened, serve_acts, Granted, granted_if, Grants, grants_of, granted_before}
 use Rattle.job_meaning.specs.Moments.{clock_of, only_at}
 use Rattle.job_meaning.specs.declared.clock.Clock.{Clock}
 use Rattle.job_meaning.specs.declared.clock.Clock.TheVariants.{ByTicks as by_ticks, ByRounds as by_rounds}
 use Rattle.job_meaning.specs.declared.limits.TheConstants.{MAX_INPUT}
 use Rattle.job_meaning.specs.Walk.{no_stack, two_walks}
-use Rattle.job_meaning.specs.Meaning.{root_walk, root_here, root_label, root_log, granted_by, last_moment, meaning_grants, meaning, meaning_table}
+use Rattle.job_meaning.specs.Meaning.{root_walk, root_here, root_log, granted_by, last_moment, meaning_grants, meaning}
 use Rattle.job_meaning.specs.Follow.{follow, IsSettled}
-use Rattle.job_meaning.specs.Before.{NearGrants, Agree}
+use Rattle.job_meaning.specs.Before.{NearGrants}
 use Rattle.job_meaning.specs.Laws.{FollowingIsMeaning, TableIsSettled, FollowingSettledIsMeaning, OneTableIsSettled}
 use Rattle.job_meaning.proofs.Late.{late}
 use Rattle.job_meaning.proofs.Causality.{agree}
@@ -68,7 +68,7 @@ steps_grant (suc n) job input l t m =
     ∙ (walks_grant n job input (granted_by job input n) (granted_by job input (suc n)) (steps_grant n job input) l t m
     ∙ sym (before_twice (suc n) (suc (suc n)) (granted_in (granted_by job input (suc n)) job input l t m) (omega arith)))
 
--- all that a log does to objects is done by a moment
+-- all that a task does to an object is done by a moment, where that holds of the log
 own_acts_by : (b : ℕ) (l t : Label) (a : Log) → ActsBy b a → Each (λ u. u ≤ b) (own_acts l t a)
 own_acts_by b l t nil h = tt
 own_acts_by b l t (entry m e rest) h = own_acts_by b l t rest h
@@ -82,6 +82,7 @@ own_acts_by b l t (act k m a rest) h = by_label (same_label l k) (own_acts_by b 
     by_label false i = i
 own_acts_by b l t (task k s u e own rest) h = own_acts_by b l t rest h.1
 
+-- and so is what all tasks do to one of them
 acts_by : (b : ℕ) (l : Label) (a : Log) → ActsBy b a → Each (λ u. u ≤ b) (acts_in l a)
 acts_by b l nil h = tt
 acts_by b l (entry m e rest) h = acts_by b l rest h
@@ -140,6 +141,7 @@ pub one_is_granted : (job : Tree) (input : List ℕ) (grants other : Grants) →
 one_is_granted job input grants other h k l t m =
     same_option (grants l t m) (other l t m) (λ c. same_before c job input grants other h k l t m)
 
+-- as functions
 same_grants : (grants other : Grants) → ((l t : Label) (m : ℕ) → grants l t m ≡ other l t m) → grants ≡ other
 same_grants grants other h = fun_ext (λ (l : Label). fun_ext (λ (t : Label). fun_ext (λ (m : ℕ). h l t m)))
 
@@ -185,7 +187,8 @@ settled_is_meaning table grants job input once in_range small h =
     settled_is_walking table grants job input once h.froms
     ∙ ap (λ (g : Grants). root_walk (two_walks g) job input)
     (same_grants grants (meaning_grants job input)
-    (one_is_granted job input grants (meaning_grants job input) (settled_is_granted table grants job input once h) (meaning_is_granted job input in_range small)))
+    (one_is_granted job input grants (meaning_grants job input) (settled_is_granted table grants job input once h)
+    (meaning_is_granted job input in_range small)))
 
 -- so there is one settled pair of tables
 pub one_table_is_settled : OneTableIsSettled

@@ -1,12 +1,10 @@
 -- What limiters and channels grant by the next moment is determined by what was done to them before.
-use Rattle.std.proofs.Common.{◌≡◌, ℕ, zero, suc, ◌+◌, ◌<◌, ◌≤◌, min, ◌==◌, Bool, true, false, not, ◌&&◌, Option, Some, None, List, [], ◌∷◌, ◌++◌, refl, ap, sym, ◌∙◌, ◌⊎◌, inl, inr, arith, nat_le, nat_lt, if◌then◌else◌}
+use Rattle.std.proofs.Common.{◌≡◌, ℕ, suc, ◌+◌, ◌<◌, ◌≤◌, min, ◌==◌, Bool, true, false, not, ◌&&◌, Option, Some, None, List, [], ◌∷◌, ◌++◌, refl, ap, sym, ◌∙◌, arith, nat_le, nat_lt, if◌then◌else◌}
 use Rattle.std.specs.Prelude.{map}
-use Rattle.std.proofs.lemmas.Bool.{true≢false, le-ltb}
+use Rattle.std.proofs.lemmas.Bool.{le-ltb}
 use Rattle.std.proofs.lemmas.Bool.Decides.{nat_tests}
 use Rattle.job_tree.specs.Tree.{Tree}
-use Rattle.job_tree.specs.declared.object.Ask.{Ask}
 use Rattle.job_tree.specs.declared.object.Ask.TheVariants.{Acquire, Send, Receive}
-use Rattle.job_tree.specs.declared.object.ObjectKind.{ObjectKind}
 use Rattle.job_tree.specs.declared.object.ObjectKind.TheVariants as kinds
 use Rattle.input_lines.specs.Lines.{Range}
 use Rattle.exceptions.specs.Exceptions.{Label}
@@ -16,13 +14,13 @@ use Rattle.objects.specs.Limiters.{LimiterAct, LimiterServed}
 use Rattle.objects.specs.Channels as channels
 use Rattle.objects.specs.Channels.{ChannelAct, ChannelServed, Grant}
 use Rattle.job_meaning.specs.Log.{Act, opens, asks, gives_back, closes, Log, nil, entry, sign, entered, act, task, Result, same_label}
-use Rattle.job_meaning.specs.Sharing.{Done, done_if, own_acts, acts_in, insert_by_moment, by_moment, Asker, a_token, Granted, Given, Object, unopened, a_limiter, a_channel, stays_at, asker_of, given_at, given_by, Outcome, of_limiter, of_channel, limiter_acts, channel_acts, opened_by, serve_act, serve_acts, granted_if, find_given, grants_of, granted_before}
+use Rattle.job_meaning.specs.Sharing.{Done, done_if, own_acts, acts_in, insert_by_moment, by_moment, Asker, a_token, Granted, Given, Object, unopened, a_limiter, a_channel, stays_at, given_at, given_by, Outcome, of_limiter, of_channel, limiter_acts, channel_acts, opened_by, serve_act, serve_acts, granted_if, find_given, grants_of, granted_before}
 use Rattle.job_meaning.specs.Meaning.{root_label, root_log}
 use Rattle.job_meaning.specs.Before.{NearGrants, Agree, left_before, act_before, entry_if, sign_before, exc_if, entered_if, act_if, task_if, log_before}
 use Rattle.job_meaning.proofs.Late.{Timed}
 use Rattle.job_meaning.proofs.Clips.{clipped_late}
 use Rattle.job_meaning.proofs.Agreeing.{agree_logs}
-use Rattle.job_meaning.proofs.ServedAlike.{limiter_by, limiter_served_by, LimiterActsAlike, AllLimiterActsAlike, limiter_alike, channel_by, channel_served_by, grant_by, AllChannelActsAlike, channel_alike}
+use Rattle.job_meaning.proofs.ServedAlike.{limiter_by, AllLimiterActsAlike, limiter_alike, channel_by, grant_by, AllChannelActsAlike, channel_alike}
 
 -- the moments of acts, and those of grants
 abbrev pub Each : (ℕ → Type 0) → List Done → Type 0
@@ -45,6 +43,7 @@ given_append : (Q : ℕ → Type 0) (xs ys : List Given) → EachGiven Q xs → 
 given_append Q [] ys h k = k
 given_append Q (g ∷ xs) ys h k = (h.0, given_append Q xs ys h.1 k)
 
+-- to put acts in order changes nothing in what holds of each
 each_inserted : (P : ℕ → Type 0) (d : Done) (ds : List Done) → P d.at → Each P ds → Each P (insert_by_moment d ds)
 each_inserted P d [] h k = (h, tt)
 each_inserted P d (e ∷ es) h k = by_order (nat_le d.at e.at) (each_inserted P d es h k.1)
@@ -85,11 +84,13 @@ given_served Q (a_limiter l) d q =
 given_served Q (a_channel c) d q =
     given_of_channel Q d.at (channels.after_acts c (channels.leaves (stays_at d.at) ∷ channel_acts d d.act)).granted q
 
+-- so all that is granted comes in a moment that follows that of an act
 pub each_served : (P Q : ℕ → Type 0) → ((t : ℕ) → P t → Q (t + 1)) → (o : Object) (ds : List Done) → Each P ds → EachGiven Q (serve_acts o ds)
 each_served P Q next o [] h = tt
 each_served P Q next o (d ∷ ds) h =
     given_append Q (serve_act o d).given _ (given_served Q o d (next d.at h.0)) (each_served P Q next (serve_act o d).object ds h.1)
 
+-- what holds of each grant holds of the one that is found
 pub found_given : (Q : ℕ → Type 0) (t : Label) (m : ℕ) (gs : List Given) → EachGiven Q gs → OnGranted Q (find_given t m gs)
 found_given Q t m [] h = tt
 found_given Q t m (g ∷ gs) h = by_test (same_label t g.task && (m == g.asked)) (found_given Q t m gs h.1)
@@ -128,6 +129,7 @@ stays_known c m lt asker = ap (λ (b : Bool). not b) (reached asker.left)
             never : m < t → false ≡ nat_le t m
             never h = grind (arith, nat_tests)
 
+-- what an act is to a limiter, and to a channel
 limiter_acts_cut : (c : ℕ) (d : Done) (a : Act) → AllLimiterActsAlike (cut_asker c) (limiter_acts d a) (limiter_acts (cut_done c d) (act_before c a))
 limiter_acts_cut c d (opens kind) = tt
 limiter_acts_cut c d (asks Acquire part left) = (refl, tt)
@@ -144,6 +146,7 @@ channel_acts_cut c d (asks Receive part left) = (refl, tt)
 channel_acts_cut c d gives_back = tt
 channel_acts_cut c d closes = (tt, tt)
 
+-- what an act opens
 opened_cut : (c : ℕ) (a : Act) → opened_by (act_before c a) ≡ cut_outcome c (opened_by a)
 opened_cut c (opens (kinds.Limiter tokens)) = refl
 opened_cut c (opens (kinds.Channel places)) = refl
@@ -151,6 +154,7 @@ opened_cut c (asks ask part left) = refl
 opened_cut c gives_back = refl
 opened_cut c closes = refl
 
+-- what is granted names no more of an asker than its task and when it asked
 tokens_cut : (c m : ℕ) (granted : List Asker) →
     map (λ who. given_at m who a_token) (map (cut_asker c) granted) ≡ map (λ who. given_at m who a_token) granted
 tokens_cut c m [] = refl
@@ -174,7 +178,8 @@ serve_cut : (c : ℕ) (o : Object) (d : Done) → d.at < c → serve_act (cut_ob
 serve_cut c unopened d lt = opened_cut c d.act
 serve_cut c (a_limiter l) d lt =
     ap (λ (s : LimiterServed Asker). of_limiter d.at s)
-    (limiter_alike (cut_asker c) l (limiters.leaves (stays_at d.at) ∷ limiter_acts d d.act) (limiters.leaves (stays_at d.at) ∷ limiter_acts (cut_done c d) (act_before c d.act))
+    (limiter_alike (cut_asker c) l (limiters.leaves (stays_at d.at) ∷ limiter_acts d d.act)
+    (limiters.leaves (stays_at d.at) ∷ limiter_acts (cut_done c d) (act_before c d.act))
     (stays_known c d.at lt, limiter_acts_cut c d d.act))
     ∙ ap (λ (gs : List Given). record { object = a_limiter (limiter_by (cut_asker c) served.limiter); given = gs }) (tokens_cut c d.at served.granted)
   where
@@ -182,7 +187,8 @@ serve_cut c (a_limiter l) d lt =
     served = limiters.after_acts l (limiters.leaves (stays_at d.at) ∷ limiter_acts d d.act)
 serve_cut c (a_channel ch) d lt =
     ap (λ (s : ChannelServed Asker Range). of_channel d.at s)
-    (channel_alike (cut_asker c) ch (channels.leaves (stays_at d.at) ∷ channel_acts d d.act) (channels.leaves (stays_at d.at) ∷ channel_acts (cut_done c d) (act_before c d.act))
+    (channel_alike (cut_asker c) ch (channels.leaves (stays_at d.at) ∷ channel_acts d d.act)
+    (channels.leaves (stays_at d.at) ∷ channel_acts (cut_done c d) (act_before c d.act))
     (stays_known c d.at lt, channel_acts_cut c d d.act))
     ∙ ap (λ (gs : List Given). record { object = a_channel (channel_by (cut_asker c) served.channel); given = gs }) (grants_cut c d.at served.granted)
   where
@@ -212,6 +218,7 @@ each_more : (P Q : ℕ → Type 0) → ((t : ℕ) → P t → Q t) → (ds : Lis
 each_more P Q f [] h = tt
 each_more P Q f (d ∷ ds) h = (f d.at h.0, each_more P Q f ds h.1)
 
+-- an act that is inserted stands in its order
 sorted_inserted : (d : Done) (ds : List Done) → Sorted ds → Sorted (insert_by_moment d ds)
 sorted_inserted d [] h = (tt, tt)
 sorted_inserted d (e ∷ es) h = by_order (nat_le d.at e.at) refl (sorted_inserted d es h.1)
@@ -243,6 +250,7 @@ each_cut P c (d ∷ ds) h = by_order (nat_lt d.at c) (each_cut P c ds h.1)
     by_order true k = (h.0, k)
     by_order false k = k
 
+-- an act before all others
 insert_first : (d : Done) (ds : List Done) → Each (λ t. d.at ≤ t) ds → insert_by_moment d ds ≡ d ∷ ds
 insert_first d [] h = refl
 insert_first d (e ∷ es) h = ap (λ (b : Bool). if b then d ∷ e ∷ es else e ∷ insert_by_moment d es) (holds h.0)
@@ -263,7 +271,9 @@ cut_inserted c d (e ∷ es) h = by_order (nat_le d.at e.at) refl (cut_inserted c
     first : nat_le d.at e.at ≡ true → (b : Bool) →
         done_if b (cut_done c d) (cut c (e ∷ es)) ≡ (if b then insert_by_moment (cut_done c d) (cut c (e ∷ es)) else cut c (e ∷ es))
     first i false = refl
-    first i true = sym (insert_first (cut_done c d) (cut c (e ∷ es)) (each_cut (λ t. d.at ≤ t) c (e ∷ es) (le, each_more (λ t. e.at ≤ t) (λ t. d.at ≤ t) past es h.0)))
+    first i true =
+        sym (insert_first (cut_done c d) (cut c (e ∷ es))
+        (each_cut (λ t. d.at ≤ t) c (e ∷ es) (le, each_more (λ t. e.at ≤ t) (λ t. d.at ≤ t) past es h.0)))
       where
         le : d.at ≤ e.at
         le = grind (arith, nat_tests)
@@ -288,6 +298,7 @@ cut_inserted c d (e ∷ es) h = by_order (nat_le d.at e.at) refl (cut_inserted c
         ap (λ (xs : List Done). done_if (nat_lt e.at c) (cut_done c e) xs) k
         ∙ after i (nat_lt d.at c) (nat_lt e.at c) refl refl
 
+-- acts that are put in order and cut are those that are cut and put in order
 cut_by_moment : (c : ℕ) (ds : List Done) → cut c (by_moment ds) ≡ by_moment (cut c ds)
 cut_by_moment c [] = refl
 cut_by_moment c (d ∷ ds) = cut_inserted c d (by_moment ds) (sorted_by_moment ds) ∙ by_order (nat_lt d.at c) (cut_by_moment c ds)
@@ -347,7 +358,8 @@ serve_near c t m o (d ∷ ds) h = by_order (nat_lt d.at c) refl (serve_near c t 
         (serve_cut c o d (grind (arith, nat_tests))))
     by_order false e k =
         granted_from (suc c) (find_given t m (serve_acts o (d ∷ ds)))
-        (found_given (λ u. suc c ≤ u) t m (serve_acts o (d ∷ ds)) (each_served (λ u. c ≤ u) (λ u. suc c ≤ u) next o (d ∷ ds) (late (grind (arith, nat_tests)))))
+        (found_given (λ u. suc c ≤ u) t m (serve_acts o (d ∷ ds))
+        (each_served (λ u. c ≤ u) (λ u. suc c ≤ u) next o (d ∷ ds) (late (grind (arith, nat_tests)))))
         ∙ sym (ap (λ (xs : List Done). granted_before (suc c) (find_given t m (serve_acts (cut_object c o) xs)))
         (cut_late c ds (late (grind (arith, nat_tests))).1))
 
@@ -404,12 +416,14 @@ acts_cut : (c s : ℕ) (l : Label) (a : Log) → Timed s a → acts_in l (log_be
 acts_cut c s l nil h = refl
 acts_cut c s l (entry m e rest) h = by_kept (nat_lt m c) (acts_cut c s l rest h.1)
   where
-    by_kept : (b : Bool) → acts_in l (log_before c rest) ≡ cut c (acts_in l rest) → acts_in l (entry_if b m e (log_before c rest)) ≡ cut c (acts_in l rest)
+    by_kept : (b : Bool) → acts_in l (log_before c rest) ≡ cut c (acts_in l rest) →
+        acts_in l (entry_if b m e (log_before c rest)) ≡ cut c (acts_in l rest)
     by_kept true k = k
     by_kept false k = k
 acts_cut c s l (sign x m rest) h = by_kept (nat_lt m c) (acts_cut c s l rest h.1)
   where
-    by_kept : (b : Bool) → acts_in l (log_before c rest) ≡ cut c (acts_in l rest) → acts_in l (sign_before b x m (log_before c rest)) ≡ cut c (acts_in l rest)
+    by_kept : (b : Bool) → acts_in l (log_before c rest) ≡ cut c (acts_in l rest) →
+        acts_in l (sign_before b x m (log_before c rest)) ≡ cut c (acts_in l rest)
     by_kept true k = k
     by_kept false k = k
 acts_cut c s l (entered x m d rest) h = by_kept (nat_lt m c) (acts_cut c s l rest h.1)
@@ -426,9 +440,11 @@ acts_cut c s l (act x m a rest) h = by_kept (nat_lt m c) (acts_cut c s l rest h.
     by_kept false k = k
 acts_cut c s l (task x v u e own rest) h =
     by_kept (nat_lt v c) refl (acts_cut c v l own h.2) (acts_cut c s l rest h.3)
-    ∙ sym (cut_append c (own_acts l x own) (acts_in l own ++ acts_in l rest) ∙ ap (λ (ys : List Done). cut c (own_acts l x own) ++ ys) (cut_append c (acts_in l own) (acts_in l rest)))
+    ∙ sym (cut_append c (own_acts l x own) (acts_in l own ++ acts_in l rest)
+    ∙ ap (λ (ys : List Done). cut c (own_acts l x own) ++ ys) (cut_append c (acts_in l own) (acts_in l rest)))
   where
-    by_kept : (b : Bool) → nat_lt v c ≡ b → acts_in l (log_before c own) ≡ cut c (acts_in l own) → acts_in l (log_before c rest) ≡ cut c (acts_in l rest) →
+    by_kept : (b : Bool) → nat_lt v c ≡ b → acts_in l (log_before c own) ≡ cut c (acts_in l own) →
+        acts_in l (log_before c rest) ≡ cut c (acts_in l rest) →
         acts_in l (task_if b x v (min c u) (exc_if (nat_lt u c) e) (log_before c own) (log_before c rest))
         ≡ cut c (own_acts l x own) ++ (cut c (acts_in l own) ++ cut c (acts_in l rest))
     by_kept true i j k = both_joined (own_acts_cut c l x own) (both_joined j k)
@@ -457,7 +473,8 @@ pub near_grants : (c : ℕ) (job : Tree) (r q : Result) → Timed 0 r.log → Ti
     NearGrants (suc c) (grants_of (root_log job r)) (grants_of (root_log job q))
 near_grants c job r q h k e l t m =
     of_walk r
-    ∙ (ap (λ (xs : List Done). granted_before (suc c) (find_given t m (serve_acts unopened (by_moment xs)))) (acts_near c l job r q h k e) ∙ sym (of_walk q))
+    ∙ (ap (λ (xs : List Done). granted_before (suc c) (find_given t m (serve_acts unopened (by_moment xs)))) (acts_near c l job r q h k e)
+    ∙ sym (of_walk q))
   where
     of_walk : (x : Result) → granted_before (suc c) (grants_of (root_log job x) l t m)
         ≡ granted_before (suc c) (find_given t m (serve_acts unopened (by_moment (cut c (acts_in l (root_log job x))))))

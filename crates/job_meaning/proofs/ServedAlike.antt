@@ -1,4 +1,5 @@
--- Limiters and channels serve those who ask alike, whatever is known of these, where the same of them stay in the queues.
+-- Limiters and channels serve those who ask alike, whatever is known of these, where the same of them stay in the queues: with other
+-- askers in the place of the first ones they do the same.
 use Rattle.std.proofs.Common.{◌≡◌, ℕ, zero, suc, Bool, true, false, List, [], ◌∷◌, ◌++◌, length, refl, ap, sym, ◌∙◌, nat_lt, if◌then◌else◌}
 use Rattle.std.specs.Prelude.{map}
 use Rattle.std.specs.List.{filter}
@@ -41,6 +42,7 @@ AllLimiterActsAlike f [] [] = Unit {0}
 AllLimiterActsAlike f (a ∷ acts) (b ∷ others) = LimiterActsAlike f a b × AllLimiterActsAlike f acts others
 AllLimiterActsAlike f _ _ = ⊥
 
+-- a token is asked for, and one comes back
 acquired_alike : {A B : Type 0} (f : A → B) (free : ℕ) (waiting : List A) (who : A) →
     acquire_of free (map f waiting) (f who) ≡ limiter_served_by f (acquire_of free waiting who)
 acquired_alike f zero waiting who =
@@ -52,6 +54,7 @@ given_back_alike : {A B : Type 0} (f : A → B) (free : ℕ) (waiting : List A) 
 given_back_alike f free [] = refl
 given_back_alike f free (first ∷ waiting) = refl
 
+-- one act
 limiter_act_alike : {A B : Type 0} (f : A → B) (l : Limiter A) (a : LimiterAct A) (b : LimiterAct B) → LimiterActsAlike f a b →
     limiters.after_act (limiter_by f l) b ≡ limiter_served_by f (limiters.after_act l a)
 limiter_act_alike f l (acquires who) (acquires other) e =
@@ -115,40 +118,49 @@ AllChannelActsAlike f [] [] = Unit {0}
 AllChannelActsAlike f (a ∷ acts) (b ∷ others) = ChannelActsAlike f a b × AllChannelActsAlike f acts others
 AllChannelActsAlike f _ _ = ⊥
 
+-- a part for which nobody waits
 put_alike : {A B P : Type 0} (f : A → B) (c : Channel A P) (who : A) (part : P) →
     put_part (channel_by f c) (f who) part ≡ channel_served_by f (put_part c who part)
-put_alike f c who part = by_room (nat_lt (length c.buffer) c.places)
+put_alike {B = B} {P = P} f c who part = by_room (nat_lt (length c.buffer) c.places)
   where
+    goes_in : ChannelServed B P
+    goes_in = record { channel = record (channel_by f c) { buffer = c.buffer ++ part ∷ [] }; granted = sent (f who) part ∷ [] }
+
+    waits : List (Sender B P) → ChannelServed B P
+    waits senders = record { channel = record (channel_by f c) { senders = senders }; granted = [] }
+
     by_room : (b : Bool) →
-        (if b then record { channel = record (channel_by f c) { buffer = c.buffer ++ part ∷ [] }; granted = sent (f who) part ∷ [] }
-        else record { channel = record (channel_by f c) { senders = map (sender_by f) c.senders ++ record { who = f who; part = part } ∷ [] }; granted = [] })
+        (if b then goes_in else waits (map (sender_by f) c.senders ++ record { who = f who; part = part } ∷ []))
         ≡ channel_served_by f (if b then record { channel = record c { buffer = c.buffer ++ part ∷ [] }; granted = sent who part ∷ [] }
         else record { channel = record c { senders = c.senders ++ record { who = who; part = part } ∷ [] }; granted = [] })
     by_room true = refl
-    by_room false =
-        ap (λ ss. record { channel = record (channel_by f c) { senders = ss }; granted = [] })
-        (sym (map-append (sender_by f) c.senders (record { who = who; part = part } ∷ [])))
+    by_room false = ap waits (sym (map-append (sender_by f) c.senders (record { who = who; part = part } ∷ [])))
 
+-- a part, by who waits to receive
 pass_alike : {A B P : Type 0} (f : A → B) (c : Channel A P) (receivers : List A) (who : A) (part : P) →
     pass_part (channel_by f c) (map f receivers) (f who) part ≡ channel_served_by f (pass_part c receivers who part)
 pass_alike f c [] who part = put_alike f c who part
 pass_alike f c (first ∷ receivers) who part = refl
 
+-- a part is sent
 send_alike : {A B P : Type 0} (f : A → B) (c : Channel A P) (who : A) (part : P) →
     send_to (channel_by f c) (f who) part ≡ channel_served_by f (send_to c who part)
 send_alike f c who part = by_closed c.is_closed
   where
     by_closed : (b : Bool) →
-        (if b then record { channel = channel_by f c; granted = closed_resource (f who) ∷ [] } else pass_part (channel_by f c) (map f c.receivers) (f who) part)
+        (if b then record { channel = channel_by f c; granted = closed_resource (f who) ∷ [] }
+        else pass_part (channel_by f c) (map f c.receivers) (f who) part)
         ≡ channel_served_by f (if b then record { channel = c; granted = closed_resource who ∷ [] } else pass_part c c.receivers who part)
     by_closed true = refl
     by_closed false = pass_alike f c c.receivers who part
 
+-- the first of the buffer is received
 take_alike : {A B P : Type 0} (f : A → B) (c : Channel A P) (part : P) (buffer : List P) (senders : List (Sender A P)) (who : A) →
     take_part (channel_by f c) part buffer (map (sender_by f) senders) (f who) ≡ channel_served_by f (take_part c part buffer senders who)
 take_alike f c part buffer [] who = refl
 take_alike f c part buffer (first ∷ senders) who = refl
 
+-- who receives waits
 await_alike : {A B P : Type 0} (f : A → B) (c : Channel A P) (who : A) →
     await_part (channel_by f c) (f who) ≡ channel_served_by f (await_part c who)
 await_alike f c who = by_closed c.is_closed
@@ -162,16 +174,19 @@ await_alike f c who = by_closed c.is_closed
     by_closed false =
         ap (λ rs. record { channel = record (channel_by f c) { receivers = rs }; granted = [] }) (sym (map-append f c.receivers (who ∷ [])))
 
+-- or meets a sender
 meet_alike : {A B P : Type 0} (f : A → B) (c : Channel A P) (senders : List (Sender A P)) (who : A) →
     meet_sender (channel_by f c) (map (sender_by f) senders) (f who) ≡ channel_served_by f (meet_sender c senders who)
 meet_alike f c [] who = await_alike f c who
 meet_alike f c (first ∷ senders) who = refl
 
+-- a part is asked for
 receive_alike : {A B P : Type 0} (f : A → B) (c : Channel A P) (buffer : List P) (who : A) →
     receive_with (channel_by f c) buffer (f who) ≡ channel_served_by f (receive_with c buffer who)
 receive_alike f c [] who = meet_alike f c c.senders who
 receive_alike f c (part ∷ buffer) who = take_alike f c part buffer c.senders who
 
+-- who waits is let go
 refused_alike : {A B P : Type 0} (f : A → B) (senders : List (Sender A P)) →
     refuse_senders (map (sender_by f) senders) ≡ map (grant_by f) (refuse_senders senders)
 refused_alike f [] = refl
@@ -182,6 +197,7 @@ ended_alike : {A B P : Type 0} (f : A → B) (receivers : List A) →
 ended_alike f [] = refl
 ended_alike f (who ∷ receivers) = ap (λ gs. end_of_channel (f who) ∷ gs) (ended_alike f receivers)
 
+-- a channel is closed
 close_alike : {A B P : Type 0} (f : A → B) (c : Channel A P) → close_of (channel_by f c) ≡ channel_served_by f (close_of c)
 close_alike f c = ap (λ gs. record { channel = record (channel_by f c) { is_closed = true; senders = []; receivers = [] }; granted = gs }) both
   where
@@ -192,14 +208,18 @@ close_alike f c = ap (λ gs. record { channel = record (channel_by f c) { is_clo
         ∙ (ap (λ gs. map (grant_by f) (refuse_senders c.senders) ++ gs) (ended_alike f c.receivers)
         ∙ sym (map-append (grant_by f) (refuse_senders c.senders) (end_receivers c.receivers)))
 
+-- some leave the queues
 left_alike : {A B P : Type 0} (f : A → B) (c : Channel A P) (stays : A → Bool) (others : B → Bool) → ((who : A) → others (f who) ≡ stays who) →
     channels.after_act (channel_by f c) (channels.leaves others) ≡ channel_served_by f (channels.after_act c (channels.leaves stays))
-left_alike f c stays others same =
-    ap (λ ss. record { channel = record (channel_by f c) { senders = ss; receivers = filter others (map f c.receivers) }; granted = [] })
+left_alike {B = B} {P = P} f c stays others same =
+    ap (λ ss. with_queues ss (filter others (map f c.receivers)))
     (filter_alike (sender_by f) (λ s. stays s.who) (λ s. others s.who) (λ s. same s.who) c.senders)
-    ∙ ap (λ rs. record { channel = record (channel_by f c) { senders = map (sender_by f) (filter (λ s. stays s.who) c.senders); receivers = rs }; granted = [] })
-    (filter_alike f stays others same c.receivers)
+    ∙ ap (λ rs. with_queues (map (sender_by f) (filter (λ s. stays s.who) c.senders)) rs) (filter_alike f stays others same c.receivers)
+  where
+    with_queues : List (Sender B P) → List B → ChannelServed B P
+    with_queues senders receivers = record { channel = record (channel_by f c) { senders = senders; receivers = receivers }; granted = [] }
 
+-- one act
 channel_act_alike : {A B P : Type 0} (f : A → B) (c : Channel A P) (a : ChannelAct A P) (b : ChannelAct B P) → ChannelActsAlike f a b →
     channels.after_act (channel_by f c) b ≡ channel_served_by f (channels.after_act c a)
 channel_act_alike f c (sends who part) (sends other same) e =

@@ -50,7 +50,8 @@ record Inside (t : ℕ) (inside : Tick → Result) : Type 0 where
   later : (f : Tick) → Late t (inside f)
   causal : (c : ℕ) (f g : Tick) → upto c f ≡ upto c g → log_before c (inside f).log ≡ log_before c (inside g).log
 
-module _ (table : Table) (grants : Grants) (clock : Clock) (kind : Kind) (label : Label) (t : ℕ) (d : Tick) (shield : Bool) (st : Stack) (inside inside' : Tick → Result)
+module _ (table : Table) (grants : Grants) (clock : Clock) (kind : Kind) (label : Label) (t : ℕ) (d : Tick) (shield : Bool) (st : Stack)
+    (inside inside' : Tick → Result)
     (own : (f : Tick) → Gives label (inside f).log → ⊥) where
   -- the log of a block after the entering of its label
   abbrev inner_log : Tick → Log
@@ -117,7 +118,8 @@ module _ (table : Table) (grants : Grants) (clock : Clock) (kind : Kind) (label 
       ∙ ap (λ (r : Result). exit_with_from clock kind label t d shield st from r) inner
 
 -- The same of an event, whose log has only its label more.
-module _ (table : Table) (grants : Grants) (label : Label) (t : ℕ) (inside inside' : Tick → Result) (own : (f : Tick) → Gives label (inside f).log → ⊥) where
+module _ (table : Table) (grants : Grants) (label : Label) (t : ℕ) (inside inside' : Tick → Result)
+    (own : (f : Tick) → Gives label (inside f).log → ⊥) where
   fits_in_event : (f : Tick) → Fits table (event_result label t (inside f)).log → Fits table (inside f).log
   fits_in_event f h = record { each_label = each_one }
     where
@@ -275,7 +277,8 @@ settled_goes_on table label m go go' same f =
 
 -- what a task does with what it is granted is the same, where the block of the step is
 settled_granted : (table : Table) (label : Label) (here : Here) (m : ℕ) (what : What) (go go' : Here → Now → Result) →
-    ((lent : Range) (u : Now) → Fits table (go (record here { part = lent }) u).log → go' (record here { part = lent }) u ≡ go (record here { part = lent }) u) →
+    ((lent : Range) (u : Now) → Fits table (go (record here { part = lent }) u).log →
+    go' (record here { part = lent }) u ≡ go (record here { part = lent }) u) →
     Fits table (granted_result label here m what go).log → granted_result label here m what go' ≡ granted_result label here m what go
 settled_granted table label here m a_token go go' same f =
     settled_goes_on table label m (λ u. with_token_back label (go here u)) (λ u. with_token_back label (go' here u))
@@ -288,9 +291,11 @@ settled_granted table label here m closed_resource go go' same f = refl
 settled_granted table label here m end_of_channel go go' same f = refl
 
 -- an ask in two modes that grant the same
-settled_asking : (table : Table) (m other : Mode) (ask : Ask) (label : Option Label) (here : Here) (st : Stack) (t : Now) (go go' : Here → Now → Result) →
+settled_asking : (table : Table) (m other : Mode) (ask : Ask) (label : Option Label) (here : Here) (st : Stack) (t : Now)
+    (go go' : Here → Now → Result) →
     grants_in other ≡ grants_in m →
-    ((lent : Range) (u : Now) → Fits table (go (record here { part = lent }) u).log → go' (record here { part = lent }) u ≡ go (record here { part = lent }) u) →
+    ((lent : Range) (u : Now) → Fits table (go (record here { part = lent }) u).log →
+    go' (record here { part = lent }) u ≡ go (record here { part = lent }) u) →
     Fits table (ask_result m ask label here st t go).log → ask_result other ask label here st t go' ≡ ask_result m ask label here st t go
 unfolding ask_result
 settled_asking table m other ask None here st t go go' grants same f = refl
@@ -469,7 +474,8 @@ late_nursery m body label here inner t = late_gathered here.clock t.at label _ (
 agree_nursery : (c : ℕ) (m : Mode) (body : Steps) (label : Label) (here : Here) (inner outer : Stack) (t : Now) → Near c inner outer →
     log_before c (nursery_inside m body label here inner t).log ≡ log_before c (nursery_inside m body label here outer t).log
 agree_nursery c m body label here inner outer t near =
-    agree_logs (agree_gathered c here.clock label _ _ (agree_signed c inner outer _ _ near (agree c m m body here inner outer t (modes_same c m) near)))
+    agree_logs (agree_gathered c here.clock label _ _
+    (agree_signed c inner outer _ _ near (agree c m m body here inner outer t (modes_same c m) near)))
 
 nursery_is_inside : (m : Mode) (body : Steps) (label : Label) (here : Here) (shield : Bool) (st : Stack) (t : Now) →
     Inside t.at (λ f. nursery_inside m body label here (stack_inside label shield f st) t)

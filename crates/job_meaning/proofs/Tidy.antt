@@ -11,7 +11,7 @@ use Rattle.input_lines.specs.Lines.{Range, Span}
 use Rattle.exceptions.specs.Exceptions.{Label, Exc, cancelled, raised}
 use Rattle.exceptions.specs.Split.{Wanted, keep, drop}
 use Rattle.cancel_scopes.specs.Sight.{Tick, Level, is_reached, sight, seen, catches}
-use Rattle.job_meaning.specs.Log.{Log, nil, entry, waited, Act, act, gives_back, followed_by, Result}
+use Rattle.job_meaning.specs.Log.{Log, nil, entry, Act, act, gives_back, followed_by, Result}
 use Rattle.job_meaning.specs.Sharing.{What, a_token, was_sent, a_part, closed_resource, end_of_channel, Granted}
 use Rattle.job_meaning.specs.Moments.{tick_of, a_round_after, gives_up_at, Now, only_at}
 use Rattle.job_meaning.specs.declared.clock.Clock.{Clock}
@@ -301,7 +301,8 @@ tidy_left st P here from left = by_sight (is_reached from left)
 
 tidy_goes_on : (st : Stack) (P : Label → Type 0) (label : Label) (m : ℕ) (go : Now → Result) → ((u : Now) → Tidy st P (go u)) →
     Tidy st P (goes_on label m go)
-tidy_goes_on st P label m go h = tidy_joined st P (noted_at label m) (go (only_at m)) (record { gives = λ l e. absurd e; signs = λ l e. absurd e }) (h (only_at m))
+tidy_goes_on st P label m go h =
+    tidy_joined st P (noted_at label m) (go (only_at m)) (record { gives = λ l e. absurd e; signs = λ l e. absurd e }) (h (only_at m))
 
 tidy_granted : (st : Stack) (P : Label → Type 0) (label : Label) (here : Here) (m : ℕ) (what : What) (go : Here → Now → Result) →
     ((lent : Range) (u : Now) → Tidy st P (go (record here { part = lent }) u)) → Tidy st P (granted_result label here m what go)

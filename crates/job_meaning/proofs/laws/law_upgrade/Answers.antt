@@ -1,4 +1,4 @@
-use Rattle.std.proofs.Common.{◌≡◌, ℕ, zero, suc, List, refl, ap, ◌∙◌}
+use Rattle.std.proofs.Common.{◌≡◌, ℕ, zero, suc, List, refl, ap}
 use Rattle.job_tree.specs.Tree.{Tree}
 use Rattle.job_tree.specs.Formats.{in_format}
 use Rattle.job_tree.specs.declared.format.Format.{Format}
@@ -16,11 +16,13 @@ granted_same : (n : ℕ) (job : Tree) (input : List ℕ) →
     granted_by (in_format Two (record job { format = One })) input n ≡ granted_by (record job { format = One }) input n
 granted_same zero job input = refl
 granted_same (suc n) job input =
-    ap (λ (g : Grants). grants_before (suc n) (grants_of (root_log (record job { format = One }) (root_walk (two_walks g) (record job { format = One }) input))))
+    ap (λ (g : Grants). grants_before (suc n)
+    (grants_of (root_log (record job { format = One }) (root_walk (two_walks g) (record job { format = One }) input))))
     (granted_same n job input)
 
 -- so both mean the same
-meaning_same : (job : Tree) (input : List ℕ) → meaning (in_format Two (record job { format = One })) input ≡ meaning (record job { format = One }) input
+meaning_same : (job : Tree) (input : List ℕ) → meaning (in_format Two (record job { format = One })) input
+    ≡ meaning (record job { format = One }) input
 unfolding meaning meaning_grants
 meaning_same job input =
     ap (λ (g : Grants). root_walk (two_walks g) (record job { format = One }) input) (granted_same last_moment job input)
