@@ -2,22 +2,21 @@
 -- turn.
 use Rattle.std.specs.Prelude.{ℕ, suc, ◌+◌, ◌-◌, ◌==◌, nat_lt, if◌then◌else◌, List, [], ◌∷◌, ◌++◌, length}
 use Rattle.job_tree.specs.Tree.{Tree}
-use Rattle.job_meaning.specs.Log.{Result, Table}
+use Rattle.job_meaning.specs.Log.{Result}
 use Rattle.job_meaning.specs.Moments.{a_round_after, Now, only_at}
-use Rattle.job_meaning.specs.Walk.{by_table}
 use Rattle.job_meaning.specs.Meaning.{root_here}
 use Rattle.job_meaning.specs.Follow.{follow}
 use Rattle.job_meaning.specs.Rest.{ChildOutcomes, Stopped, Rest, rest_comes_to, rest_at_start}
-use Rattle.turn_semantics.specs.Midway.{stack_at, Begun, Move, now_after, no_outcomes, begun_comes_to}
+use Rattle.turn_semantics.specs.Midway.{Tables, by_tables, stack_at, Begun, Move, now_after, no_outcomes, begun_comes_to}
 use Rattle.interleavings.specs.Interleaving.{Started}
 
 -- The result of the root: that of following a table, where what the root has cancelled itself in the moment of its end does
 -- not count any more.
-abbrev pub root_result : Table → Tree → List ℕ → Result
-root_result k job input = record (follow k job input) { own = [] }
+abbrev pub root_result : Tables → Tree → List ℕ → Result
+root_result k job input = record (follow k.cancelled_from k.granted job input) { own = [] }
 
 -- the root before its first turn, with the result of following a table
-abbrev pub root_task : Table → Tree → List ℕ → Started
+abbrev pub root_task : Tables → Tree → List ℕ → Started
 root_task k job input =
     record {
       serial = 0;
@@ -34,12 +33,12 @@ root_task k job input =
     }
 
 -- a record of outcomes, with the results of following the table for the children that begin in moment t
-unfoldable pub outcomes_with : Table → ℕ → ChildOutcomes → List Begun → ChildOutcomes
+unfoldable pub outcomes_with : Tables → ℕ → ChildOutcomes → List Begun → ChildOutcomes
 outcomes_with k t outcomes [] i = outcomes i
 outcomes_with k t outcomes (b ∷ bs) i = if i == b.number then begun_comes_to k t b else outcomes_with k t outcomes bs i
 
 -- the children that begin in moment t as started tasks, with serial numbers from m on
-unfoldable pub children_from : Table → ℕ → ℕ → List Begun → List Started
+unfoldable pub children_from : Tables → ℕ → ℕ → List Begun → List Started
 children_from k t m [] = []
 children_from k t m (b ∷ bs) =
     record {
@@ -61,7 +60,7 @@ unfoldable pub child_from : (count : ℕ) → (ℕ → ℕ) → ℕ → ℕ → 
 child_from count child m i = if nat_lt i count then child i else (m + (i - count))
 
 -- the task after a turn in this moment that stopped so, where new serial numbers start at m
-abbrev pub task_after_turn : Table → Now → ℕ → Started → Move → Stopped → Started
+abbrev pub task_after_turn : Tables → Now → ℕ → Started → Move → Stopped → Started
 task_after_turn k now m q o s =
     let outcomes = outcomes_with k (a_round_after q.here.clock now.at) q.outcomes o.begun in
     let rest : Rest = record { stopped = s; frames = o.frames } in
@@ -77,5 +76,5 @@ task_after_turn k now m q o s =
       child = child_from q.count q.child m;
       outcomes = outcomes;
       final_result = q.final_result;
-      left = (rest_comes_to (by_table k) outcomes rest q.here (stack_at k o.places) stop).log;
+      left = (rest_comes_to (by_tables k) outcomes rest q.here (stack_at k.cancelled_from o.places) stop).log;
     }

@@ -1,15 +1,15 @@
 -- When a runner may wake a task, by the moments of cancellation that the runner keeps and the ends of the task's children.
-use Rattle.std.specs.Prelude.{◌≡◌, ◌⊎◌, Bool, true, false, ℕ, suc, ◌<◌, ◌≤◌, Option, List, []}
+use Rattle.std.specs.Prelude.{◌≡◌, ◌⊎◌, Bool, true, false, ℕ, suc, ◌<◌, ◌≤◌, Option, Some, List, []}
 use Rattle.turn_semantics.specs.Lists.{IsAmong}
 use Rattle.exceptions.specs.Exceptions.{Exc}
 use Rattle.cancel_scopes.specs.Sight.{seen}
-use Rattle.job_meaning.specs.Log.{Member, Table}
+use Rattle.job_meaning.specs.Log.{Member}
 use Rattle.job_meaning.specs.Moments.{a_round_after, wakes_at, Now}
 use Rattle.job_meaning.specs.declared.clock.Clock.{Clock}
 use Rattle.job_meaning.specs.Asking.{answer_of}
-use Rattle.job_meaning.specs.Rest.{Stopped, to_begin, asking, asleep, waiting_for, giving_up, awaiting, at_end, inside}
-use Rattle.turn_semantics.specs.Midway.{stack_at}
-use Rattle.turn_semantics.specs.Wakes.{Wake, begins, sees, gives_up, is_due, has_answer, settles, ends_at, SettlesAt}
+use Rattle.job_meaning.specs.Rest.{Stopped, to_begin, asking, asleep, waiting_for, queued, giving_up, awaiting, at_end, inside}
+use Rattle.turn_semantics.specs.Midway.{label_among, Tables, stack_at}
+use Rattle.turn_semantics.specs.Wakes.{Wake, begins, sees, gives_up, is_due, has_answer, is_granted, settles, ends_at, granted_to, LeavesAt, SettlesAt}
 pub use Rattle.interleavings.specs.Interleaving.{members_by}
 use Rattle.interleavings.specs.Interleaving.{Started}
 
@@ -32,19 +32,28 @@ abbrev pub IsOver : Clock → (set since t : ℕ) → (seen_now : Bool) → Type
 IsOver clock set since t seen_now =
     ((set ≤ a_round_after clock since) × (a_round_after clock since ≡ t) × (seen_now ≡ false)) ⊎ ((a_round_after clock since < set) × (set ≡ t))
 
--- A task may be woken so in a moment: it begins in this moment, or asked in it and has the kernel's answer; it is due now and
+-- A task may be woken so in a moment, by the moments of cancellation that the runner keeps and the grants of the tables that are followed: it begins in this moment, or asked in it and has the kernel's answer; it is due now and
 -- sees nothing; it sees a cancellation now; its checkpoint was cancelled a round before; or its nursery is over. What it has
 -- cancelled itself in the moment counts on, if it asked.
-abbrev pub MayWake : Table → List Started → Now → Started → Wake → Stopped → Type 0
+abbrev pub MayWake : Tables → List Started → Now → Started → Wake → Stopped → Type 0
 MayWake f qs now q begins to_begin = q.stop ≡ now
 MayWake f qs now q (has_answer a) (asking kernel purpose) = (q.stop ≡ now) × (a ≡ answer_of kernel (inside q.rest.frames q.here))
 MayWake f qs now q is_due (asleep paced n since) =
-    (wakes_at q.here.clock n since ≡ now.at) × (seen (stack_at f q.places).scopes now.at ≡ false) × (now.own ≡ [])
-MayWake f qs now q sees (asleep paced n since) = (since < now.at) × (seen (stack_at f q.places).scopes now.at ≡ true) × (now.own ≡ [])
+    (wakes_at q.here.clock n since ≡ now.at) × (seen (stack_at f.cancelled_from q.places).scopes now.at ≡ false) × (now.own ≡ [])
+MayWake f qs now q sees (asleep paced n since) = (since < now.at) × (seen (stack_at f.cancelled_from q.places).scopes now.at ≡ true) × (now.own ≡ [])
 MayWake f qs now q sees (waiting_for event since) =
-    SeesNow q.here.clock (ends_at q.here.clock f event since q.places) since now.at × (seen (stack_at f q.places).scopes now.at ≡ true) × (now.own ≡ [])
+    SeesNow q.here.clock (ends_at q.here.clock f.cancelled_from event since q.places) since now.at × (seen (stack_at f.cancelled_from q.places).scopes now.at ≡ true) × (now.own ≡ [])
 MayWake f qs now q is_due (waiting_for event since) =
-    IsOver q.here.clock (ends_at q.here.clock f event since q.places) since now.at (seen (stack_at f q.places).scopes now.at) × (now.own ≡ [])
+    IsOver q.here.clock (ends_at q.here.clock f.cancelled_from event since q.places) since now.at (seen (stack_at f.cancelled_from q.places).scopes now.at) × (now.own ≡ [])
+MayWake f qs now q (is_granted what) (queued object ask since body) =
+    (granted_to f (inside q.rest.frames q.here) (label_among true object q.places) since (stack_at f.cancelled_from q.places)
+    ≡ Some (record { at = now.at; what = what })) × (now.own ≡ [])
+MayWake f qs now q sees (queued object ask since body) =
+    LeavesAt f (inside q.rest.frames q.here) (label_among true object q.places) since now.at (stack_at f.cancelled_from q.places)
+    × (seen (stack_at f.cancelled_from q.places).scopes now.at ≡ true) × (now.own ≡ [])
+MayWake f qs now q is_due (queued object ask since body) =
+    LeavesAt f (inside q.rest.frames q.here) (label_among true object q.places) since now.at (stack_at f.cancelled_from q.places)
+    × (seen (stack_at f.cancelled_from q.places).scopes now.at ≡ false) × (now.own ≡ [])
 MayWake f qs now q gives_up (giving_up since) = (suc since ≡ now.at) × (now.own ≡ [])
 MayWake f qs now q (settles x) (awaiting children ended e) = WaitIsOver qs q now.at children ended e x × (now.own ≡ [])
 MayWake f qs now q _ _ = ⊥

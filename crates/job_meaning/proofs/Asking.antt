@@ -1,17 +1,17 @@
 -- Who asks a limiter or channel does the same before a tick c where what it sees and what is granted are the same before c.
-use Rattle.std.proofs.Common.{◌≡◌, ℕ, ◌+◌, ◌<◌, ◌≤◌, min, Bool, true, false, ◌&&◌, Option, Some, None, List, [], ◌∷◌, refl, ap, sym, ◌∙◌, subst, ◌⊎◌, inl, inr, arith, nat_le, nat_lt, if◌then◌else◌}
+use Rattle.std.proofs.Common.{◌≡◌, ℕ, ◌+◌, ◌<◌, ◌≤◌, min, Bool, true, false, ◌&&◌, Option, Some, None, refl, ap, sym, ◌∙◌, subst, ◌⊎◌, inl, inr, arith, nat_le, nat_lt, if◌then◌else◌}
 use Rattle.std.specs.Prelude.{codes}
 use Rattle.std.proofs.lemmas.Bool.{true≢false, cases_lt, le-ltb}
 use Rattle.std.proofs.lemmas.Bool.Decides.{nat_tests}
 use Rattle.job_tree.specs.declared.object.Ask.{Ask}
 use Rattle.exceptions.specs.Exceptions.{Label, cancelled, raised}
 use Rattle.cancel_scopes.specs.Sight.{Tick, is_reached, sight, seen}
-use Rattle.job_meaning.specs.Log.{Act, asks, gives_back, Log, nil, entry, act, Result}
+use Rattle.job_meaning.specs.Log.{Act, asks, gives_back, Log, nil, act, Result}
 use Rattle.job_meaning.specs.Sharing.{What, a_token, was_sent, a_part, closed_resource, end_of_channel, Granted, granted_if, granted_before}
 use Rattle.job_meaning.specs.Moments.{tick_of, gives_up_at, Now, only_at}
 use Rattle.job_meaning.specs.Walk.{Stack, Mode, two_walks, by_table, grants_in, Here, done_at, raised_at, stack_for, with_act, with_token_back, last_grant, leaves_queue, in_time, left_result, goes_on, granted_result, asked_result, asks_in, ask_result}
 use Rattle.job_meaning.specs.Before.{upto, Near, NearGrants, NearModes, Agree, soon, later, left_before, act_before, act_if, log_before}
-use Rattle.job_meaning.proofs.Late.{Late, noted_at, late_token_back, late_goes_on, late_granted, late_asking}
+use Rattle.job_meaning.proofs.Late.{Late, noted_at, late_token_back, late_granted, late_asking}
 use Rattle.job_meaning.proofs.Clips.{sight_near, seen_near, reached_near, both_clipped, clipped_late, clipped_tail}
 use Rattle.job_meaning.proofs.Agreeing.{agree_same, agree_joined}
 use Rattle.job_meaning.proofs.OwnSight.{stack_for_near}
@@ -27,8 +27,10 @@ grants_near c (by_table table grants) (two_walks other) near = absurd near
 agree_goes_on : (c : ℕ) (label : Label) (m : ℕ) (go go' : Now → Result) → ((u : Now) → Agree c (go u) (go' u)) → ((u : Now) → Late u.at (go u)) →
     ((u : Now) → Late u.at (go' u)) → Agree c (goes_on label m go) (goes_on label m go')
 agree_goes_on c label m go go' h k k' =
-    agree_joined c (noted_at label m) (noted_at label m) (go (only_at m)) (go' (only_at m)) (agree_same c (noted_at label m)) (h (only_at m)) (k (only_at m)).ends (k' (only_at m)).ends
+    agree_joined c (noted_at label m) (noted_at label m) (go (only_at m)) (go' (only_at m)) (agree_same c (noted_at label m)) (h (only_at m))
+    (k (only_at m)).ends (k' (only_at m)).ends
 
+-- so do blocks with a token, which comes back
 agree_token_back : (c : ℕ) (label : Label) (r q : Result) → Agree c r q → Agree c (with_token_back label r) (with_token_back label q)
 unfolding with_token_back
 agree_token_back c label r q (soon b e o x m l) =
@@ -36,6 +38,7 @@ agree_token_back c label r q (soon b e o x m l) =
 agree_token_back c label r q (later f s l) =
     later f s (clipped_tail c r.end r.log _ f (omega arith, tt) ∙ (l ∙ sym (clipped_tail c q.end q.log _ s (omega arith, tt))))
 
+-- so does what tasks do with what they are granted
 agree_granted : (c : ℕ) (label : Label) (here : Here) (m : ℕ) (what : What) (go go' : Here → Now → Result) →
     ((inner : Here) (u : Now) → Agree c (go inner u) (go' inner u)) → ((inner : Here) (u : Now) → Late u.at (go inner u)) →
     ((inner : Here) (u : Now) → Late u.at (go' inner u)) → Agree c (granted_result label here m what go) (granted_result label here m what go')
@@ -174,6 +177,7 @@ far_end c ask label here from m left None go k le = by_sight (is_reached from le
 far_end c ask label here from m left (Some g) go k le =
     let end : g.at ≤ (granted_result label here g.at g.what go).end = (late_granted label here g.at g.what go k).ends in omega arith
 
+-- who leaves the queue notes nothing
 quiet_left : (here : Here) (from : Tick) (left : ℕ) → (left_result here from left).log ≡ nil
 quiet_left here from left = by_sight (is_reached from left)
   where
@@ -196,7 +200,8 @@ far_log c ask label here from m left (Some g) go k le =
     (clipped_late c g.at (granted_result label here g.at g.what go).log le (late_granted label here g.at g.what go k).timed)
 
 -- who leaves before c does so in the same way
-agree_left : (c : ℕ) (here : Here) (f g : Tick) (u v : ℕ) → upto c f ≡ upto c g → min c u ≡ min c v → Agree c (left_result here f u) (left_result here g v)
+agree_left : (c : ℕ) (here : Here) (f g : Tick) (u v : ℕ) → upto c f ≡ upto c g → min c u ≡ min c v →
+    Agree c (left_result here f u) (left_result here g v)
 agree_left c here f g u v e h = by_order (cases_lt u c)
   where
     end_of : (x : Tick) (w : ℕ) → c ≤ w → c ≤ (left_result here x w).end
@@ -209,7 +214,8 @@ agree_left c here f g u v e h = by_order (cases_lt u c)
 
     same_sight : u < c → left_result here f u ≡ left_result here g u
     same_sight lt =
-        ap (λ (b : Bool). if b then raised_at cancelled (only_at u) else raised_at (raised (codes "Deadlock") here.task (tick_of here.clock u)) (only_at u))
+        ap (λ (b : Bool). if b then raised_at cancelled (only_at u) else raised_at (raised (codes "Deadlock") here.task (tick_of here.clock u))
+        (only_at u))
         (reached_near c f g u e lt)
 
     by_order : (u < c) ⊎ (c ≤ u) → Agree c (left_result here f u) (left_result here g v)
@@ -220,6 +226,7 @@ agree_left c here f g u v e h = by_order (cases_lt u c)
         later (end_of f u le) (end_of g v (omega arith))
         (ap (λ (x : Log). log_before c x) (quiet_left here f u ∙ sym (quiet_left here g v)))
 
+-- whether a task has left the queue before c
 left_same : (c u v : ℕ) → min c u ≡ min c v → left_before c (Some u) ≡ left_before c (Some v)
 left_same c u v h = by_order (cases_lt u c)
   where
@@ -228,7 +235,8 @@ left_same c u v h = by_order (cases_lt u c)
     by_order (inr le) = not_left_before c u le ∙ sym (not_left_before c v (omega arith))
 
 -- what comes of two asks that are alike
-agree_asked : (c : ℕ) (ask : Ask) (label : Label) (here : Here) (f g : Tick) (m left left' : ℕ) (o p : Option Granted) (go go' : Here → Now → Result) →
+agree_asked : (c : ℕ) (ask : Ask) (label : Label) (here : Here) (f g : Tick) (m left left' : ℕ) (o p : Option Granted)
+    (go go' : Here → Now → Result) →
     upto c f ≡ upto c g → min c left ≡ min c left' → Alike c left left' o p →
     ((inner : Here) (u : Now) → Agree c (go inner u) (go' inner u)) → ((inner : Here) (u : Now) → Late u.at (go inner u)) →
     ((inner : Here) (u : Now) → Late u.at (go' inner u)) →
@@ -237,7 +245,8 @@ agree_asked c ask label here f g m left left' o p go go' e i (far first second) 
     later (far_end c ask label here f m left o go k first) (far_end c ask label here g m left' p go' k' second)
     (far_log c ask label here f m left o go k first ∙ sym (far_log c ask label here g m left' p go' k' second))
 agree_asked c ask label here f g m left left' o p go go' e i (same equal) h k k' =
-    subst (λ (x : Option Granted). Agree c (asked_result ask label here f m left o go) (asked_result ask label here g m left' x go')) equal (by_grant o)
+    subst (λ (x : Option Granted). Agree c (asked_result ask label here f m left o go) (asked_result ask label here g m left' x go')) equal
+    (by_grant o)
   where
     by_grant : (x : Option Granted) → Agree c (asked_result ask label here f m left x go) (asked_result ask label here g m left' x go')
     by_grant None =
@@ -246,7 +255,8 @@ agree_asked c ask label here f g m left left' o p go go' e i (same equal) h k k'
 
 -- an ask agrees before c on near stacks and with near grants
 pub agree_asking : (c : ℕ) (m o : Mode) (ask : Ask) (first second : Option Label) (here : Here) (st su : Stack) (t : Now)
-    (go go' : Here → Now → Result) → first ≡ second → NearModes c m o → Near c st su → ((inner : Here) (u : Now) → Agree c (go inner u) (go' inner u)) →
+    (go go' : Here → Now → Result) → first ≡ second → NearModes c m o → Near c st su →
+    ((inner : Here) (u : Now) → Agree c (go inner u) (go' inner u)) →
     ((inner : Here) (u : Now) → Late u.at (go inner u)) → ((inner : Here) (u : Now) → Late u.at (go' inner u)) →
     Agree c (ask_result m ask first here st t go) (ask_result o ask second here su t go')
 unfolding ask_result
@@ -257,9 +267,11 @@ agree_asking c m o ask first second here st su t go go' same_label modes near h 
     asked : (label : Label) → t.at < c → Agree c (ask_result m ask (Some label) here st t go) (ask_result o ask (Some label) here su t go')
     asked label lt =
         by_sight (seen (stack_for t.own t.at st.scopes) t.at) (seen (stack_for t.own t.at su.scopes) t.at)
-        (seen_near c (stack_for t.own t.at st.scopes) (stack_for t.own t.at su.scopes) t.at (stack_for_near c t.own t.at st.scopes su.scopes near.0) lt)
+        (seen_near c (stack_for t.own t.at st.scopes) (stack_for t.own t.at su.scopes) t.at
+        (stack_for_near c t.own t.at st.scopes su.scopes near.0) lt)
       where
-        near_left : min c (leaves_queue (sight st.scopes) (last_grant here.clock t.at)) ≡ min c (leaves_queue (sight su.scopes) (last_grant here.clock t.at))
+        near_left : min c (leaves_queue (sight st.scopes) (last_grant here.clock t.at))
+            ≡ min c (leaves_queue (sight su.scopes) (last_grant here.clock t.at))
         near_left = left_near c (sight st.scopes) (sight su.scopes) (last_grant here.clock t.at) (sight_near c st.scopes su.scopes near.0)
 
         by_sight : (a b : Bool) → a ≡ b →

@@ -5,19 +5,19 @@ use Rattle.std.proofs.lemmas.Bool.Decides.{nat_tests}
 use Rattle.job_tree.specs.Tree.{Step, sleep, checkpoint, forever, pace, find, head, longest, need, raise, cancel, set_event, wait_for, ask_for, close_channel, scope, nursery, event, object, start, repeat, attempt, Steps, stop, step, Handled, unhandled, except, Cleaned, uncleaned, finally}
 use Rattle.exceptions.specs.Exceptions.{Label, Exc, cancelled, by_nursery, group_of, parts_of}
 use Rattle.exceptions.specs.Split.{Wanted, keep, drop}
-use Rattle.cancel_scopes.specs.Sight.{Tick, Level, earlier, sight, seen, is_reached, catches}
+use Rattle.cancel_scopes.specs.Sight.{Tick, Level, sight, seen, is_reached, catches}
 use Rattle.job_meaning.specs.Log.{Log, nil, entry, waited, entered, followed_by, Member, Result}
 use Rattle.job_meaning.specs.Moments.{tick_of, a_round_after, wakes_at, gives_up_at, far, Now, only_at}
 use Rattle.job_meaning.specs.declared.clock.Clock.{Clock}
 use Rattle.job_meaning.proofs.MomentLemmas.{round_after, wakes_after, gives_up_after}
-use Rattle.job_meaning.specs.Walk.{Levels, Stack, Mode, two_walks, by_table, Here, walk, walk_step, walk_handler, walk_cleanup, done_at, raised_at, now_of, in_sequence, and_then, then_if, wait_by_sight, sleep_result, pace_result, wait_until, set_moment, wait_by, with_line_if, with_line, event_wait, cancel_result, set_result, is_among, from_for, stack_for, label_on, Kind, from_of, block, event_block, event_result, close_result, exit_with_from, left_with, left_as, exc_after, stack_inside, stack_in_event, with_sign, sign_if, home_of, latest, with_exc, excs_of, nursery_result, child, each, passes, handler_result, handler_for, handler_if_any, handler_exc, with_outcome, outcome_after, cleanup_result}
+use Rattle.job_meaning.specs.Walk.{Levels, Stack, Mode, two_walks, by_table, Here, walk, walk_step, walk_handler, walk_cleanup, done_at, raised_at, now_of, in_sequence, wait_by_sight, sleep_result, pace_result, wait_until, set_moment, wait_by, with_line_if, with_line, event_wait, cancel_result, set_result, from_for, stack_for, label_on, Kind, from_of, block, event_block, event_result, close_result, exit_with_from, left_with, left_as, exc_after, stack_inside, stack_in_event, with_sign, sign_if, home_of, latest, with_exc, excs_of, nursery_result, child, each, passes, handler_result, handler_for, handler_if_any, handler_exc, with_outcome, outcome_after, cleanup_result}
 use Rattle.job_meaning.specs.Before.{upto, NearLevels, Near, NearModes, Agree, soon, later, known_members, log_before, exc_if, entered_if, task_if}
 use Rattle.job_meaning.specs.Laws.{NothingBeforeItsCause}
 use Rattle.job_meaning.proofs.Late.{Timed, Late, late, late_waited, late_until, late_signed, late_gathered, latest_ends, child_ends, each_ends, late_passes}
 use Rattle.job_meaning.proofs.Agreeing.{agree_same, agree_joined, Past, past_same, past_joined, agree_past, agree_from, agree_and_then, agree_logs}
 use Rattle.job_meaning.proofs.OwnSight.{from_for_near, stack_for_near}
 use Rattle.job_meaning.proofs.Asking.{agree_acted, agree_asking}
-use Rattle.job_meaning.proofs.Clips.{upto_earlier_same, sight_near, seen_near, reached_near, label_near, NearEvents, event_near, home_near, both_clipped, clipped_late, clipped_tail, least_near, from_near, both_known, latest_known, all_known}
+use Rattle.job_meaning.proofs.Clips.{sight_near, seen_near, reached_near, label_near, NearEvents, event_near, home_near, both_clipped, clipped_late, clipped_tail, least_near, from_near, latest_known, all_known}
 
 module _ (c least gives_up end : ℕ) (le : least ≤ gives_up) (hi : least ≤ end) where
   waits : Tick → Result
@@ -318,7 +318,8 @@ module _ (c : ℕ) (clock : Clock) (kind : Kind) (label : Label) (t : ℕ) (d : 
         (clipped_tail c r.end r.log _ p (omega arith, tt) ∙ (l ∙ sym (clipped_tail c q.end q.log _ s (omega arith, tt)))))
 
     -- blocks on near stacks agree before c where their insides do
-    pub agree_block : (m other : Mode) (inside inside' : Tick → Result) → NearModes c m other → ((f : Tick) → Late t (inside f)) → ((f : Tick) → Late t (inside' f)) →
+    pub agree_block : (m other : Mode) (inside inside' : Tick → Result) → NearModes c m other → ((f : Tick) → Late t (inside f)) →
+        ((f : Tick) → Late t (inside' f)) →
         ((f g : Tick) → upto c f ≡ upto c g → Agree c (inside f) (inside' g)) →
         Agree c (block clock m kind label t d shield st inside) (block clock other kind label t d shield su inside')
     unfolding block
@@ -562,7 +563,8 @@ mutual
   agree_step c m o (wait_for name) here st su t modes near =
       agree_awaiting c here.clock st su _ _ t near (event_near c name st.events su.events near.1)
   agree_step c m o (ask_for name ask body) here st su t modes near =
-      agree_asking c m o ask _ _ here st su t _ _ (label_near c name st.events su.events near.1) modes near (λ inner u. agree c m o body inner st su u modes near) (λ inner u. late m body inner st u)
+      agree_asking c m o ask _ _ here st su t _ _ (label_near c name st.events su.events near.1) modes near
+      (λ inner u. agree c m o body inner st su u modes near) (λ inner u. late m body inner st u)
       (λ inner u. late o body inner su u)
   agree_step c m o (close_channel name) here st su t modes near = agree_closing c name st su t near
   agree_step c m o (scope name d shield fail body) here st su t modes near =

@@ -2,17 +2,19 @@
 use Rattle.std.proofs.Common.{◌≡◌, ℕ, zero, suc, ◌+◌, Bool, Option, Some, None, List, [], ◌∷◌, ◌++◌, refl, ap, sym, ◌∙◌, append_assoc, ◌<◌, arith}
 use Rattle.std.proofs.lemmas.List.{append-nil}
 use Rattle.job_tree.specs.declared.deadline.Deadline.{Deadline}
-use Rattle.job_tree.specs.Tree.{Step, scope, nursery, event, start, repeat, attempt, Steps, stop, step, Handled, unhandled, except, Cleaned, uncleaned, finally}
+use Rattle.job_tree.specs.declared.object.ObjectKind.{ObjectKind}
+use Rattle.job_tree.specs.Tree.{Step, scope, nursery, event, object, start, repeat, attempt, Steps, stop, step, Handled, unhandled, except, Cleaned, uncleaned, finally}
 use Rattle.input_lines.specs.Cuts.{cut_of}
 use Rattle.exceptions.specs.Exceptions.{Label, Exc}
 use Rattle.exceptions.specs.Split.{Wanted, named, keep, drop}
 use Rattle.cancel_scopes.specs.Sight.{Level}
 use Rattle.job_meaning.proofs.Clips.{followed_nil}
-use Rattle.job_meaning.specs.Log.{Log, nil, entry, sign, entered, task, followed_by, Member, Result, Table}
+use Rattle.job_meaning.specs.Log.{Log, nil, entry, sign, entered, opens, gives_back, act, task, followed_by, Member, Result, Table}
+use Rattle.job_meaning.specs.Sharing.{Grants}
 use Rattle.job_meaning.specs.Moments.{due, a_round_after, Now, only_at}
 use Rattle.job_meaning.specs.declared.clock.Clock.{Clock}
-use Rattle.job_meaning.specs.Walk.{now_of, cuts_over, in_pass, passes, Levels, Stack, Mode, by_table, Here, walk, walk_step, walk_handler, walk_cleanup, done_at, in_sequence, and_then, then_if, block, event_block, stack_inside, stack_in_event, Kind, with_sign, nursery_result, child, handler_result, handler_for, handler_if_any, cleanup_result, with_outcome, handler_exc, outcome_after, sign_if, a_scope, a_nursery, label_here, label_over, each, here_in}
-use Rattle.job_meaning.specs.Rest.{Event, noted, signs, enters, starts, fill, consecutive, starts_over, ChildOutcomes, outcome_members, Frame, steps_left, in_scope, in_event, in_nursery, in_repeat, in_try, in_handler, in_cleanup, inside, block_left, left_if, without_scope, without_event, with_children, wait_result, finish, rest_comes_to, rest_at_start}
+use Rattle.job_meaning.specs.Walk.{now_of, cuts_over, in_pass, passes, Levels, Stack, Mode, by_table, Here, walk, walk_step, walk_handler, walk_cleanup, done_at, in_sequence, and_then, then_if, block, event_block, with_token_back, stack_inside, stack_in_event, Kind, with_sign, nursery_result, child, handler_result, handler_for, handler_if_any, cleanup_result, with_outcome, handler_exc, outcome_after, sign_if, a_scope, a_nursery, label_here, label_over, each, here_in}
+use Rattle.job_meaning.specs.Rest.{Event, noted, signs, enters, acts, starts, fill, consecutive, starts_over, ChildOutcomes, outcome_members, Frame, steps_left, in_scope, in_event, with_token, with_part, in_nursery, in_repeat, in_try, in_handler, in_cleanup, inside, block_left, left_if, without_scope, without_event, with_children, wait_result, finish, rest_comes_to, rest_at_start}
 
 -- three logs one after another are the same, whichever two are joined first
 pub followed_assoc : (a b c : Log) → followed_by (followed_by a b) c ≡ followed_by a (followed_by b c)
@@ -20,6 +22,7 @@ followed_assoc nil b c = refl
 followed_assoc (entry t e rest) b c = ap (λ (x : Log). entry t e x) (followed_assoc rest b c)
 followed_assoc (sign l t rest) b c = ap (λ (x : Log). sign l t x) (followed_assoc rest b c)
 followed_assoc (entered l t d rest) b c = ap (λ (x : Log). entered l t d x) (followed_assoc rest b c)
+followed_assoc (act l t a rest) b c = ap (λ (x : Log). act l t a x) (followed_assoc rest b c)
 followed_assoc (task l s u e own rest) b c = ap (λ (x : Log). task l s u e own x) (followed_assoc rest b c)
 
 -- a result with something made before it
@@ -79,6 +82,10 @@ unfolding walk
 after_cleanup a m uncleaned here st r = refl
 after_cleanup a m (finally body) here st r = after_cleaned a r (λ u. walk m body here st u)
 
+after_token_back : (a : Log) (label : Label) (r : Result) → with_token_back label (after a r) ≡ after a (with_token_back label r)
+unfolding with_token_back
+after_token_back a label r = ap (λ (x : Log). record r { log = x }) (followed_assoc a r.log (act label r.end gives_back nil))
+
 -- no frame reads what was made before it
 pub finish_after : (fs : List Frame) (a : Log) (m : Mode) (outcomes : ChildOutcomes) (here : Here) (st : Stack) (r : Result) →
     finish m outcomes fs here st (after a r) ≡ after a (finish m outcomes fs here st r)
@@ -92,6 +99,10 @@ finish_after (in_scope fail ∷ fs) a m outcomes here st r =
     (after_left_if a here.clock (a_scope fail) st.scopes (λ l. r) (λ l. after a r) r (λ l. refl))
     ∙ finish_after fs a m outcomes here (without_scope st) _
 finish_after (in_event ∷ fs) a m outcomes here st r = finish_after fs a m outcomes here (without_event st) r
+finish_after (with_token limiter ∷ fs) a m outcomes here st r =
+    ap (λ (x : Result). finish m outcomes fs here st x) (after_token_back a limiter r)
+    ∙ finish_after fs a m outcomes here st (with_token_back limiter r)
+finish_after (with_part received ∷ fs) a m outcomes here st r = finish_after fs a m outcomes here st r
 finish_after (in_nursery children ∷ fs) a m outcomes here st r =
     ap (λ (x : Result). finish m outcomes fs here (without_scope st) x)
     (after_left_if a here.clock a_nursery st.scopes
@@ -141,41 +152,59 @@ unfolding finish and_then
 finish_raised fs m outcomes ss here st r e = refl
 
 -- a scope is entered
-pub finish_scope : (fs : List Frame) (table : Table) (outcomes : ChildOutcomes) (name : List ℕ) (d : Deadline) (shield fail : Bool) (body ss : Steps)
+pub finish_scope : (fs : List Frame) (table : Table) (grants : Grants) (outcomes : ChildOutcomes) (name : List ℕ) (d : Deadline) (shield fail : Bool)
+    (body ss : Steps)
     (here : Here) (st : Stack) (t : Now) →
-    finish (by_table table) outcomes (steps_left (step (scope name d shield fail body) ss) ∷ fs) here st (done_at t)
+    finish (by_table table grants) outcomes (steps_left (step (scope name d shield fail body) ss) ∷ fs) here st (done_at t)
     ≡ after (entered (label_here name (inside fs here)) t.at (due here.clock d t.at) nil)
-    (finish (by_table table) outcomes (steps_left body ∷ in_scope fail ∷ steps_left ss ∷ fs) here
+    (finish (by_table table grants) outcomes (steps_left body ∷ in_scope fail ∷ steps_left ss ∷ fs) here
     (stack_inside (label_here name (inside fs here)) shield (table (label_here name (inside fs here))) st) (done_at t))
 unfolding finish and_then walk block
-finish_scope fs table outcomes name d shield fail body ss here st t =
+finish_scope fs table grants outcomes name d shield fail body ss here st t =
     finish_after (steps_left body ∷ in_scope fail ∷ steps_left ss ∷ fs) (entered (label_here name (inside fs here)) t.at (due here.clock d t.at) nil)
-    (by_table table) outcomes here
+    (by_table table grants) outcomes here
     (stack_inside (label_here name (inside fs here)) shield (table (label_here name (inside fs here))) st) (done_at t)
 
 -- an event is entered
-pub finish_event : (fs : List Frame) (table : Table) (outcomes : ChildOutcomes) (name : List ℕ) (body ss : Steps) (here : Here) (st : Stack) (t : Now) →
-    finish (by_table table) outcomes (steps_left (step (event name body) ss) ∷ fs) here st (done_at t)
+pub finish_event : (fs : List Frame) (table : Table) (grants : Grants) (outcomes : ChildOutcomes) (name : List ℕ) (body ss : Steps) (here : Here)
+    (st : Stack) (t : Now) →
+    finish (by_table table grants) outcomes (steps_left (step (event name body) ss) ∷ fs) here st (done_at t)
     ≡ after (entered (label_here name (inside fs here)) t.at None nil)
-    (finish (by_table table) outcomes (steps_left body ∷ in_event ∷ steps_left ss ∷ fs) here
+    (finish (by_table table grants) outcomes (steps_left body ∷ in_event ∷ steps_left ss ∷ fs) here
     (stack_in_event (label_here name (inside fs here)) (table (label_here name (inside fs here))) st) (done_at t))
 unfolding finish and_then walk event_block
-finish_event fs table outcomes name body ss here st t =
+finish_event fs table grants outcomes name body ss here st t =
     finish_after (steps_left body ∷ in_event ∷ steps_left ss ∷ fs) (entered (label_here name (inside fs here)) t.at None nil)
-    (by_table table) outcomes here
+    (by_table table grants) outcomes here
+    (stack_in_event (label_here name (inside fs here)) (table (label_here name (inside fs here))) st) (done_at t)
+
+-- a limiter or channel is entered
+pub finish_object : (fs : List Frame) (table : Table) (grants : Grants) (outcomes : ChildOutcomes) (name : List ℕ) (kind : ObjectKind)
+    (body ss : Steps)
+    (here : Here) (st : Stack) (t : Now) →
+    finish (by_table table grants) outcomes (steps_left (step (object name kind body) ss) ∷ fs) here st (done_at t)
+    ≡ after (act (label_here name (inside fs here)) t.at (opens kind) (entered (label_here name (inside fs here)) t.at None nil))
+    (finish (by_table table grants) outcomes (steps_left body ∷ in_event ∷ steps_left ss ∷ fs) here
+    (stack_in_event (label_here name (inside fs here)) (table (label_here name (inside fs here))) st) (done_at t))
+unfolding finish and_then walk event_block
+finish_object fs table grants outcomes name kind body ss here st t =
+    finish_after (steps_left body ∷ in_event ∷ steps_left ss ∷ fs)
+    (act (label_here name (inside fs here)) t.at (opens kind) (entered (label_here name (inside fs here)) t.at None nil))
+    (by_table table grants) outcomes here
     (stack_in_event (label_here name (inside fs here)) (table (label_here name (inside fs here))) st) (done_at t)
 
 -- a nursery is entered
-pub finish_nursery : (fs : List Frame) (table : Table) (outcomes : ChildOutcomes) (name : List ℕ) (d : Deadline) (shield : Bool) (body ss : Steps)
+pub finish_nursery : (fs : List Frame) (table : Table) (grants : Grants) (outcomes : ChildOutcomes) (name : List ℕ) (d : Deadline) (shield : Bool)
+    (body ss : Steps)
     (here : Here) (st : Stack) (t : Now) →
-    finish (by_table table) outcomes (steps_left (step (nursery name d shield body) ss) ∷ fs) here st (done_at t)
+    finish (by_table table grants) outcomes (steps_left (step (nursery name d shield body) ss) ∷ fs) here st (done_at t)
     ≡ after (entered (label_here name (inside fs here)) t.at (due here.clock d t.at) nil)
-    (finish (by_table table) outcomes (steps_left body ∷ in_nursery [] ∷ steps_left ss ∷ fs) here
+    (finish (by_table table grants) outcomes (steps_left body ∷ in_nursery [] ∷ steps_left ss ∷ fs) here
     (stack_inside (label_here name (inside fs here)) shield (table (label_here name (inside fs here))) st) (done_at t))
 unfolding finish and_then walk block nursery_result with_sign
-finish_nursery fs table outcomes name d shield body ss here st t =
+finish_nursery fs table grants outcomes name d shield body ss here st t =
     finish_after (steps_left body ∷ in_nursery [] ∷ steps_left ss ∷ fs) (entered (label_here name (inside fs here)) t.at (due here.clock d t.at) nil)
-    (by_table table) outcomes here
+    (by_table table grants) outcomes here
     (stack_inside (label_here name (inside fs here)) shield (table (label_here name (inside fs here))) st) (done_at t)
 
 -- a `try` is entered
@@ -371,6 +400,7 @@ fill_append outcomes [] others = refl
 fill_append outcomes (noted t e ∷ es) others = ap (λ (x : Log). entry t e x) (fill_append outcomes es others)
 fill_append outcomes (signs l t ∷ es) others = ap (λ (x : Log). sign l t x) (fill_append outcomes es others)
 fill_append outcomes (enters l t d ∷ es) others = ap (λ (x : Log). entered l t d x) (fill_append outcomes es others)
+fill_append outcomes (acts l t a ∷ es) others = ap (λ (x : Log). act l t a x) (fill_append outcomes es others)
 fill_append outcomes (starts i l t ∷ es) others =
     ap (λ (x : Log). task l t (outcomes i).end (outcomes i).exc (outcomes i).log x) (fill_append outcomes es others)
 

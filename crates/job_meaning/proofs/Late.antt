@@ -1,5 +1,5 @@
 -- A walk ends no earlier than it starts, and all that it notes has a tick from its start on.
-use Rattle.std.proofs.Common.{◌≡◌, ℕ, zero, suc, ◌-◌, ◌<◌, ◌≤◌, max, Bool, true, false, ◌&&◌, Option, Some, None, List, [], ◌∷◌, refl, sym, ◌∙◌, subst, IsTrue, arith, nat_le, nat_lt, if◌then◌else◌}
+use Rattle.std.proofs.Common.{◌≡◌, ℕ, zero, suc, ◌-◌, ◌≤◌, max, Bool, true, false, ◌&&◌, Option, Some, None, List, [], ◌∷◌, refl, sym, ◌∙◌, subst, IsTrue, arith, nat_le, nat_lt, if◌then◌else◌}
 use Rattle.std.specs.Prelude.{codes}
 use Rattle.std.proofs.lemmas.Bool.Decides.{nat_tests}
 use Rattle.job_tree.specs.Tree.{Step, sleep, checkpoint, forever, pace, find, head, longest, need, raise, cancel, set_event, wait_for, ask_for, close_channel, scope, nursery, event, object, start, repeat, attempt, Steps, stop, step, Handled, unhandled, except, Cleaned, uncleaned, finally}
@@ -15,7 +15,7 @@ use Rattle.job_meaning.specs.declared.clock.Clock.{Clock}
 use Rattle.job_meaning.proofs.MomentLemmas.{round_after, wakes_after, gives_up_after}
 use Rattle.job_meaning.proofs.Ticks.{lowering_shows}
 use Rattle.job_meaning.specs.Laws.{AtMost, Lowered}
-use Rattle.job_meaning.specs.Walk.{Levels, Stack, Mode, grants_in, Here, walk, walk_step, walk_handler, walk_cleanup, done_at, raised_at, now_of, in_sequence, and_then, then_if, wait_by_sight, sleep_result, pace_result, wait_until, set_moment, wait_by, with_line_if, with_line, event_wait, log_of_lines, lines_result, raise_result, need_result, cancel_result, set_result, is_among, from_for, stack_for, Kind, from_of, block, event_block, with_act, close_result, with_token_back, last_grant, leaves_queue, in_time, left_result, goes_on, granted_result, asked_result, asks_in, ask_result, with_sign, sign_if, home_of, latest, nursery_result, child, each, passes, handler_result, handler_for, handler_if_any, cleanup_result}
+use Rattle.job_meaning.specs.Walk.{Levels, Stack, Mode, grants_in, Here, walk, walk_step, walk_handler, walk_cleanup, done_at, raised_at, now_of, in_sequence, and_then, then_if, wait_by_sight, sleep_result, pace_result, wait_until, set_moment, wait_by, with_line_if, with_line, event_wait, log_of_lines, lines_result, raise_result, need_result, cancel_result, set_result, is_among, stack_for, Kind, from_of, block, event_block, with_act, close_result, with_token_back, last_grant, leaves_queue, in_time, left_result, goes_on, granted_result, asked_result, asks_in, ask_result, with_sign, sign_if, home_of, latest, nursery_result, child, each, passes, handler_result, handler_for, handler_if_any, cleanup_result}
 
 -- all that is in a log is at tick t or later
 abbrev pub Timed : ℕ → Log → Type 0
@@ -351,6 +351,7 @@ late_left here from left t le = by_sight (is_reached from left)
 abbrev pub noted_at : Label → ℕ → Result
 noted_at label m = record { end = m; own = []; exc = None; members = []; log = entry m (waited label) nil }
 
+-- what is granted is noted, and what follows is late
 pub late_goes_on : (label : Label) (m : ℕ) (go : Now → Result) → ((u : Now) → Late u.at (go u)) → Late m (goes_on label m go)
 late_goes_on label m go h = late_joined m (noted_at label m) (go (only_at m)) noted (h (only_at m))
   where
@@ -358,7 +359,8 @@ late_goes_on label m go h = late_joined m (noted_at label m) (go (only_at m)) no
     noted = record { ends = omega arith; timed = (omega arith, tt) }
 
 -- what a task does with what it is granted is late
-pub late_granted : (label : Label) (here : Here) (m : ℕ) (what : What) (go : Here → Now → Result) → ((inner : Here) (u : Now) → Late u.at (go inner u)) →
+pub late_granted : (label : Label) (here : Here) (m : ℕ) (what : What) (go : Here → Now → Result) →
+    ((inner : Here) (u : Now) → Late u.at (go inner u)) →
     Late m (granted_result label here m what go)
 late_granted label here m a_token go h = late_goes_on label m _ (λ u. late_token_back u.at label _ (h here u))
 late_granted label here m was_sent go h = late_goes_on label m _ (λ u. h here u)
@@ -386,7 +388,8 @@ late_asking m ask (Some label) here st t go h = by_sight (seen (stack_for t.own 
     by_sight : (b : Bool) → seen (stack_for t.own t.at st.scopes) t.at ≡ b →
         Late t.at (if b then raised_at cancelled (only_at (gives_up_at here.clock 0 t.at)) else asks_in m ask label here st t.at go)
     by_sight true e =
-        late_raised cancelled t.at (only_at (gives_up_at here.clock 0 t.at)) (omega (arith, round_after here.clock t.at, gives_up_after here.clock 0 t.at))
+        late_raised cancelled t.at (only_at (gives_up_at here.clock 0 t.at))
+        (omega (arith, round_after here.clock t.at, gives_up_after here.clock 0 t.at))
     by_sight false e =
         late_asked ask label here (sight st.scopes) t.at _ (grants_in m label here.task t.at) go
         (leaves_after (sight st.scopes) t.at (last_grant here.clock t.at) (unseen_for t.own t.at st.scopes e) (last_after here.clock t.at)) h

@@ -6,7 +6,7 @@ use Rattle.job_meaning.specs.Log.{entry, nil, Member, Result}
 use Rattle.job_meaning.specs.Moments.{a_round_after, Now}
 use Rattle.job_meaning.specs.declared.clock.Clock.{Clock}
 use Rattle.job_meaning.proofs.MomentLemmas.{round_after}
-use Rattle.job_meaning.specs.Walk.{Levels, Stack, Mode, Here, walk, in_pass, with_token_back, from_for, stack_for, Kind, a_scope, a_nursery, left_as, left_with, latest, nursery_result, with_sign, with_outcome, handler_exc, outcome_after}
+use Rattle.job_meaning.specs.Walk.{Levels, Stack, Mode, Here, walk, in_pass, from_for, stack_for, Kind, a_scope, a_nursery, left_as, left_with, latest, nursery_result, with_sign, with_outcome, handler_exc, outcome_after}
 use Rattle.job_meaning.specs.Rest.{ChildOutcomes, outcome_members, Frame, steps_left, in_scope, in_event, with_token, with_part, in_nursery, in_repeat, in_try, in_handler, in_cleanup, inside, block_left, left_if, without_scope, without_event, with_children, wait_result, finish}
 use Rattle.job_meaning.proofs.Late.{Late, late, late_and_then, late_token_back, late_passes, late_handler, late_cleanup, late_signed, late_gathered, timed_followed}
 

@@ -13,7 +13,11 @@ pub mod Touched
 pub mod Tidy
 pub mod Fits
 pub mod Settled
+pub mod ServedAlike
+pub mod GrantsBefore
+pub mod Granting
 pub mod Finish
+pub mod FinishAsking
 pub mod Once
 pub mod LateRest
 pub mod Ends

@@ -1,18 +1,22 @@
 -- Where names are given once, no label of a scope, nursery, event or task is given twice. It holds in both modes.
 use Rattle.std.proofs.Common.{◌≡◌, ℕ, zero, suc, ◌+◌, ◌<◌, ◌≤◌, Bool, true, false, Option, Some, None, List, [], ◌∷◌, ◌++◌, refl, subst, ◌⊎◌, inl, inr, arith, max, nat_le, nat_lt, if◌then◌else◌}
+use Rattle.std.specs.Prelude.{codes}
 use Rattle.std.proofs.lemmas.Bool.{cases_lt}
 use Rattle.job_tree.specs.Tree.{Step, sleep, checkpoint, forever, pace, find, head, longest, need, raise, cancel, set_event, wait_for, ask_for, close_channel, scope, nursery, event, object, start, repeat, attempt, Steps, stop, step, Handled, unhandled, except, Cleaned, uncleaned, finally, Tree}
 use Rattle.job_tree.specs.Names.{names_of, names_in, handled_names, cleaned_names, GivesNamesOnce}
-use Rattle.input_lines.specs.Lines.{Span}
+use Rattle.job_tree.specs.declared.object.Ask.{Ask}
+use Rattle.input_lines.specs.Lines.{Range, Span}
 use Rattle.input_lines.specs.Cuts.{cut_of}
-use Rattle.exceptions.specs.Exceptions.{Label, Exc, cancelled}
+use Rattle.exceptions.specs.Exceptions.{Label, Exc, cancelled, raised}
 use Rattle.exceptions.specs.Split.{Wanted, keep, drop}
-use Rattle.cancel_scopes.specs.Sight.{Tick, Level, sight}
-use Rattle.job_meaning.specs.Log.{Log, nil, entry, sign, entered, task, followed_by, Result, same_label, times_entered, times_given}
-use Rattle.job_meaning.specs.Moments.{a_round_after, Now, only_at}
+use Rattle.cancel_scopes.specs.Sight.{Tick, Level, is_reached, sight, seen}
+use Rattle.job_meaning.specs.Log.{Log, nil, entry, sign, entered, Act, act, task, followed_by, Result, same_label, times_entered, times_given}
+use Rattle.job_meaning.specs.Sharing.{What, a_token, was_sent, a_part, closed_resource, end_of_channel, Granted}
+use Rattle.job_meaning.specs.Moments.{tick_of, a_round_after, gives_up_at, Now, only_at}
 use Rattle.job_meaning.specs.declared.clock.Clock.{Clock}
-use Rattle.job_meaning.specs.Walk.{Stack, no_stack, Mode, Here, walk, walk_step, walk_handler, walk_cleanup, done_at, raised_at, now_of, in_sequence, and_then, then_if, wait_by_sight, sleep_result, pace_result, wait_until, set_moment, wait_by, with_line_if, with_line, event_wait, log_of_lines, lines_result, raise_result, need_result, sign_of, cancel_result, set_result, Kind, from_of, block, event_block, stack_in_event, exit_with_from, stack_inside, with_sign, sign_if, home_of, nursery_result, child, each, passes, handler_result, handler_for, handler_if_any, cleanup_result, label_here, label_over, here_in, in_pass, cuts_over}
+use Rattle.job_meaning.specs.Walk.{Stack, no_stack, Mode, grants_in, Here, walk, walk_step, walk_handler, walk_cleanup, done_at, raised_at, now_of, in_sequence, and_then, then_if, wait_by_sight, sleep_result, pace_result, wait_until, set_moment, wait_by, with_line_if, with_line, event_wait, log_of_lines, lines_result, raise_result, need_result, sign_of, cancel_result, set_result, Kind, from_of, block, event_block, with_act, close_result, with_token_back, last_grant, leaves_queue, in_time, left_result, goes_on, granted_result, asked_result, asks_in, ask_result, stack_for, stack_in_event, exit_with_from, stack_inside, with_sign, sign_if, home_of, nursery_result, child, each, passes, handler_result, handler_for, handler_if_any, cleanup_result, label_here, label_over, here_in, in_pass, cuts_over}
 use Rattle.job_meaning.specs.Meaning.{root_walk, root_here, root_label, root_log}
+use Rattle.job_meaning.proofs.Late.{noted_at}
 use Rattle.job_meaning.proofs.Distinct.{Distinct, distinct_left, distinct_right, distinct_apart, distinct_by_bytes, same_label_equal, Belongs, after_other}
 use Rattle.job_meaning.proofs.Touched.{Gives, gives_followed}
 use Rattle.job_meaning.proofs.Tidy.{Tidy, tidy, tidy_step, tidy_handler, tidy_in, tidy_each, tidy_passes, tidy_signed, tidy_gathered, tidy_over, gives_home}
@@ -23,6 +27,7 @@ GivesOnce nil = Unit {0}
 GivesOnce (entry t e rest) = GivesOnce rest
 GivesOnce (sign l t rest) = GivesOnce rest
 GivesOnce (entered l t d rest) = (Gives l rest → ⊥) × GivesOnce rest
+GivesOnce (act m t a rest) = GivesOnce rest
 GivesOnce (task m s u e own rest) =
     (Gives m own ⊎ Gives m rest → ⊥) × GivesOnce own × GivesOnce rest × ((l : Label) → Gives l own → Gives l rest → ⊥)
 
@@ -37,6 +42,7 @@ once_followed (entered l t d rest) b h k differ =
     neither : Gives l rest ⊎ Gives l b → ⊥
     neither (inl i) = h.0 i
     neither (inr i) = differ l (inl refl) i
+once_followed (act m t a rest) b h k differ = once_followed rest b h k differ
 once_followed (task m s u e own rest) b h k differ =
     (none, h.1, once_followed rest b h.2 k (λ l i. differ l (inr (inr i))), λ l i j. neither l i (gives_followed l rest b j))
   where
@@ -169,6 +175,54 @@ unfolding event_block
 unique_event m label t inside h own =
     record { once = (own (from_of m label None inside), (h (from_of m label None inside)).once) }
 
+unique_acted : (label : Label) (t : ℕ) (a : Act) (r : Result) → Unique r → Unique (with_act label t a r)
+unique_acted label t a r h = record { once = h.once }
+
+unique_closing : (o : Option Label) (t : Now) → Unique (close_result o t)
+unfolding close_result
+unique_closing None t = unique_done t
+unique_closing (Some l) t = record { once = tt }
+
+unique_token_back : (label : Label) (r : Result) → Unique r → Unique (with_token_back label r)
+unfolding with_token_back
+unique_token_back label r h = record { once = once_followed r.log _ h.once tt (λ l i j. j) }
+
+unique_left : (here : Here) (from : Tick) (left : ℕ) → Unique (left_result here from left)
+unique_left here from left = by_sight (is_reached from left)
+  where
+    by_sight : (b : Bool) → Unique (if b then raised_at cancelled (only_at left)
+        else raised_at (raised (codes "Deadlock") here.task (tick_of here.clock left)) (only_at left))
+    by_sight true = record { once = tt }
+    by_sight false = record { once = tt }
+
+unique_goes_on : (label : Label) (m : ℕ) (go : Now → Result) → ((u : Now) → Unique (go u)) → Unique (goes_on label m go)
+unique_goes_on label m go h = unique_joined (noted_at label m) (go (only_at m)) (record { once = tt }) (h (only_at m)) (λ l i j. i)
+
+unique_granted : (label : Label) (here : Here) (m : ℕ) (what : What) (go : Here → Now → Result) →
+    ((lent : Range) (u : Now) → Unique (go (record here { part = lent }) u)) → Unique (granted_result label here m what go)
+unique_granted label here m a_token go h = unique_goes_on label m _ (λ u. unique_token_back label _ (h here.part u))
+unique_granted label here m was_sent go h = unique_goes_on label m _ (λ u. h here.part u)
+unique_granted label here m (a_part lent) go h = unique_goes_on label m _ (λ u. h lent u)
+unique_granted label here m closed_resource go h = record { once = tt }
+unique_granted label here m end_of_channel go h = record { once = tt }
+
+unique_asking : (m : Mode) (st : Stack) (ask : Ask) (label : Option Label) (here : Here) (t : Now) (go : Here → Now → Result) →
+    ((lent : Range) (u : Now) → Unique (go (record here { part = lent }) u)) → Unique (ask_result m ask label here st t go)
+unfolding ask_result
+unique_asking m st ask None here t go h = unique_done t
+unique_asking m st ask (Some label) here t go h = by_sight (seen (stack_for t.own t.at st.scopes) t.at)
+  where
+    left : ℕ
+    left = leaves_queue (sight st.scopes) (last_grant here.clock t.at)
+
+    by_grant : (o : Option Granted) → Unique (asked_result ask label here (sight st.scopes) t.at left o go)
+    by_grant None = unique_acted label t.at _ _ (unique_left here (sight st.scopes) left)
+    by_grant (Some g) = unique_acted label t.at _ _ (unique_granted label here g.at g.what go h)
+
+    by_sight : (b : Bool) → Unique (if b then raised_at cancelled (only_at (gives_up_at here.clock 0 t.at)) else asks_in m ask label here st t.at go)
+    by_sight true = record { once = tt }
+    by_sight false = by_grant (in_time t.at left (grants_in m label here.task t.at))
+
 unique_signed : (st : Stack) (r : Result) → Unique r → Unique (with_sign st r)
 unfolding with_sign
 unique_signed st r h =
@@ -294,6 +348,9 @@ mutual
   unique_step m (cancel name) here st t distinct = unique_cancelling here.clock _ t
   unique_step m (set_event name) here st t distinct = unique_setting here.clock _ t
   unique_step m (wait_for name) here st t distinct = unique_awaiting here.clock st _ t
+  unique_step m (ask_for name ask body) here st t distinct =
+      unique_asking m st ask _ here t _ (λ lent u. unique m body (record here { part = lent }) st u distinct)
+  unique_step m (close_channel name) here st t distinct = unique_closing _ t
   unique_step m (scope name d shield fail body) here st t distinct =
       unique_block here.clock m _ (label_here name here) t.at _ shield st _
       (λ f. unique m body here _ t distinct.1)
@@ -309,6 +366,11 @@ mutual
       unique_event m (label_here name here) t.at _
       (λ f. unique m body here _ t distinct.1)
       (λ f i. distinct.0 ((tidy m body here (stack_in_event (label_here name here) f st) t).gives _ i).named)
+  unique_step m (object name kind body) here st t distinct =
+      unique_acted _ t.at _ _
+      (unique_event m (label_here name here) t.at _
+      (λ f. unique m body here _ t distinct.1)
+      (λ f i. distinct.0 ((tidy m body here (stack_in_event (label_here name here) f st) t).gives _ i).named))
   unique_step m (start name None body) here st t distinct =
       unique_child _ (a_round_after here.clock t.at) _ t
       (λ i. distinct.0 ((tidy_signed st _ _ (tidy m body (here_in (label_here name here) here.part here) st (only_at (a_round_after here.clock t.at)))).gives _ i).named)
@@ -360,6 +422,7 @@ times_none l (entered m t d rest) h = by_test (same_label l m) refl (times_none 
     by_test : (b : Bool) → same_label l m ≡ b → times_given l rest ≡ 0 → (if b then 1 else 0) + times_given l rest ≡ 0
     by_test true e k = absurd (h (inl (same_label_equal l m e)))
     by_test false e k = omega arith
+times_none l (act m t a rest) h = times_none l rest h
 times_none l (task m s u e own rest) h =
     by_test (same_label l m) refl (times_none l own (λ i. h (inr (inl i)))) (times_none l rest (λ i. h (inr (inr i))))
   where
@@ -379,6 +442,7 @@ times_some l (entered m t d rest) h = by_test (same_label l m) refl h (times_som
         (l ≡ m) ⊎ Gives l rest
     by_test true e k others = inl (same_label_equal l m e)
     by_test false e k others = inr (others (omega arith))
+times_some l (act m t a rest) h = times_some l rest h
 times_some l (task m s u e own rest) h = by_test (same_label l m) refl h (times_some l own) (times_some l rest)
   where
     by_own : (0 < times_given l own) ⊎ (times_given l own ≤ 0) → 0 < times_given l own + times_given l rest →
@@ -404,6 +468,7 @@ times_once l (entered m t d rest) h = by_test (same_label l m) refl (times_once 
     by_test : (b : Bool) → same_label l m ≡ b → times_given l rest ≤ 1 → (if b then 1 else 0) + times_given l rest ≤ 1
     by_test true e k = let n = none_after (same_label_equal l m e) in omega arith
     by_test false e k = omega arith
+times_once l (act m t a rest) h = times_once l rest h
 times_once l (task m s u e own rest) h = by_test (same_label l m) refl (times_once l own h.1) (times_once l rest h.2)
   where
     none_own : l ≡ m → times_given l own ≡ 0
@@ -428,6 +493,7 @@ entered_given l nil = omega arith
 entered_given l (entry t e rest) = entered_given l rest
 entered_given l (sign m t rest) = entered_given l rest
 entered_given l (entered m t d rest) = let h = entered_given l rest in omega arith
+entered_given l (act m t a rest) = entered_given l rest
 entered_given l (task m s u e own rest) = let h = entered_given l own in let k = entered_given l rest in omega arith
 
 -- so no label of a scope, nursery or event is entered twice either

@@ -1,22 +1,25 @@
 -- A walk by ticks whose exception holds a `Cancelled` ends in a tick at which its stack is seen.
 use Rattle.std.proofs.Common.{◌≡◌, ℕ, zero, suc, ◌≤◌, max, Bool, true, false, ◌||◌, ◌&&◌, not, Option, Some, None, List, [], ◌∷◌, ◌++◌, refl, sym, ap, ◌∙◌, IsTrue, ◌⊎◌, inl, inr, arith, nat_le, nat_lt, if◌then◌else◌}
+use Rattle.std.specs.Prelude.{codes}
 use Rattle.std.proofs.lemmas.Bool.{false≢true, or_cases}
 use Rattle.std.proofs.lemmas.Bool.Decides.{nat_tests}
 use Rattle.job_tree.specs.Tree.{Step, sleep, checkpoint, forever, pace, find, head, longest, need, raise, cancel, set_event, wait_for, ask_for, close_channel, scope, nursery, event, object, start, repeat, attempt, Steps, stop, step, Handled, unhandled, except, Cleaned, uncleaned, finally}
-use Rattle.input_lines.specs.Lines.{Span}
-use Rattle.exceptions.specs.Exceptions.{Label, Exc, cancelled, hold_cancelled, parts_of, holds_cancelled, by_nursery}
+use Rattle.job_tree.specs.declared.object.Ask.{Ask}
+use Rattle.input_lines.specs.Lines.{Range, Span}
+use Rattle.exceptions.specs.Exceptions.{Label, Exc, cancelled, raised, hold_cancelled, parts_of, holds_cancelled, by_nursery}
 use Rattle.exceptions.specs.Split.{Wanted, keep, drop}
 use Rattle.cancel_scopes.specs.Sight.{Tick, Level, sight, seen, is_reached, catches}
-use Rattle.job_meaning.specs.Log.{Member, Result}
+use Rattle.job_meaning.specs.Log.{Act, Member, Result}
+use Rattle.job_meaning.specs.Sharing.{What, a_token, was_sent, a_part, closed_resource, end_of_channel, Granted}
 use Rattle.job_meaning.specs.Moments.{a_round_after, wakes_at, gives_up_at, tick_of, Now, only_at}
 use Rattle.job_meaning.specs.declared.clock.Clock.{Clock}
 use Rattle.job_meaning.specs.declared.clock.Clock.TheVariants.{ByTicks as by_ticks}
-use Rattle.job_meaning.specs.Walk.{Levels, Stack, no_stack, Mode, Here, walk, walk_step, walk_handler, walk_cleanup, done_at, raised_at, now_of, in_sequence, and_then, then_if, wait_by_sight, sleep_result, pace_result, wait_until, set_moment, wait_by, with_line_if, with_line, event_wait, lines_result, raise_result, need_result, with_own, cancel_result, set_result, from_for, stack_for, Kind, from_of, block, event_block, stack_inside, stack_in_event, left_with, exc_after, with_sign, latest, with_exc, excs_of, nursery_result, child, each, passes, handler_result, handler_for, handler_if_any, handler_exc, cleanup_result, outcome_after}
+use Rattle.job_meaning.specs.Walk.{Levels, Stack, no_stack, Mode, grants_in, Here, walk, walk_step, walk_handler, walk_cleanup, done_at, raised_at, now_of, in_sequence, and_then, then_if, wait_by_sight, sleep_result, pace_result, wait_until, set_moment, wait_by, with_line_if, with_line, event_wait, lines_result, raise_result, need_result, with_own, cancel_result, set_result, from_for, stack_for, Kind, from_of, block, event_block, with_act, close_result, with_token_back, last_grant, leaves_queue, in_time, left_result, goes_on, granted_result, asked_result, asks_in, ask_result, stack_inside, stack_in_event, left_with, exc_after, with_sign, latest, with_exc, excs_of, nursery_result, child, each, passes, handler_result, handler_for, handler_if_any, handler_exc, cleanup_result, outcome_after}
 use Rattle.job_meaning.specs.Meaning.{root_walk, root_here}
 use Rattle.job_meaning.specs.Laws.{some_cancelled, CancelledIsSeen, NoneReachesTheRoot}
 use Rattle.job_meaning.proofs.Ticks.{seen_cons, stays_seen}
 use Rattle.job_meaning.proofs.MomentLemmas.{round_after, gives_up_after}
-use Rattle.job_meaning.proofs.Late.{Late, late, latest_ends}
+use Rattle.job_meaning.proofs.Late.{Late, noted_at, late, latest_ends}
 use Rattle.job_meaning.proofs.Leaves.{group_holds, with_exc_holds, pruned_holds, left_holds}
 
 -- each member that ended with a `Cancelled` did so in a moment at which its stack is seen
@@ -198,6 +201,65 @@ root_event m label t st inside h =
     let inner = h (from_of m label None inside) in
     record { own = inner.own; exc = inner.exc; members = inner.members }
 
+-- an act before what is rooted
+pub root_acted : (st : Stack) (label : Label) (t : ℕ) (a : Act) (r : Result) → Rooted st r → Rooted st (with_act label t a r)
+root_acted st label t a r h = record { own = h.own; exc = h.exc; members = h.members }
+
+-- a `close` is rooted
+pub root_closing : (st : Stack) (label : Option Label) (t : Now) → t.own ≡ [] → Rooted st (close_result label t)
+unfolding close_result
+root_closing st None t none = root_done st t none
+root_closing st (Some l) t none = root_acted st l t.at _ (done_at t) (root_done st t none)
+
+root_token_back : (st : Stack) (label : Label) (r : Result) → Rooted st r → Rooted st (with_token_back label r)
+unfolding with_token_back
+root_token_back st label r h = record { own = h.own; exc = h.exc; members = h.members }
+
+-- who leaves the queue is cancelled where that is seen
+root_left : (st : Stack) (here : Here) (left : ℕ) → Rooted st (left_result here (sight st.scopes) left)
+root_left st here left = by_sight (is_reached (sight st.scopes) left) refl
+  where
+    by_sight : (b : Bool) → is_reached (sight st.scopes) left ≡ b → Rooted st (if b then raised_at cancelled (only_at left)
+        else raised_at (raised (codes "Deadlock") here.task (tick_of here.clock left)) (only_at left))
+    by_sight true e = record { own = refl; exc = λ h. e; members = tt }
+    by_sight false e = record { own = refl; exc = λ h. absurd (false≢true h); members = tt }
+
+root_goes_on : (st : Stack) (label : Label) (m : ℕ) (go : Now → Result) → ((u : Now) → u.own ≡ [] → Rooted st (go u)) → Rooted st (goes_on label m go)
+root_goes_on st label m go h =
+    root_joined st (noted_at label m) (go (only_at m)) (record { own = refl; exc = λ k. absurd (false≢true k); members = tt }) (h (only_at m) refl)
+
+root_granted : (st : Stack) (label : Label) (here : Here) (m : ℕ) (what : What) (go : Here → Now → Result) →
+    ((lent : Range) (u : Now) → u.own ≡ [] → Rooted st (go (record here { part = lent }) u)) → Rooted st (granted_result label here m what go)
+root_granted st label here m a_token go h = root_goes_on st label m _ (λ u own. root_token_back st label _ (h here.part u own))
+root_granted st label here m was_sent go h = root_goes_on st label m _ (λ u own. h here.part u own)
+root_granted st label here m (a_part lent) go h = root_goes_on st label m _ (λ u own. h lent u own)
+root_granted st label here m closed_resource go h = record { own = refl; exc = λ k. absurd (false≢true k); members = tt }
+root_granted st label here m end_of_channel go h = record { own = refl; exc = λ k. absurd (false≢true k); members = tt }
+
+-- an ask is rooted where what follows it is, on whatever part it is
+pub root_asking : (m : Mode) (st : Stack) (ask : Ask) (label : Option Label) (here : Here) (t : Now) (go : Here → Now → Result) → t.own ≡ [] →
+    ((lent : Range) (u : Now) → u.own ≡ [] → Rooted st (go (record here { part = lent }) u)) → Rooted st (ask_result m ask label here st t go)
+unfolding ask_result
+root_asking m st ask None here t go none h = root_done st t none
+root_asking m st ask (Some label) here t go none h = by_sight (seen (stack_for t.own t.at st.scopes) t.at) refl
+  where
+    left : ℕ
+    left = leaves_queue (sight st.scopes) (last_grant here.clock t.at)
+
+    by_grant : (o : Option Granted) → Rooted st (asked_result ask label here (sight st.scopes) t.at left o go)
+    by_grant None = root_acted st label t.at _ _ (root_left st here left)
+    by_grant (Some g) = root_acted st label t.at _ _ (root_granted st label here g.at g.what go h)
+
+    given_up : seen (stack_for t.own t.at st.scopes) t.at ≡ true → IsTrue (seen st.scopes (gives_up_at here.clock 0 t.at))
+    given_up e =
+        stays_seen st.scopes t.at (gives_up_at here.clock 0 t.at) (omega (arith, round_after here.clock t.at, gives_up_after here.clock 0 t.at))
+        (sym (ap (λ (ls : Levels). seen ls t.at) (ap (λ (own : List Label). stack_for own t.at st.scopes) none ∙ stack_for_none t.at st.scopes)) ∙ e)
+
+    by_sight : (b : Bool) → seen (stack_for t.own t.at st.scopes) t.at ≡ b →
+        Rooted st (if b then raised_at cancelled (only_at (gives_up_at here.clock 0 t.at)) else asks_in m ask label here st t.at go)
+    by_sight true e = record { own = refl; exc = λ k. given_up e; members = tt }
+    by_sight false e = by_grant (in_time t.at left (grants_in m label here.task t.at))
+
 -- a rooted member is rooted with its sign too
 pub root_signed : (st : Stack) (r : Result) → Rooted st r → Rooted st (with_sign st r)
 unfolding with_sign
@@ -337,6 +399,9 @@ mutual
   root_step m (cancel name) here st t ticks none = root_cancelling here.clock st _ t ticks none
   root_step m (set_event name) here st t ticks none = root_setting here.clock st _ t ticks none
   root_step m (wait_for name) here st t ticks none = root_awaiting here.clock st _ t none
+  root_step m (ask_for name ask body) here st t ticks none =
+      root_asking m st ask _ here t _ none (λ lent u own. root m body (record here { part = lent }) st u ticks own)
+  root_step m (close_channel name) here st t ticks none = root_closing st _ t none
   root_step m (scope name d shield fail body) here st t ticks none =
       root_block here.clock m _ _ t.at _ shield st _ (λ from. root m body here _ t ticks none)
   root_step m (nursery name d shield body) here st t ticks none =
@@ -344,6 +409,8 @@ mutual
       (λ from. root_gathered here.clock _ _ _ (root_signed _ _ (root m body here _ t ticks none)))
   root_step m (event name body) here st t ticks none =
       root_event m _ t.at st _ (λ from. root m body here _ t ticks none)
+  root_step m (object name kind body) here st t ticks none =
+      root_acted st _ t.at _ _ (root_event m _ t.at st _ (λ from. root m body here _ t ticks none))
   root_step m (start name None body) here st t ticks none =
       root_child st _ _ _ t none (root_signed st _ (root m body _ st (only_at (a_round_after here.clock t.at)) ticks refl))
   root_step m (start name (Some k) body) here st t ticks none =

@@ -1,22 +1,25 @@
--- Following a table is the meaning of a job where the table is that of the meaning, and where it is settled.
-use Rattle.std.proofs.Common.{◌≡◌, ℕ, zero, suc, ◌<◌, ◌≤◌, Bool, true, false, Option, Some, None, List, [], ◌∷◌, ◌++◌, refl, ap, sym, ◌∙◌, subst, ◌⊎◌, inl, inr, arith}
+-- Following a table is a walk of a job with what is granted, where the table is that of the walk, and where it is settled.
+use Rattle.std.proofs.Common.{◌≡◌, ℕ, zero, suc, ◌<◌, ◌≤◌, Bool, true, false, Option, Some, None, List, [], ◌∷◌, ◌++◌, refl, ap, sym, ◌∙◌, subst, ◌⊎◌, inl, inr, arith, if◌then◌else◌}
 use Rattle.job_tree.specs.Tree.{Tree, Step, sleep, checkpoint, forever, pace, find, head, longest, need, raise, cancel, set_event, wait_for, ask_for, close_channel, scope, nursery, event, object, start, repeat, attempt, Steps, stop, step, Handled, unhandled, except, Cleaned, uncleaned, finally}
-use Rattle.job_tree.specs.Names.{names_of, names_in, handled_names, cleaned_names}
+use Rattle.job_tree.specs.Names.{names_of, names_in, handled_names, cleaned_names, GivesNamesOnce}
+use Rattle.job_tree.specs.declared.object.Ask.{Ask}
+use Rattle.input_lines.specs.Lines.{Range}
 use Rattle.input_lines.specs.Cuts.{cut_of}
-use Rattle.exceptions.specs.Exceptions.{Label, Exc}
+use Rattle.exceptions.specs.Exceptions.{Label, Exc, cancelled}
 use Rattle.exceptions.specs.Split.{Wanted, keep, drop}
-use Rattle.cancel_scopes.specs.Sight.{Tick, catches}
-use Rattle.job_meaning.specs.Log.{Log, nil, entry, followed_by, Result, least_sign, deadline_of, deadline_if, either, same_label, from_by, Table, table_of, entered_from}
-use Rattle.job_meaning.specs.Moments.{a_round_after, Now, only_at}
+use Rattle.cancel_scopes.specs.Sight.{Tick, sight, seen, catches}
+use Rattle.job_meaning.specs.Log.{Act, opens, asks, gives_back, Log, nil, entry, act, followed_by, Result, least_sign, deadline_of, deadline_if, either, same_label, from_by, Table, table_of, entered_from}
+use Rattle.job_meaning.specs.Sharing.{What, a_token, was_sent, a_part, closed_resource, end_of_channel, Granted, Grants}
+use Rattle.job_meaning.specs.Moments.{a_round_after, gives_up_at, Now, only_at}
 use Rattle.job_meaning.specs.declared.clock.Clock.{Clock}
-use Rattle.job_meaning.specs.Walk.{Levels, Stack, no_stack, Mode, two_walks, by_table, Here, walk, walk_step, walk_handler, walk_cleanup, now_of, from_for, stack_for, in_sequence, and_then, then_if, Kind, block, event_block, event_result, exit_with_from, left_as, left_with, stack_inside, stack_in_event, with_sign, sign_if, home_of, nursery_result, child, each, passes, handler_result, handler_for, handler_if_any, handler_after, cleanup_result, cleanup_after, label_here, label_over, here_in, in_pass, cuts_over}
-use Rattle.job_meaning.specs.Meaning.{meaning, meaning_table, root_walk, root_here}
-use Rattle.job_meaning.specs.Follow.{follow, IsSettled}
-use Rattle.job_meaning.specs.Before.{upto, log_before, NearLevels, Near}
-use Rattle.job_meaning.specs.Laws.{FollowingIsMeaning, TableIsSettled, FollowingSettledIsMeaning, OneTableIsSettled}
-use Rattle.job_meaning.proofs.Late.{Late, late, late_signed, late_gathered}
+use Rattle.job_meaning.specs.Walk.{Levels, Stack, no_stack, Mode, two_walks, by_table, grants_in, Here, walk, walk_step, walk_handler, walk_cleanup, raised_at, now_of, from_for, stack_for, in_sequence, and_then, then_if, Kind, block, event_block, event_result, with_act, with_token_back, last_grant, leaves_queue, in_time, goes_on, granted_result, asked_result, asks_in, ask_result, exit_with_from, left_as, left_with, stack_inside, stack_in_event, with_sign, sign_if, home_of, nursery_result, child, each, passes, handler_result, handler_for, handler_if_any, handler_after, cleanup_result, cleanup_after, label_here, label_over, here_in, in_pass, cuts_over}
+use Rattle.job_meaning.specs.Meaning.{root_walk, root_here}
+use Rattle.job_meaning.specs.Follow.{follow}
+use Rattle.job_meaning.specs.Before.{upto, log_before, NearLevels, Near, NearModes}
+use Rattle.job_meaning.proofs.Late.{Late, noted_at, late, late_signed, late_gathered}
 use Rattle.job_meaning.proofs.Clips.{least_near}
-use Rattle.job_meaning.proofs.Causality.{agree, agree_logs, agree_signed, agree_gathered, near_within, near_in_event}
+use Rattle.job_meaning.proofs.Agreeing.{agree_logs}
+use Rattle.job_meaning.proofs.Causality.{agree, agree_signed, agree_gathered, near_within, near_in_event}
 use Rattle.job_meaning.proofs.Distinct.{Among, among_left, among_right, Distinct, distinct_left, distinct_right, distinct_apart, distinct_by_bytes, same_label_itself, same_label_equal, Belongs, after_other, OnLevels, OnStack, Fresh, fresh_in}
 use Rattle.job_meaning.proofs.Touched.{Gives, least_followed, deadline_followed, deadline_entered, either_nothing, earlier_never}
 use Rattle.job_meaning.proofs.Tidy.{Tidy, tidy, tidy_step, tidy_handler, tidy_in, tidy_each, tidy_passes, tidy_signed, tidy_gathered, tidy_over, signs_home, gives_home}
@@ -47,7 +50,8 @@ record Inside (t : ℕ) (inside : Tick → Result) : Type 0 where
   later : (f : Tick) → Late t (inside f)
   causal : (c : ℕ) (f g : Tick) → upto c f ≡ upto c g → log_before c (inside f).log ≡ log_before c (inside g).log
 
-module _ (table : Table) (clock : Clock) (kind : Kind) (label : Label) (t : ℕ) (d : Tick) (shield : Bool) (st : Stack) (inside inside' : Tick → Result)
+module _ (table : Table) (grants : Grants) (clock : Clock) (kind : Kind) (label : Label) (t : ℕ) (d : Tick) (shield : Bool) (st : Stack)
+    (inside inside' : Tick → Result)
     (own : (f : Tick) → Gives label (inside f).log → ⊥) where
   -- the log of a block after the entering of its label
   abbrev inner_log : Tick → Log
@@ -80,8 +84,8 @@ module _ (table : Table) (clock : Clock) (kind : Kind) (label : Label) (t : ℕ)
 
   -- A block by two walks and by a table that fits these: the table has its from, and inside all is the same.
   block_by_table : Inside t inside → ((f : Tick) → Fits table (inside f).log → inside' f ≡ inside f) →
-      Fits table (block clock two_walks kind label t d shield st inside).log →
-      block clock (by_table table) kind label t d shield st inside' ≡ block clock two_walks kind label t d shield st inside
+      Fits table (block clock (two_walks grants) kind label t d shield st inside).log →
+      block clock (by_table table grants) kind label t d shield st inside' ≡ block clock (two_walks grants) kind label t d shield st inside
   unfolding block
   block_by_table i same h =
       let first : Tick = least_sign label (inside d).log in
@@ -96,8 +100,8 @@ module _ (table : Table) (clock : Clock) (kind : Kind) (label : Label) (t : ℕ)
   -- A block by a table that fits its own following, and by two walks: the first of these has the sign from which the table's
   -- from follows, and inside all is the same.
   block_by_walks : Inside t inside' → ((f : Tick) → Fits table (inside f).log → inside' f ≡ inside f) →
-      Fits table (block clock (by_table table) kind label t d shield st inside).log →
-      block clock two_walks kind label t d shield st inside' ≡ block clock (by_table table) kind label t d shield st inside
+      Fits table (block clock (by_table table grants) kind label t d shield st inside).log →
+      block clock (two_walks grants) kind label t d shield st inside' ≡ block clock (by_table table grants) kind label t d shield st inside
   unfolding block
   block_by_walks i same h =
       let from : Tick = table label in
@@ -114,7 +118,8 @@ module _ (table : Table) (clock : Clock) (kind : Kind) (label : Label) (t : ℕ)
       ∙ ap (λ (r : Result). exit_with_from clock kind label t d shield st from r) inner
 
 -- The same of an event, whose log has only its label more.
-module _ (table : Table) (label : Label) (t : ℕ) (inside inside' : Tick → Result) (own : (f : Tick) → Gives label (inside f).log → ⊥) where
+module _ (table : Table) (grants : Grants) (label : Label) (t : ℕ) (inside inside' : Tick → Result)
+    (own : (f : Tick) → Gives label (inside f).log → ⊥) where
   fits_in_event : (f : Tick) → Fits table (event_result label t (inside f)).log → Fits table (inside f).log
   fits_in_event f h = record { each_label = each_one }
     where
@@ -131,8 +136,8 @@ module _ (table : Table) (label : Label) (t : ℕ) (inside inside' : Tick → Re
       h.each_label label None (ap (λ (b : Bool). either (deadline_if b None) (deadline_of label (inside f).log)) (same_label_itself label))
 
   event_by_table : Inside t inside → ((f : Tick) → Fits table (inside f).log → inside' f ≡ inside f) →
-      Fits table (event_block two_walks label t inside).log →
-      event_block (by_table table) label t inside' ≡ event_block two_walks label t inside
+      Fits table (event_block (two_walks grants) label t inside).log →
+      event_block (by_table table grants) label t inside' ≡ event_block (two_walks grants) label t inside
   unfolding event_block
   event_by_table i same h =
       let first : Tick = least_sign label (inside None).log in
@@ -145,8 +150,8 @@ module _ (table : Table) (label : Label) (t : ℕ) (inside inside' : Tick → Re
       ∙ ap (λ (r : Result). event_result label t r) (same from (fits_in_event from h))
 
   event_by_walks : Inside t inside' → ((f : Tick) → Fits table (inside f).log → inside' f ≡ inside f) →
-      Fits table (event_block (by_table table) label t inside).log →
-      event_block two_walks label t inside' ≡ event_block (by_table table) label t inside
+      Fits table (event_block (by_table table grants) label t inside).log →
+      event_block (two_walks grants) label t inside' ≡ event_block (by_table table grants) label t inside
   unfolding event_block
   event_by_walks i same h =
       let from : Tick = table label in
@@ -162,7 +167,8 @@ module _ (table : Table) (label : Label) (t : ℕ) (inside inside' : Tick → Re
       ap (λ (f : Tick). event_result label t (inside' f)) found
       ∙ ap (λ (r : Result). event_result label t r) inner
 
--- A block or an event has the same result in two modes, if the table fits it in the first and its inside has the same result.
+-- A block or an event has the same result in two modes, if the table fits it in the first and its inside has the same result. What is
+-- granted is the same in both.
 record SameBlocks (table : Table) (m other : Mode) : Type 0 where
   blocks :
       (clock : Clock) (kind : Kind) (label : Label) (t : ℕ) (d : Tick) (shield : Bool) (st : Stack) (inside inside' : Tick → Result) →
@@ -174,19 +180,24 @@ record SameBlocks (table : Table) (m other : Mode) : Type 0 where
       ((f : Tick) → Gives label (inside f).log → ⊥) → Inside t inside → Inside t inside' →
       ((f : Tick) → Fits table (inside f).log → inside' f ≡ inside f) → Fits table (event_block m label t inside).log →
       event_block other label t inside' ≡ event_block m label t inside
+  grants : grants_in other ≡ grants_in m
 
-same_by_table : (table : Table) → SameBlocks table two_walks (by_table table)
-same_by_table table =
+same_by_table : (table : Table) (grants : Grants) → SameBlocks table (two_walks grants) (by_table table grants)
+same_by_table table grants =
     record {
-      blocks = λ clock kind label t d shield st inside inside' own i j same h. block_by_table table clock kind label t d shield st inside inside' own i same h;
-      events = λ label t inside inside' own i j same h. event_by_table table label t inside inside' own i same h;
+      blocks =
+          λ clock kind label t d shield st inside inside' own i j same h. block_by_table table grants clock kind label t d shield st inside inside' own i same h;
+      events = λ label t inside inside' own i j same h. event_by_table table grants label t inside inside' own i same h;
+      grants = refl;
     }
 
-same_by_walks : (table : Table) → SameBlocks table (by_table table) two_walks
-same_by_walks table =
+same_by_walks : (table : Table) (grants : Grants) → SameBlocks table (by_table table grants) (two_walks grants)
+same_by_walks table grants =
     record {
-      blocks = λ clock kind label t d shield st inside inside' own i j same h. block_by_walks table clock kind label t d shield st inside inside' own j same h;
-      events = λ label t inside inside' own i j same h. event_by_walks table label t inside inside' own j same h;
+      blocks =
+          λ clock kind label t d shield st inside inside' own i j same h. block_by_walks table grants clock kind label t d shield st inside inside' own j same h;
+      events = λ label t inside inside' own i j same h. event_by_walks table grants label t inside inside' own j same h;
+      grants = refl;
     }
 
 -- a sign for the home of a stack is for no label that a walk on it enters
@@ -246,6 +257,69 @@ settled_each table st names path (suc k) go go' t fresh h same f =
 
     both : each k go' t ≡ each k go t → go' k ≡ go k → in_sequence (each k go' t) (go' k) ≡ in_sequence (each k go t) (go k)
     both e i = ap (λ (x : Result). in_sequence x (go' k)) e ∙ ap (λ (x : Result). in_sequence (each k go t) x) i
+
+-- an act changes nothing in what a table fits
+fits_acted : (table : Table) (label : Label) (t : ℕ) (a : Act) (r : Result) → Fits table (with_act label t a r).log → Fits table r.log
+fits_acted table label t a r f = record { each_label = f.each_label }
+
+-- nor does a token that comes back
+fits_token_back : (table : Table) (label : Label) (r : Result) → Fits table (with_token_back label r).log → Fits table r.log
+unfolding with_token_back
+fits_token_back table label r f = fits_first table r.log (act label r.end gives_back nil) apart f
+  where
+    apart : Apart r.log (act label r.end gives_back nil)
+    apart = record { unsigned_after = λ l i j. j; entered_once = λ l i j. j; unsigned_before = λ l i j. i }
+
+settled_goes_on : (table : Table) (label : Label) (m : ℕ) (go go' : Now → Result) → ((u : Now) → Fits table (go u).log → go' u ≡ go u) →
+    Fits table (goes_on label m go).log → goes_on label m go' ≡ goes_on label m go
+settled_goes_on table label m go go' same f =
+    ap (λ (x : Result). in_sequence (noted_at label m) x) (same (only_at m) (record { each_label = f.each_label }))
+
+-- what a task does with what it is granted is the same, where the block of the step is
+settled_granted : (table : Table) (label : Label) (here : Here) (m : ℕ) (what : What) (go go' : Here → Now → Result) →
+    ((lent : Range) (u : Now) → Fits table (go (record here { part = lent }) u).log →
+    go' (record here { part = lent }) u ≡ go (record here { part = lent }) u) →
+    Fits table (granted_result label here m what go).log → granted_result label here m what go' ≡ granted_result label here m what go
+settled_granted table label here m a_token go go' same f =
+    settled_goes_on table label m (λ u. with_token_back label (go here u)) (λ u. with_token_back label (go' here u))
+    (λ u g. ap (λ (x : Result). with_token_back label x) (same here.part u (fits_token_back table label (go here u) g))) f
+settled_granted table label here m was_sent go go' same f =
+    settled_goes_on table label m (λ u. go here u) (λ u. go' here u) (λ u g. same here.part u g) f
+settled_granted table label here m (a_part lent) go go' same f =
+    settled_goes_on table label m (λ u. go (record here { part = lent }) u) (λ u. go' (record here { part = lent }) u) (λ u g. same lent u g) f
+settled_granted table label here m closed_resource go go' same f = refl
+settled_granted table label here m end_of_channel go go' same f = refl
+
+-- an ask in two modes that grant the same
+settled_asking : (table : Table) (m other : Mode) (ask : Ask) (label : Option Label) (here : Here) (st : Stack) (t : Now)
+    (go go' : Here → Now → Result) →
+    grants_in other ≡ grants_in m →
+    ((lent : Range) (u : Now) → Fits table (go (record here { part = lent }) u).log →
+    go' (record here { part = lent }) u ≡ go (record here { part = lent }) u) →
+    Fits table (ask_result m ask label here st t go).log → ask_result other ask label here st t go' ≡ ask_result m ask label here st t go
+unfolding ask_result
+settled_asking table m other ask None here st t go go' grants same f = refl
+settled_asking table m other ask (Some label) here st t go go' grants same f = by_sight (seen (stack_for t.own t.at st.scopes) t.at) f
+  where
+    left : ℕ
+    left = leaves_queue (sight st.scopes) (last_grant here.clock t.at)
+
+    by_grant : (o : Option Granted) → Fits table (asked_result ask label here (sight st.scopes) t.at left o go).log →
+        asked_result ask label here (sight st.scopes) t.at left o go' ≡ asked_result ask label here (sight st.scopes) t.at left o go
+    by_grant None g = refl
+    by_grant (Some x) g =
+        ap (λ (r : Result). with_act label t.at (asks ask here.part None) r)
+        (settled_granted table label here x.at x.what go go' same
+        (fits_acted table label t.at (asks ask here.part None) (granted_result label here x.at x.what go) g))
+
+    by_sight : (b : Bool) →
+        Fits table (if b then raised_at cancelled (only_at (gives_up_at here.clock 0 t.at)) else asks_in m ask label here st t.at go).log →
+        (if b then raised_at cancelled (only_at (gives_up_at here.clock 0 t.at)) else asks_in other ask label here st t.at go')
+        ≡ (if b then raised_at cancelled (only_at (gives_up_at here.clock 0 t.at)) else asks_in m ask label here st t.at go)
+    by_sight true g = refl
+    by_sight false g =
+        ap (λ (given : Grants). asked_result ask label here (sight st.scopes) t.at left (in_time t.at left (given label here.task t.at)) go') grants
+        ∙ by_grant (in_time t.at left (grants_in m label here.task t.at)) g
 
 -- the passes of one `repeat` enter different labels
 settled_passes : (table : Table) (st : Stack) (names : List (List ℕ)) (path : List ℕ) (k first : ℕ) (go go' : ℕ → Now → Result) (t : Now) →
@@ -363,6 +437,11 @@ levels_same c (l ∷ ls) = (refl, refl, refl, levels_same c ls)
 near_same : (c : ℕ) (st : Stack) → Near c st st
 near_same c st = (levels_same c st.scopes, levels_same c st.events)
 
+-- a mode is near itself
+modes_same : (c : ℕ) (m : Mode) → NearModes c m m
+modes_same c (two_walks grants) = λ object asker t. refl
+modes_same c (by_table table grants) = (λ l. refl, λ object asker t. refl)
+
 -- the inside of a nursery, walked on the stack within it
 abbrev nursery_inside : Mode → Steps → Label → Here → Stack → Now → Result
 nursery_inside m body label here inner t = nursery_result here.clock label (with_sign inner (walk m body here inner t))
@@ -373,7 +452,7 @@ scope_is_inside : (m : Mode) (body : Steps) (label : Label) (here : Here) (shiel
 scope_is_inside m body label here shield st t =
     record {
       later = λ f. late m body here (stack_inside label shield f st) t;
-      causal = λ c f g e. agree_logs (agree c m body here _ _ t (near_within c label shield f g st st e (near_same c st)));
+      causal = λ c f g e. agree_logs (agree c m m body here _ _ t (modes_same c m) (near_within c label shield f g st st e (near_same c st)));
     }
 
 event_is_inside : (m : Mode) (body : Steps) (label : Label) (here : Here) (st : Stack) (t : Now) →
@@ -381,7 +460,7 @@ event_is_inside : (m : Mode) (body : Steps) (label : Label) (here : Here) (st : 
 event_is_inside m body label here st t =
     record {
       later = λ f. late m body here (stack_in_event label f st) t;
-      causal = λ c f g e. agree_logs (agree c m body here _ _ t (near_in_event c label f g st st e (near_same c st)));
+      causal = λ c f g e. agree_logs (agree c m m body here _ _ t (modes_same c m) (near_in_event c label f g st st e (near_same c st)));
     }
 
 tidy_nursery : (m : Mode) (body : Steps) (label : Label) (here : Here) (inner : Stack) (t : Now) →
@@ -395,7 +474,8 @@ late_nursery m body label here inner t = late_gathered here.clock t.at label _ (
 agree_nursery : (c : ℕ) (m : Mode) (body : Steps) (label : Label) (here : Here) (inner outer : Stack) (t : Now) → Near c inner outer →
     log_before c (nursery_inside m body label here inner t).log ≡ log_before c (nursery_inside m body label here outer t).log
 agree_nursery c m body label here inner outer t near =
-    agree_logs (agree_gathered c here.clock label _ _ (agree_signed c inner outer _ _ near (agree c m body here inner outer t near)))
+    agree_logs (agree_gathered c here.clock label _ _
+    (agree_signed c inner outer _ _ near (agree c m m body here inner outer t (modes_same c m) near)))
 
 nursery_is_inside : (m : Mode) (body : Steps) (label : Label) (here : Here) (shield : Bool) (st : Stack) (t : Now) →
     Inside t.at (λ f. nursery_inside m body label here (stack_inside label shield f st) t)
@@ -437,6 +517,10 @@ mutual
   settled_step table m other same (cancel name) here st t distinct fresh f = refl
   settled_step table m other same (set_event name) here st t distinct fresh f = refl
   settled_step table m other same (wait_for name) here st t distinct fresh f = refl
+  settled_step table m other same (ask_for name ask body) here st t distinct fresh f =
+      settled_asking table m other ask _ here st t (λ inner u. walk m body inner st u) (λ inner u. walk other body inner st u) same.grants
+      (λ lent u g. settled table m other same body (record here { part = lent }) st u distinct fresh g) f
+  settled_step table m other same (close_channel name) here st t distinct fresh f = refl
   settled_step table m other same (scope name d shield fail body) here st t distinct fresh f =
       same.blocks here.clock _ (label_here name here) t.at _ shield st _ _
       (λ g e. not_inside name (names_of body) here here.path distinct ((tidy m body here _ t).gives _ e))
@@ -465,6 +549,15 @@ mutual
       (event_is_inside other body (label_here name here) here st t)
       (λ g h. settled table m other same body here _ t distinct.1 (fresh_in_event name (names_of body) here g st distinct fresh) h)
       f
+  settled_step table m other same (object name kind body) here st t distinct fresh f =
+      ap (λ (r : Result). with_act (label_here name here) t.at (opens kind) r)
+      (same.events (label_here name here) t.at _ _
+      (λ g e. not_inside name (names_of body) here here.path distinct ((tidy m body here _ t).gives _ e))
+      (event_is_inside m body (label_here name here) here st t)
+      (event_is_inside other body (label_here name here) here st t)
+      (λ g h. settled table m other same body here _ t distinct.1 (fresh_in_event name (names_of body) here g st distinct fresh) h)
+      (fits_acted table (label_here name here) t.at (opens kind)
+      (event_block m (label_here name here) t.at (λ from. walk m body here (stack_in_event (label_here name here) from st) t)) f))
   settled_step table m other same (start name None body) here st t distinct fresh f =
       settled_child table (label_here name here) (a_round_after here.clock t.at) _ _ t
       (settled_signed table st (Belongs (names_of body) here.path) _ _ (tidy m body _ st (only_at (a_round_after here.clock t.at)))
@@ -526,38 +619,33 @@ mutual
       (λ u g. settled table m other same body here st u (distinct_right names (names_of body) distinct) (fresh_right st names (names_of body) fresh) g)
       f
 
--- where names are given once, following the table of the meaning is the meaning
-pub following_is_meaning : FollowingIsMeaning
-unfolding follow meaning
-following_is_meaning job input once =
-    settled (meaning_table job input) two_walks (by_table (meaning_table job input)) (same_by_table (meaning_table job input))
+-- where names are given once, following the table of a walk is that walk, whatever is granted
+pub following_is_walking : (grants : Grants) (job : Tree) (input : List ℕ) → GivesNamesOnce job →
+    follow (table_of (root_walk (two_walks grants) job input).log) grants job input ≡ root_walk (two_walks grants) job input
+unfolding follow
+following_is_walking grants job input once =
+    settled table (two_walks grants) (by_table table grants) (same_by_table table grants)
     job.steps (root_here job input) no_stack (only_at 0)
     (distinct_by_bytes (job.name ∷ names_of job.steps) once).1
     (fresh_root (names_of job.steps))
-    (fits_own (root_walk two_walks job input).log)
+    (fits_own (root_walk (two_walks grants) job input).log)
+  where
+    table : Table
+    table = table_of (root_walk (two_walks grants) job input).log
 
--- so the table of the meaning is settled
-pub table_is_settled : TableIsSettled
-table_is_settled job input once l = ap (λ (r : Result). table_of r.log l) (sym (following_is_meaning job input once))
-
--- a settled table fits its own following
-fits_settled : (table : Table) (job : Tree) (input : List ℕ) → IsSettled table job input → Fits table (follow table job input).log
-fits_settled table job input h =
-    record {
-      each_label = λ l d e. h l ∙ ap (λ (o : Option Tick). entered_from o (least_sign l (follow table job input).log)) e;
-    }
-
--- and following any settled table is the meaning
-pub settled_is_meaning : FollowingSettledIsMeaning
-unfolding follow meaning
-settled_is_meaning table job input once h =
-    sym (settled table (by_table table) two_walks (same_by_walks table) job.steps (root_here job input) no_stack (only_at 0)
+-- and following any table that is that of its own following is a walk with what is granted
+pub settled_is_walking : (table : Table) (grants : Grants) (job : Tree) (input : List ℕ) → GivesNamesOnce job →
+    ((l : Label) → table l ≡ table_of (follow table grants job input).log l) →
+    follow table grants job input ≡ root_walk (two_walks grants) job input
+unfolding follow
+settled_is_walking table grants job input once h =
+    sym (settled table (by_table table grants) (two_walks grants) (same_by_walks table grants) job.steps (root_here job input) no_stack (only_at 0)
     (distinct_by_bytes (job.name ∷ names_of job.steps) once).1
     (fresh_root (names_of job.steps))
-    (fits_settled table job input h))
-
--- so there is one settled table
-pub one_table_is_settled : OneTableIsSettled
-one_table_is_settled table second job input once h k l =
-    h l ∙ (ap (λ (r : Result). table_of r.log l)
-    (settled_is_meaning table job input once h ∙ sym (settled_is_meaning second job input once k)) ∙ sym (k l))
+    fits)
+  where
+    fits : Fits table (root_walk (by_table table grants) job input).log
+    fits =
+        record {
+          each_label = λ l d e. h l ∙ ap (λ (o : Option Tick). entered_from o (least_sign l (root_walk (by_table table grants) job input).log)) e;
+        }

@@ -2,17 +2,21 @@
 -- holds in both modes.
 use Rattle.std.proofs.Common.{◌≡◌, ℕ, zero, suc, ◌<◌, ◌≤◌, Bool, true, false, Option, Some, None, List, [], ◌∷◌, ◌++◌, refl, sym, subst, ◌⊎◌, inl, inr, arith, max, nat_le, nat_lt, if◌then◌else◌}
 use Rattle.std.proofs.lemmas.List.{append-nil}
+use Rattle.std.specs.Prelude.{codes}
 use Rattle.std.specs.Str.{bytes_eq}
 use Rattle.job_tree.specs.Tree.{Step, sleep, checkpoint, forever, pace, find, head, longest, need, raise, cancel, set_event, wait_for, ask_for, close_channel, scope, nursery, event, object, start, repeat, attempt, Steps, stop, step, Handled, unhandled, except, Cleaned, uncleaned, finally}
 use Rattle.job_tree.specs.Names.{names_of, names_in, handled_names, cleaned_names}
+use Rattle.job_tree.specs.declared.object.Ask.{Ask}
 use Rattle.input_lines.specs.Lines.{Range, Span}
-use Rattle.exceptions.specs.Exceptions.{Label, Exc, cancelled}
+use Rattle.exceptions.specs.Exceptions.{Label, Exc, cancelled, raised}
 use Rattle.exceptions.specs.Split.{Wanted, keep, drop}
-use Rattle.cancel_scopes.specs.Sight.{Tick, Level, sight, catches}
-use Rattle.job_meaning.specs.Log.{Log, nil, entry, followed_by, Result}
-use Rattle.job_meaning.specs.Moments.{a_round_after, Now, only_at}
+use Rattle.cancel_scopes.specs.Sight.{Tick, Level, is_reached, sight, seen, catches}
+use Rattle.job_meaning.specs.Log.{Log, nil, entry, Act, act, gives_back, followed_by, Result}
+use Rattle.job_meaning.specs.Sharing.{What, a_token, was_sent, a_part, closed_resource, end_of_channel, Granted}
+use Rattle.job_meaning.specs.Moments.{tick_of, a_round_after, gives_up_at, Now, only_at}
 use Rattle.job_meaning.specs.declared.clock.Clock.{Clock}
-use Rattle.job_meaning.specs.Walk.{Levels, Stack, Mode, Here, walk, walk_step, walk_handler, walk_cleanup, done_at, raised_at, now_of, in_sequence, and_then, then_if, wait_by_sight, sleep_result, pace_result, wait_until, set_moment, wait_by, with_line_if, with_line, event_wait, log_of_lines, lines_result, raise_result, need_result, from_for, stack_for, label_on, label_if, sign_of, cancel_result, set_result, Kind, from_of, block, event_block, event_result, stack_in_event, exit_with_from, left_as, left_with, stack_inside, with_sign, sign_if, home_of, nursery_result, child, each, passes, handler_result, handler_for, handler_if_any, cleanup_result, label_here, label_over, here_in, in_pass, cuts_over}
+use Rattle.job_meaning.specs.Walk.{Levels, Stack, Mode, grants_in, Here, walk, walk_step, walk_handler, walk_cleanup, done_at, raised_at, now_of, in_sequence, and_then, then_if, wait_by_sight, sleep_result, pace_result, wait_until, set_moment, wait_by, with_line_if, with_line, event_wait, log_of_lines, lines_result, raise_result, need_result, from_for, stack_for, label_on, label_if, sign_of, cancel_result, set_result, Kind, from_of, block, event_block, event_result, with_act, close_result, with_token_back, last_grant, leaves_queue, in_time, left_result, goes_on, granted_result, asked_result, asks_in, ask_result, stack_in_event, exit_with_from, left_as, left_with, stack_inside, with_sign, sign_if, home_of, nursery_result, child, each, passes, handler_result, handler_for, handler_if_any, cleanup_result, label_here, label_over, here_in, in_pass, cuts_over}
+use Rattle.job_meaning.proofs.Late.{noted_at}
 use Rattle.job_meaning.proofs.Distinct.{among_left, among_right, Belongs, belongs_in, belongs_after, OnLevels, OnStack}
 use Rattle.job_meaning.proofs.Touched.{Gives, Signs, gives_followed, gives_first, gives_second, signs_followed}
 
@@ -255,6 +259,78 @@ tidy_event m label t st P inside p h = at_from (from_of m label None inside)
         by_place l (inl (inr (inr o))) = inl (inr o)
         by_place l (inr e) = inr (inr e)
 
+-- an act, which gives no label and signs none
+pub tidy_acted : (st : Stack) (P : Label → Type 0) (label : Label) (t : ℕ) (a : Act) (r : Result) → Tidy st P r → Tidy st P (with_act label t a r)
+tidy_acted st P label t a r h = record { gives = h.gives; signs = h.signs }
+
+-- a `close` is tidy
+pub tidy_closing : (st : Stack) (P : Label → Type 0) (label : Option Label) (t : Now) → Tidy st P (close_result label t)
+unfolding close_result
+tidy_closing st P None t = tidy_done st P t
+tidy_closing st P (Some l) t = tidy_acted st P l t.at _ (done_at t) (tidy_done st P t)
+
+-- what is tidy is tidy with a token that comes back at its end
+pub tidy_token_back : (st : Stack) (P : Label → Type 0) (label : Label) (r : Result) → Tidy st P r → Tidy st P (with_token_back label r)
+unfolding with_token_back
+tidy_token_back st P label r h =
+    record { gives = λ l e. own l (gives_followed l r.log back e); signs = λ l e. seen_to l (signs_followed l r.log back e) }
+  where
+    back : Log
+    back = act label r.end gives_back nil
+
+    own : (l : Label) → Gives l r.log ⊎ ⊥ → P l
+    own l (inl e) = h.gives l e
+    own l (inr e) = absurd e
+
+    first : (l : Label) → OnStack l st ⊎ Gives l r.log → OnStack l st ⊎ Gives l (followed_by r.log back)
+    first l (inl o) = inl o
+    first l (inr e) = inr (gives_first l r.log back e)
+
+    seen_to : (l : Label) → Signs l r.log ⊎ ⊥ → OnStack l st ⊎ Gives l (followed_by r.log back)
+    seen_to l (inl e) = first l (h.signs l e)
+    seen_to l (inr e) = absurd e
+
+-- who leaves the queue of a limiter or channel
+tidy_left : (st : Stack) (P : Label → Type 0) (here : Here) (from : Tick) (left : ℕ) → Tidy st P (left_result here from left)
+tidy_left st P here from left = by_sight (is_reached from left)
+  where
+    by_sight : (b : Bool) → Tidy st P (if b then raised_at cancelled (only_at left)
+        else raised_at (raised (codes "Deadlock") here.task (tick_of here.clock left)) (only_at left))
+    by_sight true = tidy_raised st P _ (only_at left)
+    by_sight false = tidy_raised st P _ (only_at left)
+
+tidy_goes_on : (st : Stack) (P : Label → Type 0) (label : Label) (m : ℕ) (go : Now → Result) → ((u : Now) → Tidy st P (go u)) →
+    Tidy st P (goes_on label m go)
+tidy_goes_on st P label m go h =
+    tidy_joined st P (noted_at label m) (go (only_at m)) (record { gives = λ l e. absurd e; signs = λ l e. absurd e }) (h (only_at m))
+
+tidy_granted : (st : Stack) (P : Label → Type 0) (label : Label) (here : Here) (m : ℕ) (what : What) (go : Here → Now → Result) →
+    ((lent : Range) (u : Now) → Tidy st P (go (record here { part = lent }) u)) → Tidy st P (granted_result label here m what go)
+tidy_granted st P label here m a_token go h = tidy_goes_on st P label m _ (λ u. tidy_token_back st P label _ (h here.part u))
+tidy_granted st P label here m was_sent go h = tidy_goes_on st P label m _ (λ u. h here.part u)
+tidy_granted st P label here m (a_part lent) go h = tidy_goes_on st P label m _ (λ u. h lent u)
+tidy_granted st P label here m closed_resource go h = tidy_raised st P _ (only_at m)
+tidy_granted st P label here m end_of_channel go h = tidy_raised st P _ (only_at m)
+
+-- an ask is tidy where what follows it is, on whatever part it is
+pub tidy_asking : (m : Mode) (st : Stack) (P : Label → Type 0) (ask : Ask) (label : Option Label) (here : Here) (t : Now) (go : Here → Now → Result) →
+    ((lent : Range) (u : Now) → Tidy st P (go (record here { part = lent }) u)) → Tidy st P (ask_result m ask label here st t go)
+unfolding ask_result
+tidy_asking m st P ask None here t go h = tidy_done st P t
+tidy_asking m st P ask (Some label) here t go h = by_sight (seen (stack_for t.own t.at st.scopes) t.at)
+  where
+    left : ℕ
+    left = leaves_queue (sight st.scopes) (last_grant here.clock t.at)
+
+    by_grant : (o : Option Granted) → Tidy st P (asked_result ask label here (sight st.scopes) t.at left o go)
+    by_grant None = tidy_acted st P label t.at _ _ (tidy_left st P here (sight st.scopes) left)
+    by_grant (Some g) = tidy_acted st P label t.at _ _ (tidy_granted st P label here g.at g.what go h)
+
+    by_sight : (b : Bool) →
+        Tidy st P (if b then raised_at cancelled (only_at (gives_up_at here.clock 0 t.at)) else asks_in m ask label here st t.at go)
+    by_sight true = tidy_raised st P cancelled (only_at (gives_up_at here.clock 0 t.at))
+    by_sight false = by_grant (in_time t.at left (grants_in m label here.task t.at))
+
 -- a member signs its home
 pub signs_home : (st : Stack) (o : Option Exc) (t : ℕ) (l : Label) → Signs l (sign_if o (home_of st.scopes) t) → OnStack l st
 signs_home st None t l s = absurd s
@@ -402,6 +478,9 @@ mutual
   tidy_step m (cancel name) here st t = tidy_cancelling here.clock st _ name t
   tidy_step m (set_event name) here st t = tidy_setting here.clock st _ name t
   tidy_step m (wait_for name) here st t = tidy_awaiting here.clock st _ _ t
+  tidy_step m (ask_for name ask body) here st t =
+      tidy_asking m st _ ask _ here t _ (λ lent u. tidy m body (record here { part = lent }) st u)
+  tidy_step m (close_channel name) here st t = tidy_closing st _ _ t
   tidy_step m (scope name d shield fail body) here st t =
       tidy_block here.clock m _ _ t.at _ shield st _ _ (belongs_here name (names_of body) here)
       (λ f. tidy_in _ _ _ _ (in_body name (names_of body) here.path) (tidy m body here _ t))
@@ -411,6 +490,10 @@ mutual
   tidy_step m (event name body) here st t =
       tidy_event m _ t.at st _ _ (belongs_here name (names_of body) here)
       (λ f. tidy_in _ _ _ _ (in_body name (names_of body) here.path) (tidy m body here _ t))
+  tidy_step m (object name kind body) here st t =
+      tidy_acted st _ _ t.at _ _
+      (tidy_event m _ t.at st _ _ (belongs_here name (names_of body) here)
+      (λ f. tidy_in _ _ _ _ (in_body name (names_of body) here.path) (tidy m body here _ t)))
   tidy_step m (start name None body) here st t =
       tidy_child st _ _ (a_round_after here.clock t.at) _ t (belongs_here name (names_of body) here)
       (tidy_in st _ _ _ (in_body name (names_of body) here.path) (tidy_signed st _ _ (tidy m body _ st (only_at (a_round_after here.clock t.at)))))

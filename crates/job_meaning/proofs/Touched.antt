@@ -3,7 +3,7 @@ use Rattle.std.proofs.Common.{◌≡◌, ℕ, Bool, true, false, Option, Some, N
 use Rattle.std.proofs.lemmas.Bool.Decides.{nat_tests}
 use Rattle.exceptions.specs.Exceptions.{Label}
 use Rattle.cancel_scopes.specs.Sight.{Tick, earlier}
-use Rattle.job_meaning.specs.Log.{Log, nil, entry, sign, entered, task, followed_by, least_sign, tick_if, deadline_of, deadline_if, either, same_label}
+use Rattle.job_meaning.specs.Log.{Log, nil, entry, sign, entered, act, task, followed_by, least_sign, tick_if, deadline_of, deadline_if, either, same_label}
 use Rattle.job_meaning.proofs.Distinct.{same_label_equal}
 
 -- the label is given in the log: to a scope, nursery or event that is entered, or to a task that is started
@@ -12,6 +12,7 @@ Gives l nil = ⊥
 Gives l (entry t e rest) = Gives l rest
 Gives l (sign m t rest) = Gives l rest
 Gives l (entered m t d rest) = (l ≡ m) ⊎ Gives l rest
+Gives l (act m t a rest) = Gives l rest
 Gives l (task m s u e own rest) = (l ≡ m) ⊎ (Gives l own ⊎ Gives l rest)
 
 -- there is a sign for the label in the log
@@ -20,6 +21,7 @@ Signs l nil = ⊥
 Signs l (entry t e rest) = Signs l rest
 Signs l (sign m t rest) = (l ≡ m) ⊎ Signs l rest
 Signs l (entered m t d rest) = Signs l rest
+Signs l (act m t a rest) = Signs l rest
 Signs l (task m s u e own rest) = Signs l own ⊎ Signs l rest
 
 -- a label given in one log after another is given in one of the two
@@ -33,6 +35,7 @@ gives_followed l (entered m t d rest) b (inr h) = after (gives_followed l rest b
     after : Gives l rest ⊎ Gives l b → ((l ≡ m) ⊎ Gives l rest) ⊎ Gives l b
     after (inl k) = inl (inr k)
     after (inr k) = inr k
+gives_followed l (act m t a rest) b h = gives_followed l rest b h
 gives_followed l (task m s u e own rest) b (inl e') = inl (inl e')
 gives_followed l (task m s u e own rest) b (inr (inl h)) = inl (inr (inl h))
 gives_followed l (task m s u e own rest) b (inr (inr h)) = after (gives_followed l rest b h)
@@ -48,6 +51,7 @@ gives_first l (entry t e rest) b h = gives_first l rest b h
 gives_first l (sign m t rest) b h = gives_first l rest b h
 gives_first l (entered m t d rest) b (inl e) = inl e
 gives_first l (entered m t d rest) b (inr h) = inr (gives_first l rest b h)
+gives_first l (act m t a rest) b h = gives_first l rest b h
 gives_first l (task m s u e own rest) b (inl h) = inl h
 gives_first l (task m s u e own rest) b (inr (inl h)) = inr (inl h)
 gives_first l (task m s u e own rest) b (inr (inr h)) = inr (inr (gives_first l rest b h))
@@ -58,6 +62,7 @@ gives_second l nil b h = h
 gives_second l (entry t e rest) b h = gives_second l rest b h
 gives_second l (sign m t rest) b h = gives_second l rest b h
 gives_second l (entered m t d rest) b h = inr (gives_second l rest b h)
+gives_second l (act m t a rest) b h = gives_second l rest b h
 gives_second l (task m s u e own rest) b h = inr (inr (gives_second l rest b h))
 
 -- a label signed in one log after another is signed in one of the two
@@ -65,6 +70,7 @@ pub signs_followed : (l : Label) (a b : Log) → Signs l (followed_by a b) → S
 signs_followed l nil b h = inr h
 signs_followed l (entry t e rest) b h = signs_followed l rest b h
 signs_followed l (entered m t d rest) b h = signs_followed l rest b h
+signs_followed l (act m t a rest) b h = signs_followed l rest b h
 signs_followed l (sign m t rest) b (inl e) = inl (inl e)
 signs_followed l (sign m t rest) b (inr h) = after (signs_followed l rest b h)
   where
@@ -111,6 +117,7 @@ deadline_followed l (sign m t rest) b = deadline_followed l rest b
 deadline_followed l (entered m t d rest) b =
     ap (λ (o : Option Tick). either (deadline_if (same_label l m) d) o) (deadline_followed l rest b)
     ∙ either_assoc (deadline_if (same_label l m) d) (deadline_of l rest) (deadline_of l b)
+deadline_followed l (act m t a rest) b = deadline_followed l rest b
 deadline_followed l (task m s u e own rest) b =
     ap (λ (o : Option Tick). either (deadline_of l own) o) (deadline_followed l rest b)
     ∙ either_assoc (deadline_of l own) (deadline_of l rest) (deadline_of l b)
@@ -119,6 +126,7 @@ deadline_followed l (task m s u e own rest) b =
 pub least_followed : (l : Label) (a b : Log) → least_sign l (followed_by a b) ≡ earlier (least_sign l a) (least_sign l b)
 least_followed l nil b = refl
 least_followed l (entry t e rest) b = least_followed l rest b
+least_followed l (act m t a rest) b = least_followed l rest b
 least_followed l (entered m t d rest) b = least_followed l rest b
 least_followed l (sign m t rest) b =
     ap (λ (o : Tick). earlier (tick_if (same_label l m) t) o) (least_followed l rest b)
@@ -138,6 +146,7 @@ deadline_entered l (entered m t x rest) d h = by_test (same_label l m) refl h (d
         (deadline_of l rest ≡ Some d → Gives l rest) → (l ≡ m) ⊎ Gives l rest
     by_test true e k others = inl (same_label_equal l m e)
     by_test false e k others = inr (others k)
+deadline_entered l (act m t a rest) d h = deadline_entered l rest d h
 deadline_entered l (task m s u e own rest) d h = by_own (deadline_of l own) refl h (deadline_entered l own d) (deadline_entered l rest d)
   where
     by_own : (o : Option Tick) → deadline_of l own ≡ o → either o (deadline_of l rest) ≡ Some d →
@@ -157,6 +166,7 @@ no_deadline l a h = by_deadline (deadline_of l a) refl
 pub no_sign : (l : Label) (a : Log) → (Signs l a → ⊥) → least_sign l a ≡ None
 no_sign l nil h = refl
 no_sign l (entry t e rest) h = no_sign l rest h
+no_sign l (act m t a rest) h = no_sign l rest h
 no_sign l (entered m t d rest) h = no_sign l rest h
 no_sign l (sign m t rest) h = by_test (same_label l m) refl (no_sign l rest (λ k. h (inr k)))
   where

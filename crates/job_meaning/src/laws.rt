@@ -30,8 +30,10 @@ pub fn law_root()
     ensures jobs { NoneReachesTheRoot }
 {}
 
-/// A cancellation changes nothing before its tick: if two stacks differ only in moments of cancellation that are at least c, the
-/// walks of a block on them have the same starts, entries, entered labels, signs and ends in all ticks before c.
+/// A cancellation changes nothing before its moment, and what a limiter or channel grants changes nothing before it is granted:
+/// if two stacks differ only in moments of cancellation that are at least c, and the same is granted before c, the walks of a
+/// block on them have the same starts, entries, entered labels, signs, acts on limiters and channels, and ends in all moments
+/// before c. Of who asks a limiter or channel it is known before c whether it has left the queue by then.
 pub fn law_causality()
     ensures { NothingBeforeItsCause }
 {}
@@ -41,8 +43,12 @@ pub fn law_causality()
 /// following. This requires that each name is given once, as in each job that was read: if two scopes had one name and only the
 /// first were cancelled, a table could not distinguish them.
 ///
-/// It is the only such table. Following any settled table is the meaning, and any two settled tables agree on every label. So an
-/// implementation that follows a settled table does exactly what the meaning says.
+/// A second table contains what limiters and channels grant to each task that asks them in a moment. That of the meaning is what
+/// is granted by the acts of the walk that reads it. This requires that the numbers of the job are in their ranges and that the
+/// input is no longer than it may be, so that the job ends by the last tick.
+///
+/// These are the only such tables. Following any settled pair of tables is the meaning, and any two settled pairs agree on every
+/// label and on every grant. So an implementation that follows settled tables does exactly what the meaning says.
 pub fn law_settled_table()
     ensures follow { FollowingIsMeaning }
     ensures settled { TableIsSettled }
@@ -50,8 +56,8 @@ pub fn law_settled_table()
     ensures one { OneTableIsSettled }
 {}
 
-/// Each label of a run is given once: to one scope, one nursery, one event or one task, including the root. This holds for the
-/// meaning and for following any table, if each name is given once.
+/// Each label of a run is given once: to one scope, one nursery, one event, one limiter, one channel or one task, including the
+/// root. This holds for the meaning and for following any tables, if each name is given once.
 pub fn law_labels()
     ensures { LabelsAreGivenOnce }
 {}
@@ -63,7 +69,8 @@ pub fn law_upgrade()
 {}
 
 /// Every job whose numbers are in their ranges ends by the last tick: `forever` sleeps until tick two to the 40, and a job has at
-/// most a million step instances. So a run that has no other limit always ends, and its table is complete.
+/// most a million step instances. No wait for a limiter or channel lasts longer than `forever`. So a run that has no other limit
+/// always ends, and its tables are complete.
 pub fn law_end()
     ensures { EndsByTheLastTick }
 {}
