@@ -7,6 +7,7 @@ pub mod Cases
 pub mod CancelledFrom
 pub mod Kids
 pub mod Houses
+pub mod Asks
 pub mod Turns
 pub mod Waking
 pub mod Ends

@@ -2,7 +2,7 @@
 -- granted, or leaves the queue.
 use Rattle.std.proofs.Common.{◌≡◌, ℕ, suc, ◌+◌, Bool, true, false, if◌then◌else◌, Option, Some, None, List, [], ◌∷◌, refl, ap, sym, ◌∙◌, arith}
 use Rattle.std.specs.Prelude.{codes}
-use Rattle.job_tree.specs.Tree.{Step, close_channel, ask_for, event, object, Steps, step}
+use Rattle.job_tree.specs.Tree.{close_channel, ask_for, object, Steps, step}
 use Rattle.job_tree.specs.declared.object.Ask.{Ask}
 use Rattle.job_tree.specs.declared.object.ObjectKind.{ObjectKind}
 use Rattle.input_lines.specs.Lines.{Range}
@@ -15,7 +15,7 @@ use Rattle.job_meaning.specs.declared.clock.Clock.{Clock}
 use Rattle.job_meaning.specs.declared.clock.Clock.TheVariants.{ByTicks as by_ticks, ByRounds as by_rounds}
 use Rattle.job_meaning.specs.Walk.{Here, walk, walk_step, done_at, raised_at, stack_for, label_on, label_here, and_then, event_block, stack_in_event, with_act, close_result, with_token_back, last_grant, leaves_queue, left_result, goes_on, granted_result, asked_result, asks_in, ask_of, ask_result}
 use Rattle.job_meaning.specs.Rest.{Event, acts, ChildOutcomes, Frame, steps_left, in_event, with_token, with_part, inside, queued, finish, queue_result, finished_from}
-use Rattle.job_meaning.proofs.Finish.{after, finish_after, finish_step, finish_event}
+use Rattle.job_meaning.proofs.Finish.{after, finish_after, finish_step, finish_object}
 use Rattle.turn_semantics.specs.Midway.{Place, Tables, by_tables, label_among, stack_at, Move, OwnFits, so_far, after_events, left_after}
 use Rattle.turn_semantics.specs.Steps.{onward, makes, asks_if, asks_of, acts_on, enters_object, gives_token_back}
 use Rattle.turn_semantics.specs.Placed.{IsSome}
@@ -62,14 +62,7 @@ module _ (table : Tables) (outcomes : ChildOutcomes) (now : Now) (here : Here) w
   pub keeps_object : (name : List ℕ) (kind : ObjectKind) (body ss : Steps) (fs : List Frame) (ps : List Place) →
       MovesTo (left_with_result (steps_left (step (object name kind body) ss) ∷ fs) ps (done_at now))
       (enters_object (label_here name (inside fs here)) kind now.at body (steps_left ss ∷ fs) ps)
-  unfolding walk
-  keeps_object name kind body ss fs ps =
-      finish_step fs (by_tables table) outcomes (object name kind body) ss here (stack_at table.cancelled_from ps) now
-      ∙ finish_after (steps_left ss ∷ fs) (act (label_here name (inside fs here)) now.at (opens kind) nil) (by_tables table) outcomes here
-      (stack_at table.cancelled_from ps) (walk_step (by_tables table) (event name body) (inside fs here) (stack_at table.cancelled_from ps) now)
-      ∙ ap (λ (r : Result). after (act (label_here name (inside fs here)) now.at (opens kind) nil) r)
-      (sym (finish_step fs (by_tables table) outcomes (event name body) ss here (stack_at table.cancelled_from ps) now)
-      ∙ finish_event fs table.cancelled_from table.granted outcomes name body ss here (stack_at table.cancelled_from ps) now)
+  keeps_object name kind body ss fs ps = finish_object fs table.cancelled_from table.granted outcomes name kind body ss here (stack_at table.cancelled_from ps) now
 
   -- a block that has a token has ended
   pub keeps_token : (limiter : Label) (fs : List Frame) (ps : List Place) (exc : Option Exc) →

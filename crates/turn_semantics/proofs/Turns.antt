@@ -17,6 +17,7 @@ use Rattle.turn_semantics.proofs.Events.{known_append, known_grows, place_known,
 use Rattle.turn_semantics.proofs.Cases.{step_cases}
 use Rattle.turn_semantics.proofs.Houses.{has_going, housed_append, housed_on, step_housed, step_stays}
 use Rattle.turn_semantics.proofs.Kids.{kids_grow, step_kids}
+use Rattle.turn_semantics.proofs.Asks.{asked_append, step_asks}
 
 -- ---- events, one after another
 
@@ -59,6 +60,7 @@ turned_step now here cancelled_from m p =
       housed = step_housed now cancelled_from here m p;
       stays = λ i home h. step_stays now cancelled_from here i home m p h;
       made_now = c.made_now;
+      asked = step_asks now cancelled_from here m;
       places = c.places;
       starts = c.starts_made;
       begun_in = c.begun_in;
@@ -78,6 +80,7 @@ turned_nothing now here cancelled_from m p =
       housed = tt;
       stays = λ i home h. inr h;
       made_now = tt;
+      asked = tt;
       places = all_own m.places;
       starts = tt;
       begun_in = tt;
@@ -143,6 +146,7 @@ module _ (now : Now) (here : Here) (cancelled_from : Table) (Given : Tables → 
           stays = λ i home h. y.stays i home (has_going i home o.frames o.places (has_there i home (x.stays i home h)));
           made_now = made_append here.clock now.at o.made q.made (labels_of ps) x.made_now
               (made_grows here.clock now.at (labels_of o.places) between known q.made y.made_now);
+          asked = asked_append now.at here was fs ps o.made q.made x.asked y.asked;
           places = subst (λ (ls : List Label). AllKnown q.places ls) (sym (known_append o.made q.made (labels_of ps)))
               (all_grow (known_after (labels_of o.places) q.made) (known_after between q.made)
               (known_grows (labels_of o.places) between known q.made) q.places y.places);

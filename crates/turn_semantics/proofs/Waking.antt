@@ -20,7 +20,7 @@ use Rattle.job_meaning.proofs.Finish.{finish_after}
 use Rattle.turn_semantics.specs.Midway.{Place, Tables, by_tables, label_among, stack_at, Midway, own_after, OwnFits, now_after, so_far, after_events, left_after}
 use Rattle.turn_semantics.specs.Steps.{makes, cancelled_from_after, turn_of}
 use Rattle.turn_semantics.specs.Placed.{in_body, Placed, IsSome, PlacedStop, home_places, home_after}
-use Rattle.turn_semantics.specs.Wakes.{Wake, lines_made, goes_on_with, leaves_settled, ends_at, is_checkpoint, gives_up_if, notes_wait, leaves_the_queue, goes_on_granted, raises_granted, granted_on, sees_from, is_due_from, wake_of, turn_from, SettlesAt, SeesAt, SeesWaiting, GoesOnWaiting, WakesBy, AskedBy, CanWake, from_start, from_asking, from_sleep, from_due, from_seen_waiting, from_set, from_granted, from_seen_queued, from_deadlock, from_giving_up, from_wait}
+use Rattle.turn_semantics.specs.Wakes.{Wake, lines_made, goes_on_with, leaves_settled, ends_at, is_checkpoint, gives_up_if, notes_wait, leaves_the_queue, goes_on_granted, raises_granted, granted_on, sees_from, is_due_from, wake_of, turn_from, SettlesAt, SeesAt, SeesWaiting, GoesOnWaiting, WakesBy, CanWake, from_start, from_asking, from_sleep, from_due, from_seen_waiting, from_set, from_granted, from_seen_queued, from_deadlock, from_giving_up, from_wait}
 use Rattle.turn_semantics.specs.Turned.{AgreesOn, labels_of, MadeAt, Starts, known_after, TurnsOver}
 use Rattle.turn_semantics.proofs.Agreeing.{label_of, event_found, slept}
 use Rattle.turn_semantics.proofs.Waits.{slept_seen, paced_seen, checkpoint_seen, slept_due, raises_in, noted_wait, event_seen, event_goes_on, checkpoint_alike}
@@ -31,6 +31,7 @@ use Rattle.turn_semantics.proofs.Events.{none_fits, all_own, all_grow, known_sta
 use Rattle.turn_semantics.proofs.Cases.{Case, onward_case, sleep_case, leaves_case}
 use Rattle.turn_semantics.proofs.Houses.{wake_housed, wake_stays}
 use Rattle.turn_semantics.proofs.Kids.{wake_kids}
+use Rattle.turn_semantics.proofs.Asks.{wake_asks}
 use Rattle.turn_semantics.proofs.Turns.{turned_on, turned_turn}
 
 -- ---- lines
@@ -305,14 +306,14 @@ noted_case clock t cancelled_from (Some l) w fs ps count p le =
 
 -- a task that left its queue
 leaving_case : (clock : Clock) (t : ℕ) (cancelled_from : Table) (o : Option Label) (at : Here) (ask : Ask) (since : ℕ) (e : Exc) (w : ℕ) (fs : List Frame)
-    (ps : List Place) (count : ℕ) → since ≤ t → Placed fs ps → frames_weight fs ≤ w →
+    (ps : List Place) (count : ℕ) → Placed fs ps → frames_weight fs ≤ w →
     Case clock t cancelled_from w (home_places fs ps) ps count (leaves_the_queue o at ask since t e fs ps)
-leaving_case clock t cancelled_from None at ask since e w fs ps count a p le = onward_case clock t cancelled_from w _ fs ps _ count p refl le
-leaving_case clock t cancelled_from (Some l) at ask since e w fs ps count a p le =
+leaving_case clock t cancelled_from None at ask since e w fs ps count p le = onward_case clock t cancelled_from w _ fs ps _ count p refl le
+leaving_case clock t cancelled_from (Some l) at ask since e w fs ps count p le =
     record {
       placed = p;
       at_home = refl;
-      made_now = (a, tt);
+      made_now = (tt, tt);
       places = all_own ps;
       starts_made = tt;
       begun_in = tt;
@@ -323,13 +324,13 @@ leaving_case clock t cancelled_from (Some l) at ask since e w fs ps count a p le
 
 -- one that goes on in the block of its step
 going_case : (clock : Clock) (t : ℕ) (cancelled_from : Table) (l : Label) (at : Here) (ask : Ask) (since w : ℕ) (home : List Place) (fs : List Frame)
-    (ps : List Place) (count : ℕ) → since ≤ t → Placed fs ps → home_places fs ps ≡ home → frames_weight fs ≤ w →
+    (ps : List Place) (count : ℕ) → Placed fs ps → home_places fs ps ≡ home → frames_weight fs ≤ w →
     Case clock t cancelled_from w home ps count (goes_on_granted l at ask since t fs ps)
-going_case clock t cancelled_from l at ask since w home fs ps count a p h le =
+going_case clock t cancelled_from l at ask since w home fs ps count p h le =
     record {
       placed = p;
       at_home = h;
-      made_now = (a, (refl, tt));
+      made_now = (tt, (refl, tt));
       places = all_own ps;
       starts_made = tt;
       begun_in = tt;
@@ -340,13 +341,13 @@ going_case clock t cancelled_from l at ask since w home fs ps count a p h le =
 
 -- and one that raises what it was granted
 raising_case : (clock : Clock) (t : ℕ) (cancelled_from : Table) (l : Label) (at : Here) (ask : Ask) (since : ℕ) (name : List ℕ) (w : ℕ) (fs : List Frame)
-    (ps : List Place) (count : ℕ) → since ≤ t → Placed fs ps → frames_weight fs ≤ w →
+    (ps : List Place) (count : ℕ) → Placed fs ps → frames_weight fs ≤ w →
     Case clock t cancelled_from w (home_places fs ps) ps count (raises_granted l at ask since t name fs ps)
-raising_case clock t cancelled_from l at ask since name w fs ps count a p le =
+raising_case clock t cancelled_from l at ask since name w fs ps count p le =
     record {
       placed = p;
       at_home = refl;
-      made_now = (a, tt);
+      made_now = (tt, tt);
       places = all_own ps;
       starts_made = tt;
       begun_in = tt;
@@ -357,48 +358,48 @@ raising_case clock t cancelled_from l at ask since name w fs ps count a p le =
 
 -- a task that was granted something
 granted_case : (clock : Clock) (t : ℕ) (cancelled_from : Table) (what : What) (o : Option Label) (at : Here) (ask : Ask) (since : ℕ) (body : Steps) (w : ℕ)
-    (fs : List Frame) (ps : List Place) (count : ℕ) → since ≤ t → StartsIn false body → Placed fs ps → 2 * size_of body + frames_weight fs ≤ w →
+    (fs : List Frame) (ps : List Place) (count : ℕ) → StartsIn false body → Placed fs ps → 2 * size_of body + frames_weight fs ≤ w →
     Case clock t cancelled_from w (home_places fs ps) ps count (granted_on o at ask since t body what fs ps)
-granted_case clock t cancelled_from what None at ask since body w fs ps count a s p le =
+granted_case clock t cancelled_from what None at ask since body w fs ps count s p le =
     onward_case clock t cancelled_from w _ fs ps _ count p refl (omega arith)
-granted_case clock t cancelled_from a_token (Some l) at ask since body w fs ps count a s p le =
-    going_case clock t cancelled_from l at ask since w _ (steps_left body ∷ with_token l ∷ fs) ps count a (s, p) refl (omega arith)
-granted_case clock t cancelled_from was_sent (Some l) at ask since body w fs ps count a s p le =
-    going_case clock t cancelled_from l at ask since w _ (steps_left body ∷ fs) ps count a (starts_anywhere body (in_body fs) s, p) refl (omega arith)
-granted_case clock t cancelled_from (a_part received) (Some l) at ask since body w fs ps count a s p le =
-    going_case clock t cancelled_from l at ask since w _ (steps_left body ∷ with_part received ∷ fs) ps count a (s, p) refl (omega arith)
-granted_case clock t cancelled_from closed_resource (Some l) at ask since body w fs ps count a s p le =
-    raising_case clock t cancelled_from l at ask since _ w fs ps count a p (omega arith)
-granted_case clock t cancelled_from end_of_channel (Some l) at ask since body w fs ps count a s p le =
-    raising_case clock t cancelled_from l at ask since _ w fs ps count a p (omega arith)
+granted_case clock t cancelled_from a_token (Some l) at ask since body w fs ps count s p le =
+    going_case clock t cancelled_from l at ask since w _ (steps_left body ∷ with_token l ∷ fs) ps count (s, p) refl (omega arith)
+granted_case clock t cancelled_from was_sent (Some l) at ask since body w fs ps count s p le =
+    going_case clock t cancelled_from l at ask since w _ (steps_left body ∷ fs) ps count (starts_anywhere body (in_body fs) s, p) refl (omega arith)
+granted_case clock t cancelled_from (a_part received) (Some l) at ask since body w fs ps count s p le =
+    going_case clock t cancelled_from l at ask since w _ (steps_left body ∷ with_part received ∷ fs) ps count (s, p) refl (omega arith)
+granted_case clock t cancelled_from closed_resource (Some l) at ask since body w fs ps count s p le =
+    raising_case clock t cancelled_from l at ask since _ w fs ps count p (omega arith)
+granted_case clock t cancelled_from end_of_channel (Some l) at ask since body w fs ps count s p le =
+    raising_case clock t cancelled_from l at ask since _ w fs ps count p (omega arith)
 
 wake_case : (now : Now) (cancelled_from : Table) (here : Here) {w : Wake} {s : Stopped} → CanWake w s →
     (fs : List Frame) (ps : List Place) (count b : ℕ) →
-    PlacedStop s fs ps → AskedBy now.at s → 1 + b ≡ stop_weight s + frames_weight fs →
+    PlacedStop s fs ps → 1 + b ≡ stop_weight s + frames_weight fs →
     Case here.clock now.at cancelled_from b (home_after (Some s) fs ps) ps count (wake_of cancelled_from now here w s fs ps)
-wake_case now cancelled_from here from_start fs ps count b p m e = onward_case here.clock now.at cancelled_from b _ fs ps _ count p refl (omega arith)
-wake_case now cancelled_from here (from_asking {a} {kernel} {purpose}) fs ps count b p m e = answered_case now.at cancelled_from here a purpose fs ps count b p.1 e
-wake_case now cancelled_from here (from_sleep {paced = false} {n = zero} {since}) fs ps count b p m e =
+wake_case now cancelled_from here from_start fs ps count b p e = onward_case here.clock now.at cancelled_from b _ fs ps _ count p refl (omega arith)
+wake_case now cancelled_from here (from_asking {a} {kernel} {purpose}) fs ps count b p e = answered_case now.at cancelled_from here a purpose fs ps count b p.1 e
+wake_case now cancelled_from here (from_sleep {paced = false} {n = zero} {since}) fs ps count b p e =
     giving_case here.clock now.at cancelled_from true b fs ps count p (omega arith)
-wake_case now cancelled_from here (from_sleep {paced = false} {n = suc n} {since}) fs ps count b p m e =
+wake_case now cancelled_from here (from_sleep {paced = false} {n = suc n} {since}) fs ps count b p e =
     onward_case here.clock now.at cancelled_from b _ fs ps _ count p refl (omega arith)
-wake_case now cancelled_from here (from_sleep {paced = true} {n} {since}) fs ps count b p m e =
+wake_case now cancelled_from here (from_sleep {paced = true} {n} {since}) fs ps count b p e =
     onward_case here.clock now.at cancelled_from b _ fs ps _ count p refl (let h = sleep_some true n in omega arith)
-wake_case now cancelled_from here (from_seen_waiting {event = name} {since}) fs ps count b p m e =
+wake_case now cancelled_from here (from_seen_waiting {event = name} {since}) fs ps count b p e =
     giving_case here.clock now.at cancelled_from (is_checkpoint here.clock (ends_at here.clock cancelled_from name since ps) since) b fs ps count p.1 (omega arith)
-wake_case now cancelled_from here (from_set {event = name} {since}) fs ps count b p m e =
+wake_case now cancelled_from here (from_set {event = name} {since}) fs ps count b p e =
     noted_case here.clock now.at cancelled_from (event_on name (stack_at cancelled_from ps).events) b fs ps count p.1 (omega arith)
-wake_case now cancelled_from here (from_granted {what} {object = name} {ask} {since} {body}) fs ps count b p m e =
-    granted_case here.clock now.at cancelled_from what (label_among true name ps) (inside fs here) ask since body b fs ps count m p.1 p.2 (omega arith)
-wake_case now cancelled_from here (from_seen_queued {object = name} {ask} {since} {body}) fs ps count b p m e =
-    leaving_case here.clock now.at cancelled_from (label_among true name ps) (inside fs here) ask since cancelled b fs ps count m p.2 (omega arith)
-wake_case now cancelled_from here (from_deadlock {object = name} {ask} {since} {body}) fs ps count b p m e =
+wake_case now cancelled_from here (from_granted {what} {object = name} {ask} {since} {body}) fs ps count b p e =
+    granted_case here.clock now.at cancelled_from what (label_among true name ps) (inside fs here) ask since body b fs ps count p.1 p.2 (omega arith)
+wake_case now cancelled_from here (from_seen_queued {object = name} {ask} {since} {body}) fs ps count b p e =
+    leaving_case here.clock now.at cancelled_from (label_among true name ps) (inside fs here) ask since cancelled b fs ps count p.2 (omega arith)
+wake_case now cancelled_from here (from_deadlock {object = name} {ask} {since} {body}) fs ps count b p e =
     leaving_case here.clock now.at cancelled_from (label_among true name ps) (inside fs here) ask since
-    (raised (codes "Deadlock") here.task (tick_of here.clock now.at)) b fs ps count m p.2 (omega arith)
-wake_case now cancelled_from here (from_giving_up {since}) fs ps count b p m e = onward_case here.clock now.at cancelled_from b _ fs ps _ count p refl (omega arith)
-wake_case now cancelled_from here (from_due {paced} {n} {since}) fs ps count b p m e =
+    (raised (codes "Deadlock") here.task (tick_of here.clock now.at)) b fs ps count p.2 (omega arith)
+wake_case now cancelled_from here (from_giving_up {since}) fs ps count b p e = onward_case here.clock now.at cancelled_from b _ fs ps _ count p refl (omega arith)
+wake_case now cancelled_from here (from_due {paced} {n} {since}) fs ps count b p e =
     onward_case here.clock now.at cancelled_from b _ fs ps _ count p refl (let h = sleep_some paced n in omega arith)
-wake_case now cancelled_from here (from_wait {exc} {children} {ended} {e}) fs ps count b p m h =
+wake_case now cancelled_from here (from_wait {exc} {children} {ended} {e}) fs ps count b p h =
     settled_case here.clock now cancelled_from exc children ended e fs ps count b p h
 
 -- a stop that can be woken from has a weight
@@ -432,9 +433,9 @@ wakes_fit table outcomes here u now from_wait ps e = none_fits here.clock now.ow
 
 -- the wake keeps the whole promise
 pub turned_wake : (u now : Now) (here : Here) (cancelled_from : Table) (w : Wake) (rest : Rest) (ps : List Place) (count : ℕ) → CanWake w rest.stopped →
-    PlacedStop rest.stopped rest.frames ps → AskedBy now.at rest.stopped →
+    PlacedStop rest.stopped rest.frames ps →
     TurnsOver u now here cancelled_from w rest ps count (wake_of cancelled_from now here w rest.stopped rest.frames ps)
-turned_wake u now here cancelled_from w rest ps count c p m =
+turned_wake u now here cancelled_from w rest ps count c p =
     record {
       keeps = λ table outcomes g a b h. wake_keeps table cancelled_from outcomes now here u c rest.frames ps p a g;
       placed = all.placed;
@@ -443,6 +444,7 @@ turned_wake u now here cancelled_from w rest ps count c p m =
       housed = wake_housed now cancelled_from here w rest.stopped rest.frames ps;
       stays = λ i home h. wake_stays now cancelled_from here i home c rest.frames ps h;
       made_now = all.made_now;
+      asked = wake_asks now cancelled_from here c rest.frames ps;
       places = all.places;
       starts = all.starts_made;
       begun_in = all.begun_in;
@@ -456,18 +458,18 @@ turned_wake u now here cancelled_from w rest ps count c p m =
 
     all : Case here.clock now.at cancelled_from (rest_weight rest - 1) (home_after (Some rest.stopped) rest.frames ps) ps count
         (wake_of cancelled_from now here w rest.stopped rest.frames ps)
-    all = wake_case now cancelled_from here c rest.frames ps count (rest_weight rest - 1) p m (one_less (rest_weight rest) (wakes_weigh c rest.frames))
+    all = wake_case now cancelled_from here c rest.frames ps count (rest_weight rest - 1) p (one_less (rest_weight rest) (wakes_weigh c rest.frames))
 
 -- A whole turn: the wake, and then as many steps as it takes to the next stop.
 pub turned_from : (n : ℕ) (u now : Now) (here : Here) (cancelled_from : Table) (w : Wake) (rest : Rest) (ps : List Place) (count : ℕ) →
-    CanWake w rest.stopped → PlacedStop rest.stopped rest.frames ps → AskedBy now.at rest.stopped →
+    CanWake w rest.stopped → PlacedStop rest.stopped rest.frames ps →
     TurnsOver u now here cancelled_from w rest ps count (turn_from n cancelled_from now here w rest.stopped rest.frames ps count)
 unfolding turn_from
-turned_from n u now here cancelled_from w rest ps count c p asked =
+turned_from n u now here cancelled_from w rest ps count c p =
     let o = wake_of cancelled_from now here w rest.stopped rest.frames ps in
     let m : Midway = record { frames = o.frames; places = o.places; exc = o.exc; count = count + length o.begun } in
     turned_on now here cancelled_from (λ table outcomes. WakesBy table outcomes (inside rest.frames here) u now w rest.stopped ps) (λ table outcomes e. wakes_fit table outcomes (inside rest.frames here) u now c ps e)
     (λ table outcomes. rest_comes_to (by_tables table) outcomes rest here (stack_at table.cancelled_from ps) u)
     (rest_weight rest) (Some rest.stopped) rest.frames ps count
-    o.stopped o (turn_of n (cancelled_from_after cancelled_from o.made) (now_after here.clock now o.made) here m) refl (turned_wake u now here cancelled_from w rest ps count c p asked)
+    o.stopped o (turn_of n (cancelled_from_after cancelled_from o.made) (now_after here.clock now o.made) here m) refl (turned_wake u now here cancelled_from w rest ps count c p)
     (λ q. turned_turn n (now_after here.clock now o.made) here (cancelled_from_after cancelled_from o.made) m q)

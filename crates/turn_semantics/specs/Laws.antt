@@ -13,7 +13,7 @@ use Rattle.job_meaning.specs.Rest.{steps_left, Event, ChildOutcomes, fill, Stopp
 use Rattle.turn_semantics.specs.Midway.{Place, Tables, by_tables, stack_at, Midway, Move, now_after}
 use Rattle.turn_semantics.specs.Steps.{cancelled_from_after, step_of}
 use Rattle.turn_semantics.specs.Placed.{Placed, IsSome, PlacedStop, outer_places}
-use Rattle.turn_semantics.specs.Wakes.{Wake, wake_of, turn_from, WakesBy, AskedBy, CanWake}
+use Rattle.turn_semantics.specs.Wakes.{Wake, wake_of, turn_from, WakesBy, CanWake}
 use Rattle.turn_semantics.specs.Turned.{AgreesOn, AgreesAhead, AreOutcomes, MadeAt, made_sign, EntersIn, EntersOnceWith, Goes, TurnsOver}
 use Rattle.turn_semantics.specs.Bound.{frames_length}
 use Rattle.turn_semantics.specs.Names.{names_at, OwnNames, NewIn, NewStop, StaysNew}
@@ -26,7 +26,7 @@ EachStepGoes = (now : Now) (here : Here) (cancelled_from : Table) (m : Midway) �
 abbrev pub EachTurnKeeps : Type 0
 EachTurnKeeps =
     (n : ℕ) (u now : Now) (here : Here) (cancelled_from : Table) (w : Wake) (rest : Rest) (ps : List Place) (count : ℕ) → CanWake w rest.stopped →
-    PlacedStop rest.stopped rest.frames ps → AskedBy now.at rest.stopped →
+    PlacedStop rest.stopped rest.frames ps →
     TurnsOver u now here cancelled_from w rest ps count (turn_from n cancelled_from now here w rest.stopped rest.frames ps count)
 
 abbrev pub EachTurnStops : Type 0

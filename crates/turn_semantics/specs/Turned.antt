@@ -1,18 +1,19 @@
 -- What a turn promises of a task: its result is the same as before, and what it did, began and left.
-use Rattle.std.specs.Prelude.{◌≡◌, ◌⊎◌, ℕ, suc, ◌+◌, ◌<◌, ◌≤◌, Bool, false, Option, Some, None, List, [], ◌∷◌, length}
+use Rattle.std.specs.Prelude.{◌≡◌, ◌⊎◌, ℕ, suc, ◌+◌, ◌<◌, Bool, true, false, Option, Some, None, List, [], ◌∷◌, length}
 use Rattle.exceptions.specs.Exceptions.{Label}
 use Rattle.cancel_scopes.specs.Sight.{Tick, earlier, seen}
-use Rattle.job_meaning.specs.Log.{Act, opens, asks, gives_back, closes, Log, nil, entry, sign, entered, act, task, Result, Table, same_label, tick_if}
+use Rattle.job_meaning.specs.Log.{Act, asks, Log, nil, entry, sign, entered, act, task, Result, Table, same_label, tick_if}
 use Rattle.job_meaning.specs.Moments.{a_round_after, Now}
 use Rattle.job_meaning.specs.declared.clock.Clock.{Clock}
 use Rattle.job_meaning.specs.declared.clock.Clock.TheVariants.{ByTicks as by_ticks, ByRounds as by_rounds}
 use Rattle.job_meaning.specs.Walk.{Here}
 use Rattle.job_meaning.specs.Before.{upto}
 use Rattle.job_tree.specs.Starting.{StartsIn}
+use Rattle.job_tree.specs.declared.object.Ask.{Ask}
 use Rattle.job_meaning.specs.Rest.{Event, noted, signs, enters, acts, starts, ChildOutcomes, fill, Frame, Stopped, to_begin, asking, asleep, waiting_for, queued, giving_up, awaiting, at_end, Rest, rest_comes_to, rest_at_start, rest_weight, frames_weight, stop_weight, inside}
 use Rattle.turn_semantics.specs.Lists.{Each, Exists, IsAmong}
 use Rattle.turn_semantics.specs.Made.{EnteredLabel, SignedLabel, StartedChild, entered_in, signed_in, started_in, labels_entered}
-use Rattle.turn_semantics.specs.Midway.{Place, Tables, by_tables, stack_at, Midway, Begun, Move, OwnFits, after_events, left_of, left_after, begun_comes_to}
+use Rattle.turn_semantics.specs.Midway.{Place, label_among, Tables, by_tables, stack_at, Midway, Begun, Move, OwnFits, after_events, left_of, left_after, begun_comes_to}
 use Rattle.turn_semantics.specs.Placed.{PlacedAfter, outer_places, home_after, KidsAfter, HasChild, HasChildAfter, AllHoused}
 use Rattle.turn_semantics.specs.Wakes.{Wake, WakesBy}
 use Rattle.turn_semantics.specs.Steps.{cancelled_from_after}
@@ -62,9 +63,9 @@ known_with ls (l ∷ others) = known_with (l ∷ ls) others
 abbrev pub known_after : List Label → List Event → List Label
 known_after ls es = known_with ls (labels_entered es)
 
--- an act is in moment t; of who asked it is known in t whether it was granted, or left the queue
+-- an act is in moment t, but for what was asked before
 abbrev pub ActAt : ℕ → Act → ℕ → Type 0
-ActAt t (asks ask part left) u = u ≤ t
+ActAt t (asks ask part left) u = Unit {0}
 ActAt t _ u = u ≡ t
 
 -- each event is in moment t, but for the start of a child, which begins a round later, and for what was asked before; and each sign is for
@@ -76,6 +77,30 @@ MadeAt clock t ls (signs l u ∷ es) = (u ≡ t) × IsAmong l ls × MadeAt clock
 MadeAt clock t ls (enters l u d ∷ es) = (u ≡ t) × MadeAt clock t (l ∷ ls) es
 MadeAt clock t ls (acts l u a ∷ es) = ActAt t a u × MadeAt clock t ls es
 MadeAt clock t ls (starts i l u ∷ es) = (u ≡ a_round_after clock t) × MadeAt clock t ls es
+
+-- nothing is asked of a limiter or channel by these events
+abbrev pub AsksNothing : List Event → Type 0
+AsksNothing [] = Unit {0}
+AsksNothing (acts l u (asks ask part left) ∷ es) = ⊥
+AsksNothing (_ ∷ es) = AsksNothing es
+
+-- a task leaves its queue in moment t, or it was granted what it asked
+abbrev pub LeavesIn : ℕ → Tick → Type 0
+LeavesIn t None = Unit {0}
+LeavesIn t (Some u) = u ≡ t
+
+-- the first of these events is what a task asked of the object of a label, in the moment in which it did so, and nothing else is asked
+abbrev pub AsksFirst : ℕ → Option Label → Here → Ask → (since : ℕ) → List Event → Type 0
+AsksFirst t None here ask since es = AsksNothing es
+AsksFirst t (Some l) here ask since (acts k u (asks a part left) ∷ es) =
+    (k ≡ l) × (u ≡ since) × (a ≡ ask) × (part ≡ here.part) × LeavesIn t left × AsksNothing es
+AsksFirst t (Some l) here ask since _ = ⊥
+
+-- A turn from a queue makes first what its task asked, of which it is known now whether it was granted, or left the queue. Nothing else
+-- is asked in a turn.
+abbrev pub AskedFirst : ℕ → Here → Option Stopped → List Frame → List Place → List Event → Type 0
+AskedFirst t here (Some (queued object ask since body)) fs ps es = AsksFirst t (label_among true object ps) (inside fs here) ask since es
+AskedFirst t here _ fs ps es = AsksNothing es
 
 -- the children begun are those that were started, in order, and numbered consecutively from n
 abbrev pub AreStarts : ℕ → List StartedChild → List Begun → Type 0
@@ -189,6 +214,8 @@ pub record Turned (c : TurnContext) (o : Move) : Type 0 where
       HasChildAfter i home o.stopped o.frames o.places
   -- each event is made now, and signs are for labels of scopes and nurseries that enclose the task
   pub made_now : MadeAt c.here.clock c.now.at (labels_of c.places) o.made
+  -- what the task had asked is made first, and nothing else is asked
+  pub asked : AskedFirst c.now.at c.here c.stopped c.frames c.places o.made
   -- each scope or nursery that encloses the task did so before, or was entered on the way
   pub places : AllKnown o.places (known_after (labels_of c.places) o.made)
   -- the children begun are the starts made, in order, numbered after those before

@@ -224,11 +224,6 @@ WakesBy table outcomes here u now (settles exc) (awaiting children ended e) ps =
     SettlesAt here.clock now.at exc (outcome_members outcomes children) ended e ps × (now.own ≡ [])
 WakesBy table outcomes here u now _ _ ps = ⊥
 
--- what a task asked of a limiter or channel before this moment or in it
-abbrev pub AskedBy : ℕ → Stopped → Type 0
-AskedBy t (queued object ask since body) = since ≤ t
-AskedBy t _ = Unit {0}
-
 -- a wake that is possible after such a stop
 pub data CanWake : Wake → Stopped → Type 0 where
   from_start : CanWake begins to_begin
