@@ -34,7 +34,8 @@ fits_then table r go apart (Some e) f = f
 same_then : (table : Table) (r : Result) (go go' : Now → Result) → ((u : Now) → Apart r.log (go u).log) →
     ((u : Now) → Fits table (go u).log → go' u ≡ go u) →
     (o : Option Exc) → Fits table (then_if o r go).log → then_if o r go' ≡ then_if o r go
-same_then table r go go' apart h None f = ap (λ (q : Result). in_sequence r q) (h (now_of r) (fits_second table r.log (go (now_of r)).log (apart (now_of r)) f))
+same_then table r go go' apart h None f =
+    ap (λ (q : Result). in_sequence r q) (h (now_of r) (fits_second table r.log (go (now_of r)).log (apart (now_of r)) f))
 same_then table r go go' apart h (Some e) f = refl
 
 settled_and_then : (table : Table) (r q : Result) (go go' : Now → Result) → (Fits table r.log → q ≡ r) →
@@ -56,7 +57,9 @@ module _ (table : Table) (grants : Grants) (clock : Clock) (kind : Kind) (label 
   -- the log of a block after the entering of its label
   abbrev inner_log : Tick → Log
   inner_log f = followed_by (inside f).log (entry (inside f).end
-      (left_as kind label (left_with (catches (from_for (inside f).own (inside f).end label f) shield (stack_for (inside f).own (inside f).end st.scopes) (inside f).end) (inside f).exc).caught) nil)
+      (left_as kind label (left_with
+      (catches (from_for (inside f).own (inside f).end label f) shield (stack_for (inside f).own (inside f).end st.scopes) (inside f).end)
+      (inside f).exc).caught) nil)
 
   -- the deadline and signs in a block's log are those inside, but for its own deadline
   block_signs : (f : Tick) (l : Label) → least_sign l (exit_with_from clock kind label t d shield st f (inside f)).log ≡ least_sign l (inside f).log
@@ -216,13 +219,15 @@ unfolding with_sign
 settled_signed table st P r q h fresh same f =
     ap (λ (x : Result). with_sign st x) (same (fits_first table r.log (sign_if r.exc (home_of st.scopes) r.end) (home_apart st P r h fresh) f))
 
-settled_gathered : (table : Table) (clock : Clock) (label : Label) (r q : Result) → (Fits table r.log → q ≡ r) → Fits table (nursery_result clock label r).log →
+settled_gathered : (table : Table) (clock : Clock) (label : Label) (r q : Result) → (Fits table r.log → q ≡ r) →
+    Fits table (nursery_result clock label r).log →
     nursery_result clock label q ≡ nursery_result clock label r
 unfolding nursery_result
 settled_gathered table clock label r q same f = ap (λ (x : Result). nursery_result clock label x) (same f)
 
 -- a child's log is separate in what the child adds
-settled_child : (table : Table) (label : Label) (begins : ℕ) (r q : Result) (t : Now) → (Fits table r.log → q ≡ r) → Fits table (child label begins r t).log →
+settled_child : (table : Table) (label : Label) (begins : ℕ) (r q : Result) (t : Now) → (Fits table r.log → q ≡ r) →
+    Fits table (child label begins r t).log →
     child label begins q t ≡ child label begins r t
 unfolding child
 settled_child table label begins r q t same f = ap (λ (x : Result). child label begins x t) (same (record { each_label = own }))
@@ -489,7 +494,8 @@ mutual
   unfolding walk
 
   -- a walk in one mode is that in another, if a table fits the first and blocks have the same results
-  settled : (table : Table) (m other : Mode) → SameBlocks table m other → (b : Steps) (here : Here) (st : Stack) (t : Now) → Distinct (names_of b) → Fresh st (names_of b) →
+  settled : (table : Table) (m other : Mode) → SameBlocks table m other → (b : Steps) (here : Here) (st : Stack) (t : Now) → Distinct (names_of b) →
+      Fresh st (names_of b) →
       Fits table (walk m b here st t).log → walk other b here st t ≡ walk m b here st t
   settled table m other same stop here st t distinct fresh f = refl
   settled table m other same (step s ss) here st t distinct fresh f =
@@ -503,7 +509,8 @@ mutual
       fresh (tidy_step m s here st t) (tidy m ss here st u))
       f
 
-  settled_step : (table : Table) (m other : Mode) → SameBlocks table m other → (s : Step) (here : Here) (st : Stack) (t : Now) → Distinct (names_in s) → Fresh st (names_in s) →
+  settled_step : (table : Table) (m other : Mode) → SameBlocks table m other → (s : Step) (here : Here) (st : Stack) (t : Now) →
+      Distinct (names_in s) → Fresh st (names_in s) →
       Fits table (walk_step m s here st t).log → walk_step other s here st t ≡ walk_step m s here st t
   settled_step table m other same (sleep n) here st t distinct fresh f = refl
   settled_step table m other same checkpoint here st t distinct fresh f = refl
@@ -562,7 +569,8 @@ mutual
       settled_child table (label_here name here) (a_round_after here.clock t.at) _ _ t
       (settled_signed table st (Belongs (names_of body) here.path) _ _ (tidy m body _ st (only_at (a_round_after here.clock t.at)))
       (λ l o b. fresh.none l o (inr b.named))
-      (λ g. settled table m other same body _ st (only_at (a_round_after here.clock t.at)) distinct.1 (fresh_in st (names_of body) (name ∷ names_of body) (λ n i. inr i) fresh) g))
+      (λ g. settled table m other same body _ st (only_at (a_round_after here.clock t.at)) distinct.1
+      (fresh_in st (names_of body) (name ∷ names_of body) (λ n i. inr i) fresh) g))
       f
   settled_step table m other same (start name (Some k) body) here st t distinct fresh f =
       settled_each table st (name ∷ names_of body) here.path k _ _ t fresh
@@ -571,7 +579,8 @@ mutual
       (settled_signed table st (Belongs (names_of body) (here.path ++ i ∷ [])) _ _
       (tidy m body (here_in (label_over name here i) (cut_of here.input here.part k i) here) st (only_at (a_round_after here.clock t.at)))
       (λ l o b. fresh.none l o (inr b.named))
-      (λ h. settled table m other same body (here_in (label_over name here i) (cut_of here.input here.part k i) here) st (only_at (a_round_after here.clock t.at)) distinct.1
+      (λ h. settled table m other same body (here_in (label_over name here i) (cut_of here.input here.part k i) here) st
+      (only_at (a_round_after here.clock t.at)) distinct.1
       (fresh_in st (names_of body) (name ∷ names_of body) (λ n j. inr j) fresh) h))
       g)
       f
@@ -594,7 +603,8 @@ mutual
       ∙ (ap (λ (r : Result). walk_cleanup other cleanup here st r) handler_same.1 ∙ cleanup_same.1)
 
   -- a handler after a body that is the same
-  settled_handler : (table : Table) (m other : Mode) → SameBlocks table m other → (x : Handled) (here : Here) (st : Stack) (r : Result) (names : List (List ℕ)) →
+  settled_handler : (table : Table) (m other : Mode) → SameBlocks table m other →
+      (x : Handled) (here : Here) (st : Stack) (r : Result) (names : List (List ℕ)) →
       Tidy st (Belongs names here.path) r →
       Distinct (names ++ handled_names x) → Fresh st (names ++ handled_names x) → Fits table (walk_handler m x here st r).log →
       Fits table r.log × (walk_handler other x here st r ≡ walk_handler m x here st r)
@@ -603,11 +613,13 @@ mutual
       settled_handled table _ r (λ u. walk m body here st u) (λ u. walk other body here st u)
       (λ u. side_by_side st names (names_of body) here.path r (walk m body here st u) distinct fresh h
       (tidy m body here st u))
-      (λ u g. settled table m other same body here st u (distinct_right names (names_of body) distinct) (fresh_right st names (names_of body) fresh) g)
+      (λ u g. settled table m other same body here st u (distinct_right names (names_of body) distinct)
+      (fresh_right st names (names_of body) fresh) g)
       f
 
   -- a cleanup after what is the same
-  settled_cleanup : (table : Table) (m other : Mode) → SameBlocks table m other → (x : Cleaned) (here : Here) (st : Stack) (r : Result) (names : List (List ℕ)) →
+  settled_cleanup : (table : Table) (m other : Mode) → SameBlocks table m other →
+      (x : Cleaned) (here : Here) (st : Stack) (r : Result) (names : List (List ℕ)) →
       Tidy st (Belongs names here.path) r →
       Distinct (names ++ cleaned_names x) → Fresh st (names ++ cleaned_names x) → Fits table (walk_cleanup m x here st r).log →
       Fits table r.log × (walk_cleanup other x here st r ≡ walk_cleanup m x here st r)
@@ -616,7 +628,8 @@ mutual
       settled_cleaned table r (λ u. walk m body here st u) (λ u. walk other body here st u)
       (λ u. side_by_side st names (names_of body) here.path r (walk m body here st u) distinct fresh h
       (tidy m body here st u))
-      (λ u g. settled table m other same body here st u (distinct_right names (names_of body) distinct) (fresh_right st names (names_of body) fresh) g)
+      (λ u g. settled table m other same body here st u (distinct_right names (names_of body) distinct)
+      (fresh_right st names (names_of body) fresh) g)
       f
 
 -- where names are given once, following the table of a walk is that walk, whatever is granted
