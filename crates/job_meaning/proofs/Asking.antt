@@ -81,7 +81,7 @@ left_near c (Some x) (Some y) last e = same_cut x y e
     same_cut u v h = omega arith
 
 -- what a task is granted, or that it leaves the queue, comes at c or later
-abbrev Far : ℕ → ℕ → Option Granted → Type 0
+abbrev pub Far : ℕ → ℕ → Option Granted → Type 0
 Far c left None = c ≤ left
 Far c left (Some g) = c ≤ g.at
 

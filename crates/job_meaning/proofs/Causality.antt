@@ -15,7 +15,7 @@ use Rattle.job_meaning.specs.Before.{upto, NearLevels, Near, NearModes, Agree, s
 use Rattle.job_meaning.specs.Laws.{NothingBeforeItsCause}
 use Rattle.job_meaning.proofs.Late.{Timed, Late, late, late_waited, late_until, late_signed, late_gathered, latest_ends, child_ends, each_ends, late_passes}
 use Rattle.job_meaning.proofs.Agreeing.{agree_same, agree_joined, Past, past_same, past_joined, agree_past, agree_from, agree_and_then, agree_logs}
-use Rattle.job_meaning.proofs.OwnSight.{from_for_near, stack_for_near}
+pub use Rattle.job_meaning.proofs.OwnSight.{from_for_near, stack_for_near}
 use Rattle.job_meaning.proofs.Asking.{agree_acted, agree_asking}
 use Rattle.job_meaning.proofs.Clips.{sight_near, seen_near, reached_near, label_near, NearEvents, event_near, home_near, both_clipped, clipped_late, clipped_tail, least_near, from_near, latest_known, all_known}
 

@@ -3,24 +3,21 @@ use Rattle.std.proofs.Common.{◌≡◌, ℕ, zero, suc, ◌+◌, ◌*◌, ◌�
 use Rattle.std.proofs.Math.Path.{fun_ext}
 use Rattle.std.proofs.lemmas.Bool.Decides.{nat_tests}
 use Rattle.job_tree.specs.Tree.{Tree}
-use Rattle.job_tree.specs.Names.{GivesNamesOnce, size_of}
+use Rattle.job_tree.specs.Names.{size_of}
 use Rattle.job_tree.specs.InRange.{IsInRange}
 use Rattle.exceptions.specs.Exceptions.{Label}
-use Rattle.job_meaning.specs.Log.{Log, nil, entry, sign, entered, act, task, Result, same_label, Table, table_of}
+use Rattle.job_meaning.specs.Log.{Log, nil, entry, sign, entered, act, task, Result, same_label}
 use Rattle.job_meaning.specs.Sharing.{done_if, own_acts, acts_in, by_moment, unopened, serve_acts, Granted, granted_if, Grants, grants_of, granted_before}
 use Rattle.job_meaning.specs.Moments.{clock_of, only_at}
 use Rattle.job_meaning.specs.declared.clock.Clock.{Clock}
 use Rattle.job_meaning.specs.declared.clock.Clock.TheVariants.{ByTicks as by_ticks, ByRounds as by_rounds}
 use Rattle.job_meaning.specs.declared.limits.TheConstants.{MAX_INPUT}
 use Rattle.job_meaning.specs.Walk.{no_stack, two_walks}
-use Rattle.job_meaning.specs.Meaning.{root_walk, root_here, root_log, granted_by, last_moment, meaning_grants, meaning}
-use Rattle.job_meaning.specs.Follow.{follow, IsSettled}
+use Rattle.job_meaning.specs.Meaning.{root_walk, root_here, root_log, granted_by, last_moment, meaning_grants}
 use Rattle.job_meaning.specs.Before.{NearGrants}
-use Rattle.job_meaning.specs.Laws.{FollowingIsMeaning, TableIsSettled, FollowingSettledIsMeaning, OneTableIsSettled}
 use Rattle.job_meaning.proofs.Late.{late}
 use Rattle.job_meaning.proofs.Causality.{agree}
 use Rattle.job_meaning.proofs.Ends.{reach, span, ActsBy, at_most_a_million, root_ends_by}
-use Rattle.job_meaning.proofs.Settled.{following_is_walking, settled_is_walking}
 use Rattle.job_meaning.proofs.GrantsBefore.{Each, OnGranted, each_append, each_by_moment, each_served, found_given, granted_from, near_grants}
 
 -- what is granted by a walk with what is granted
@@ -142,7 +139,7 @@ one_is_granted job input grants other h k l t m =
     same_option (grants l t m) (other l t m) (λ c. same_before c job input grants other h k l t m)
 
 -- as functions
-same_grants : (grants other : Grants) → ((l t : Label) (m : ℕ) → grants l t m ≡ other l t m) → grants ≡ other
+pub same_grants : (grants other : Grants) → ((l t : Label) (m : ℕ) → grants l t m ≡ other l t m) → grants ≡ other
 same_grants grants other h = fun_ext (λ (l : Label). fun_ext (λ (t : Label). fun_ext (λ (m : ℕ). h l t m)))
 
 -- a million steps end before the last moment, in either clock
@@ -151,59 +148,9 @@ in_moments_by by_ticks size few = omega arith
 in_moments_by by_rounds size few = omega arith
 
 -- what is granted in the meaning of a job that ends by the last tick is what is granted in its walk
-meaning_is_granted : (job : Tree) (input : List ℕ) → IsInRange job → length input ≤ MAX_INPUT → IsGranted (meaning_grants job input) job input
+pub meaning_is_granted : (job : Tree) (input : List ℕ) → IsInRange job → length input ≤ MAX_INPUT → IsGranted (meaning_grants job input) job input
 unfolding meaning_grants
 meaning_is_granted job input in_range small =
     granted_by_then (reach (clock_of job.format) 0 + size_of job.steps * span (clock_of job.format)) last_moment job input
     (λ (grants : Grants). (root_ends_by (two_walks grants) job input in_range small).acts)
     (in_moments_by (clock_of job.format) (size_of job.steps) (at_most_a_million job.format (size_of job.steps) in_range.size))
-
--- where names are given once, following the table of the meaning is the meaning
-pub following_is_meaning : FollowingIsMeaning
-unfolding meaning
-following_is_meaning job input once = following_is_walking (meaning_grants job input) job input once
-
--- so these tables are settled, where the job ends by the last tick
-pub table_is_settled : TableIsSettled
-unfolding meaning
-table_is_settled job input once in_range small =
-    record {
-      froms = λ l. ap (λ (r : Result). table_of r.log l) (sym (following_is_meaning job input once));
-      granted =
-          λ l t m. meaning_is_granted job input in_range small l t m
-          ∙ ap (λ (r : Result). grants_of (root_log job r) l t m) (sym (following_is_meaning job input once));
-    }
-
--- what settled tables grant is granted in the walk
-settled_is_granted : (table : Table) (grants : Grants) (job : Tree) (input : List ℕ) → GivesNamesOnce job → IsSettled table grants job input →
-    IsGranted grants job input
-settled_is_granted table grants job input once h l t m =
-    h.granted l t m ∙ ap (λ (r : Result). grants_of (root_log job r) l t m) (settled_is_walking table grants job input once h.froms)
-
--- and following any settled tables is the meaning
-pub settled_is_meaning : FollowingSettledIsMeaning
-unfolding meaning
-settled_is_meaning table grants job input once in_range small h =
-    settled_is_walking table grants job input once h.froms
-    ∙ ap (λ (g : Grants). root_walk (two_walks g) job input)
-    (same_grants grants (meaning_grants job input)
-    (one_is_granted job input grants (meaning_grants job input) (settled_is_granted table grants job input once h)
-    (meaning_is_granted job input in_range small)))
-
--- so there is one settled pair of tables
-pub one_table_is_settled : OneTableIsSettled
-one_table_is_settled table second grants second_grants job input once h k = (froms, same)
-  where
-    same : (l t : Label) (m : ℕ) → grants l t m ≡ second_grants l t m
-    same =
-        one_is_granted job input grants second_grants (settled_is_granted table grants job input once h)
-        (settled_is_granted second second_grants job input once k)
-
-    walks : follow table grants job input ≡ follow second second_grants job input
-    walks =
-        settled_is_walking table grants job input once h.froms
-        ∙ (ap (λ (g : Grants). root_walk (two_walks g) job input) (same_grants grants second_grants same)
-        ∙ sym (settled_is_walking second second_grants job input once k.froms))
-
-    froms : (l : Label) → table l ≡ second l
-    froms l = h.froms l ∙ (ap (λ (r : Result). table_of r.log l) walks ∙ sym (k.froms l))

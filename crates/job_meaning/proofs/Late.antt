@@ -339,8 +339,8 @@ leaves_after (Some x) m last e le = both (grind (arith, nat_tests))
     both h = omega arith
 
 -- who leaves the queue does so in that moment
-pub late_left : (here : Here) (from : Tick) (left t : ℕ) → t ≤ left → Late t (left_result here from left)
-late_left here from left t le = by_sight (is_reached from left)
+pub late_leaving : (here : Here) (from : Tick) (left t : ℕ) → t ≤ left → Late t (left_result here from left)
+late_leaving here from left t le = by_sight (is_reached from left)
   where
     by_sight : (b : Bool) → Late t (if b then raised_at cancelled (only_at left)
         else raised_at (raised (codes "Deadlock") here.task (tick_of here.clock left)) (only_at left))
@@ -371,12 +371,12 @@ late_granted label here m end_of_channel go h = late_raised _ m (only_at m) (ome
 -- what comes of an ask is late
 pub late_asked : (ask : Ask) (label : Label) (here : Here) (from : Tick) (m left : ℕ) (o : Option Granted) (go : Here → Now → Result) →
     m ≤ left → ((inner : Here) (u : Now) → Late u.at (go inner u)) → Late m (asked_result ask label here from m left (in_time m left o) go)
-late_asked ask label here from m left None go le h = late_act label m _ _ (late_left here from left m le)
+late_asked ask label here from m left None go le h = late_act label m _ _ (late_leaving here from left m le)
 late_asked ask label here from m left (Some g) go le h = by_time (nat_lt m g.at && nat_le g.at left) refl
   where
     by_time : (b : Bool) → (nat_lt m g.at && nat_le g.at left) ≡ b → Late m (asked_result ask label here from m left (granted_if b g None) go)
     by_time true e = late_act label m _ _ (late_since m g.at _ (grind (arith, nat_tests)) (late_granted label here g.at g.what go h))
-    by_time false e = late_act label m _ _ (late_left here from left m le)
+    by_time false e = late_act label m _ _ (late_leaving here from left m le)
 
 -- an ask is late, with what follows it
 pub late_asking : (m : Mode) (ask : Ask) (label : Option Label) (here : Here) (st : Stack) (t : Now) (go : Here → Now → Result) →

@@ -12,10 +12,11 @@ pub mod Distinct
 pub mod Touched
 pub mod Tidy
 pub mod Fits
-pub mod Settled
+pub mod Following
 pub mod ServedAlike
 pub mod GrantsBefore
 pub mod Granting
+pub mod Settled
 pub mod Finish
 pub mod FinishAsking
 pub mod Once

@@ -1,5 +1,5 @@
 use Rattle.job_meaning.proofs.laws.law_settled_table.Goals as goal
-use Rattle.job_meaning.proofs.Granting.{following_is_meaning, table_is_settled, settled_is_meaning, one_table_is_settled}
+use Rattle.job_meaning.proofs.Settled.{following_is_meaning, table_is_settled, settled_is_meaning, one_table_is_settled}
 
 pub returns-clause-follow : goal.returns-clause-follow
 returns-clause-follow c = following_is_meaning
