@@ -6,20 +6,22 @@ use Rattle.job_tree.specs.Names.{GivesNamesOnce}
 use Rattle.job_tree.specs.Starting.{StartsInNurseries}
 use Rattle.exceptions.specs.Exceptions.{Label, Exc}
 use Rattle.cancel_scopes.specs.Sight.{Tick}
-use Rattle.job_meaning.specs.Log.{Log, nil, entry, sign, entered, task, followed_by, Result, same_label, least_sign, deadline_of, deadline_if, either, from_by, entered_from, times_entered, Table}
+use Rattle.job_meaning.specs.Log.{Log, nil, entry, sign, entered, act, task, followed_by, Result, same_label, least_sign, deadline_of, deadline_if, either, from_by, entered_from, times_entered, Table}
 use Rattle.job_meaning.specs.Moments.{only_at}
-use Rattle.job_meaning.specs.Walk.{no_stack, by_table, with_sign, sign_if}
+use Rattle.job_meaning.specs.Walk.{no_stack, with_sign, sign_if}
 use Rattle.job_meaning.specs.Meaning.{root_walk, root_here}
-use Rattle.job_meaning.specs.Follow.{follow, IsSettled}
+use Rattle.job_meaning.specs.Follow.{follow}
 use Rattle.job_meaning.specs.Before.{upto}
 use Rattle.job_meaning.specs.Rest.{ChildOutcomes, rest_comes_to, rest_at_start}
 use Rattle.job_meaning.proofs.Clips.{upto_most, followed_nil}
 use Rattle.job_meaning.proofs.Distinct.{same_label_itself}
 use Rattle.job_meaning.proofs.Finish.{finish_begin}
 use Rattle.job_meaning.proofs.Once.{enters_once, job_gives_once}
+use Rattle.turn_semantics.specs.Midway.{Tables, by_tables}
 use Rattle.turn_semantics.specs.Placed.{PlacedStop}
 use Rattle.interleavings.specs.Interleaving.{Started, Fits, times_made, made_least, all_least, made_times, all_times, EnteredIn, EntersWith, StartsChild, Kid, HasFrom, Parent, Entered, EachPlace, RunInvariant, AllFrom}
 use Rattle.interleavings.specs.Going.{root_result, root_task}
+use Rattle.interleavings.specs.Laws.{IsSettledBy}
 use Rattle.interleavings.proofs.Readings.{entered_times}
 
 no_deadline_left : (l : Label) (a : Log) → times_entered l a ≡ 0 → deadline_of l a ≡ None
@@ -32,6 +34,7 @@ no_deadline_left l (entered m t d rest) h = by_test (same_label l m) h (no_deadl
         either (deadline_if b d) (deadline_of l rest) ≡ None
     by_test true k more = absurd (omega arith)
     by_test false k more = more (omega arith)
+no_deadline_left l (act label moment done rest) h = no_deadline_left l rest h
 no_deadline_left l (task m s u e own rest) h =
     ap (λ (o : Option Tick). either o (deadline_of l rest)) (no_deadline_left l own (omega arith)) ∙ no_deadline_left l rest (omega arith)
 
@@ -50,6 +53,7 @@ deadline_entered_once l d (entered m t x rest) (inr h) n =
         (times_entered l rest ≤ 1 → deadline_of l rest ≡ Some d) → either (deadline_if b x) (deadline_of l rest) ≡ Some d
     by_test true k some more = absurd (omega arith)
     by_test false k some more = more (omega arith)
+deadline_entered_once l d (act label moment done rest) h n = deadline_entered_once l d rest h n
 deadline_entered_once l d (task m s u e own rest) (inl h) n =
     ap (λ (o : Option Tick). either o (deadline_of l rest)) (deadline_entered_once l d own h (omega arith))
 deadline_entered_once l d (task m s u e own rest) (inr h) n =
@@ -67,14 +71,14 @@ signed_root r = ap (λ (a : Log). record r { own = []; log = a }) (ap (λ (a : L
     none (Some e) = refl
 
 -- what is left of the root is all of following the table, but for what it has cancelled itself at its end
-root_comes : (k : Table) (job : Tree) (input : List ℕ) (outcomes : ChildOutcomes) →
-    rest_comes_to (by_table k) outcomes (rest_at_start job.steps) (root_here job input) no_stack (only_at 0) ≡ root_result k job input
+root_comes : (k : Tables) (job : Tree) (input : List ℕ) (outcomes : ChildOutcomes) →
+    rest_comes_to (by_tables k) outcomes (rest_at_start job.steps) (root_here job input) no_stack (only_at 0) ≡ root_result k job input
 unfolding follow
-root_comes k job input outcomes = finish_begin (by_table k) outcomes job.steps (root_here job input) no_stack (only_at 0)
-    ∙ signed_root (root_walk (by_table k) job input)
+root_comes k job input outcomes = finish_begin (by_tables k) outcomes job.steps (root_here job input) no_stack (only_at 0)
+    ∙ signed_root (root_walk (by_tables k) job input)
 
-module _ (k f : Table) (job : Tree) (input : List ℕ) (names : GivesNamesOnce job) (nurseries : StartsInNurseries job)
-    (settled : IsSettled k job input) where
+module _ (k : Tables) (f : Table) (job : Tree) (input : List ℕ) (names : GivesNamesOnce job) (nurseries : StartsInNurseries job)
+    (settled : IsSettledBy k job input) where
   abbrev whole : Result
   whole = root_result k job input
 
@@ -83,10 +87,10 @@ module _ (k f : Table) (job : Tree) (input : List ℕ) (names : GivesNamesOnce j
 
   once_left : (l : Label) → times_entered l whole.log ≤ 1
   unfolding follow
-  once_left l = enters_once l whole.log (job_gives_once (by_table k) job input names)
+  once_left l = enters_once l whole.log (job_gives_once (by_tables k) job input names)
 
-  has_from : (l : Label) (d : Tick) → EnteredIn l d whole.log → k l ≡ from_by d (least_sign l whole.log)
-  has_from l d h = settled l ∙ ap (λ (o : Option Tick). entered_from o (least_sign l whole.log))
+  has_from : (l : Label) (d : Tick) → EnteredIn l d whole.log → k.cancelled_from l ≡ from_by d (least_sign l whole.log)
+  has_from l d h = settled.froms l ∙ ap (λ (o : Option Tick). entered_from o (least_sign l whole.log))
       (deadline_entered_once l d whole.log h (once_left l))
 
   fits_root : Fits k (root_task k job input)
@@ -112,8 +116,8 @@ module _ (k f : Table) (job : Tree) (input : List ℕ) (names : GivesNamesOnce j
     signed = λ c l. let y : upto c (least_sign l whole.log) ≤ c = upto_most c (least_sign l whole.log) in omega arith;
     once = λ l. let y : times_entered l whole.log ≤ 1 = once_left l in omega arith;
     made = λ c l h. omega arith;
-    follows = of_root (λ q. (l : Label) (d : Tick) → EnteredIn l d q.left → k l ≡ from_by d (least_sign l whole.log)) has_from;
-    known = of_root (λ q. (l : Label) (d : Tick) → EntersWith l d q.made → HasFrom k f whole.log tasks l d) (λ l d h. absurd h);
+    follows = of_root (λ q. (l : Label) (d : Tick) → EnteredIn l d q.left → k.cancelled_from l ≡ from_by d (least_sign l whole.log)) has_from;
+    known = of_root (λ q. (l : Label) (d : Tick) → EntersWith l d q.made → HasFrom k.cancelled_from f whole.log tasks l d) (λ l d h. absurd h);
     placed = of_root (λ q. EachPlace (Entered tasks) q.places) tt;
     root = record { root = root_task k job input; among = inl refl; first = refl; comes = refl };
   }

@@ -4,14 +4,13 @@ use Rattle.std.proofs.lemmas.Bool.Decides.{nat_tests}
 use Rattle.turn_semantics.specs.Lists.{IsAmong}
 use Rattle.exceptions.specs.Exceptions.{Label}
 use Rattle.cancel_scopes.specs.Sight.{Tick}
-use Rattle.job_meaning.specs.Log.{Log, nil, entry, sign, entered, task, followed_by, Result, same_label, tick_if, least_sign, times_entered, Table}
+use Rattle.job_meaning.specs.Log.{Log, nil, entry, sign, entered, act, task, followed_by, Result, same_label, tick_if, least_sign, times_entered, Table}
 use Rattle.job_meaning.specs.Moments.{a_round_after, Now, only_at}
-use Rattle.job_meaning.specs.Walk.{by_table}
 use Rattle.job_meaning.specs.Before.{upto}
-use Rattle.job_meaning.specs.Rest.{Event, noted, signs, enters, starts, ChildOutcomes, fill, Stopped, rest_comes_to, rest_at_start, inside}
+use Rattle.job_meaning.specs.Rest.{Event, noted, signs, enters, acts, starts, ChildOutcomes, fill, Stopped, rest_comes_to, rest_at_start, inside}
 use Rattle.job_meaning.proofs.Clips.{upto_most, upto_earlier}
 use Rattle.job_meaning.proofs.Finish.{followed_assoc, fill_append, finish_begin}
-use Rattle.turn_semantics.specs.Midway.{stack_at, Begun, Move, now_after, no_outcomes, begun_comes_to}
+use Rattle.turn_semantics.specs.Midway.{Tables, by_tables, stack_at, Begun, Move, now_after, no_outcomes, begun_comes_to}
 use Rattle.turn_semantics.specs.Wakes.{Wake, WakesBy}
 use Rattle.turn_semantics.specs.Turned.{AgreesOn, AgreesIn, AreOutcomes, Starts, made_sign, TurnsOver}
 use Rattle.interleavings.specs.Interleaving.{Started, Tells, Fits, times_made, all_least, all_times, EnteredIn}
@@ -31,7 +30,7 @@ more_number a b h = grind (arith, nat_tests)
 -- ---- what is recorded of the children
 
 -- of earlier children the same is recorded
-pub outcome_of_old : (k : Table) (t : ℕ) (outcomes : ChildOutcomes) (n : ℕ) (bs : List Begun) → NumberedFrom n bs → (i : ℕ) → i < n →
+pub outcome_of_old : (k : Tables) (t : ℕ) (outcomes : ChildOutcomes) (n : ℕ) (bs : List Begun) → NumberedFrom n bs → (i : ℕ) → i < n →
     outcomes_with k t outcomes bs i ≡ outcomes i
 unfolding outcomes_with
 outcome_of_old k t outcomes n [] p i h = refl
@@ -41,18 +40,18 @@ outcome_of_old k t outcomes n (b ∷ bs) p i h =
     ∙ outcome_of_old k t outcomes (suc n) bs p.1 i (omega arith)
 
 -- of the first of new children its own
-pub outcome_of_first : (k : Table) (t : ℕ) (outcomes : ChildOutcomes) (b : Begun) (bs : List Begun) (i : ℕ) → i ≡ b.number →
+pub outcome_of_first : (k : Tables) (t : ℕ) (outcomes : ChildOutcomes) (b : Begun) (bs : List Begun) (i : ℕ) → i ≡ b.number →
     outcomes_with k t outcomes (b ∷ bs) i ≡ begun_comes_to k t b
 unfolding outcomes_with
 outcome_of_first k t outcomes b bs i h = ap (λ (c : Bool). if c then begun_comes_to k t b else outcomes_with k t outcomes bs i) (same_number i b.number h)
 
 -- and of those after the first what is recorded of them
-pub outcome_of_later : (k : Table) (t : ℕ) (outcomes : ChildOutcomes) (b : Begun) (bs : List Begun) (i : ℕ) → b.number < i →
+pub outcome_of_later : (k : Tables) (t : ℕ) (outcomes : ChildOutcomes) (b : Begun) (bs : List Begun) (i : ℕ) → b.number < i →
     outcomes_with k t outcomes (b ∷ bs) i ≡ outcomes_with k t outcomes bs i
 unfolding outcomes_with
 outcome_of_later k t outcomes b bs i h = ap (λ (c : Bool). if c then begun_comes_to k t b else outcomes_with k t outcomes bs i) (more_number i b.number h)
 
-outcomes_of_begun : (k : Table) (t : ℕ) (e d : ChildOutcomes) (n : ℕ) (bs : List Begun) → NumberedFrom n bs →
+outcomes_of_begun : (k : Tables) (t : ℕ) (e d : ChildOutcomes) (n : ℕ) (bs : List Begun) → NumberedFrom n bs →
     ((i : ℕ) → n ≤ i → i < n + length bs → d i ≡ outcomes_with k t e bs i) → AreOutcomes t k d bs
 outcomes_of_begun k t e d n [] p h = tt
 outcomes_of_begun k t e d n (b ∷ bs) p h =
@@ -68,6 +67,7 @@ fill_agree d e n [] bs p h = refl
 fill_agree d e n (noted t x ∷ es) bs p h = ap (λ (z : Log). entry t x z) (fill_agree d e n es bs p h)
 fill_agree d e n (signs m t ∷ es) bs p h = ap (λ (z : Log). sign m t z) (fill_agree d e n es bs p h)
 fill_agree d e n (enters m t c ∷ es) bs p h = ap (λ (z : Log). entered m t c z) (fill_agree d e n es bs p h)
+fill_agree d e n (acts label moment done ∷ es) bs p h = ap (λ (z : Log). act label moment done z) (fill_agree d e n es bs p h)
 fill_agree d e n (starts i m t ∷ es) [] p h = absurd p
 fill_agree d e n (starts i m t ∷ es) (b ∷ bs) p h =
     let x : i ≡ n = p.0 in
@@ -80,11 +80,12 @@ followed_cancel nil b c h = h
 followed_cancel (entry t e rest) b c h = followed_cancel rest b c (cc)
 followed_cancel (sign m t rest) b c h = followed_cancel rest b c (cc)
 followed_cancel (entered m t d rest) b c h = followed_cancel rest b c (cc)
+followed_cancel (act label moment done rest) b c h = followed_cancel rest b c (cc)
 followed_cancel (task m s u e own rest) b c h = followed_cancel rest b c (cc)
 
 -- ---- readings of what was made, with the new children
 
-module _ (k : Table) (t : ℕ) (outcomes : ChildOutcomes) where
+module _ (k : Tables) (t : ℕ) (outcomes : ChildOutcomes) where
   fill_least : (c : ℕ) (l : Label) (n m : ℕ) (es : List Event) (bs : List Begun) → Starts n es bs → AreOutcomes t k outcomes bs →
       upto c (least_sign l (fill outcomes es)) ≡ min (upto c (made_sign l es)) (all_least c l (children_from k t m bs))
   unfolding all_least children_from
@@ -95,6 +96,7 @@ module _ (k : Table) (t : ℕ) (outcomes : ChildOutcomes) where
       let s : Tick = tick_if (same_label l h) u in
       omega (arith, upto_earlier c s (least_sign l (fill outcomes es)), upto_earlier c s (made_sign l es), fill_least c l n m es bs p q)
   fill_least c l n m (enters h u d ∷ es) bs p q = fill_least c l n m es bs p q
+  fill_least c l n m (acts label moment done ∷ es) bs p q = fill_least c l n m es bs p q
   fill_least c l n m (starts i h u ∷ es) [] p q = absurd p
   fill_least c l n m (starts i h u ∷ es) (b ∷ bs) p q =
       let ih : upto c (least_sign l (fill outcomes es)) ≡ min (upto c (made_sign l es)) (all_least c l (children_from k t (suc m) bs)) =
@@ -112,6 +114,7 @@ module _ (k : Table) (t : ℕ) (outcomes : ChildOutcomes) where
   fill_times l n m (noted u x ∷ es) bs p q = fill_times l n m es bs p q
   fill_times l n m (signs h u ∷ es) bs p q = fill_times l n m es bs p q
   fill_times l n m (enters h u d ∷ es) bs p q = omega (arith, fill_times l n m es bs p q)
+  fill_times l n m (acts label moment done ∷ es) bs p q = fill_times l n m es bs p q
   fill_times l n m (starts i h u ∷ es) [] p q = absurd p
   fill_times l n m (starts i h u ∷ es) (b ∷ bs) p q =
       let ih : times_entered l (fill outcomes es) ≡ times_made l es + all_times l (children_from k t (suc m) bs) =
@@ -129,6 +132,7 @@ module _ (k : Table) (t : ℕ) (outcomes : ChildOutcomes) where
   fill_entered n m (noted u y ∷ es) bs p q x i l d h = fill_entered n m es bs p q x i l d h
   fill_entered n m (signs y u ∷ es) bs p q x i l d h = fill_entered n m es bs p q x i l d h
   fill_entered n m (enters y u c ∷ es) bs p q x i l d h = inr (fill_entered n m es bs p q x i l d h)
+  fill_entered n m (acts label moment done ∷ es) bs p q x i l d h = fill_entered n m es bs p q x i l d h
   fill_entered n m (starts j y u ∷ es) [] p q x i l d h = absurd p
   fill_entered n m (starts j y u ∷ es) (b ∷ bs) p q x (inl e) l d h =
       let same : x.left ≡ (outcomes j).log = ap (λ (z : Started). z.left) e
@@ -138,19 +142,19 @@ module _ (k : Table) (t : ℕ) (outcomes : ChildOutcomes) where
 
 -- ---- the task that had its turn
 
-module _ (k f : Table) (now : Now) (m : ℕ) (wake : Wake) (q : Started) (o : Move) (s : Stopped)
+module _ (k : Tables) (f : Table) (now : Now) (m : ℕ) (wake : Wake) (q : Started) (o : Move) (s : Stopped)
     (w : TurnsOver q.stop now q.here f wake q.rest q.places q.count o) (stopped : o.stopped ≡ Some s) (fit : Fits k q)
-    (near : AgreesOn now.at k f q.places) (deadlines : AgreesIn now.at k q.left)
+    (near : AgreesOn now.at k.cancelled_from f q.places) (deadlines : AgreesIn now.at k.cancelled_from q.left)
     (come : (outcomes : ChildOutcomes) → Tells q outcomes → WakesBy k outcomes (inside q.rest.frames q.here) q.stop now wake q.rest.stopped q.places) where
   -- the moment in which the new children begin
   abbrev next : ℕ
   next = a_round_after q.here.clock now.at
 
   abbrev left_before : ChildOutcomes → Result
-  left_before outcomes = rest_comes_to (by_table k) outcomes q.rest q.here (stack_at k q.places) q.stop
+  left_before outcomes = rest_comes_to (by_tables k) outcomes q.rest q.here (stack_at k.cancelled_from q.places) q.stop
 
   abbrev left_after : ChildOutcomes → Result
-  left_after outcomes = rest_comes_to (by_table k) outcomes (record { stopped = s; frames = o.frames }) q.here (stack_at k o.places) (now_after q.here.clock now o.made)
+  left_after outcomes = rest_comes_to (by_tables k) outcomes (record { stopped = s; frames = o.frames }) q.here (stack_at k.cancelled_from o.places) (now_after q.here.clock now o.made)
 
   numbers : NumberedFrom q.count o.begun
   numbers = numbers_of q.count o.made o.begun w.starts
@@ -171,7 +175,7 @@ module _ (k f : Table) (now : Now) (m : ℕ) (wake : Wake) (q : Started) (o : Mo
       left_before outcomes ≡ record (left_after outcomes) { log = followed_by (fill outcomes o.made) (left_after outcomes).log }
   turn_keeps outcomes h =
       keeps_to now f wake q o s w stopped k outcomes near
-      (subst (λ (a : Log). AgreesIn now.at k a) (sym (fit.lefts outcomes (tells_before outcomes h))) deadlines)
+      (subst (λ (a : Log). AgreesIn now.at k.cancelled_from a) (sym (fit.lefts outcomes (tells_before outcomes h))) deadlines)
       (tells_begun outcomes h) (come outcomes (tells_before outcomes h))
 
   -- what was left before is what was made and what is left after
@@ -226,15 +230,15 @@ module _ (k f : Table) (now : Now) (m : ℕ) (wake : Wake) (q : Started) (o : Mo
       omega arith
 
 -- the result of a child before its first turn is that of following the table, whatever is recorded of children
-pub fits_begun : (k : Table) (t m : ℕ) (bs : List Begun) (q : Started) → IsAmong q (children_from k t m bs) → Fits k q
+pub fits_begun : (k : Tables) (t m : ℕ) (bs : List Begun) (q : Started) → IsAmong q (children_from k t m bs) → Fits k q
 unfolding children_from
 fits_begun k t m [] q i = absurd i
 fits_begun k t m (b ∷ bs) q (inl e) = subst (λ (x : Started). Fits k x) (sym e) (fits_first b)
   where
-    open_child : (b : Begun) (outcomes : ChildOutcomes) → rest_comes_to (by_table k) outcomes (rest_at_start b.body) b.here (stack_at k b.places) (only_at t)
+    open_child : (b : Begun) (outcomes : ChildOutcomes) → rest_comes_to (by_tables k) outcomes (rest_at_start b.body) b.here (stack_at k.cancelled_from b.places) (only_at t)
         ≡ begun_comes_to k t b
-    open_child b outcomes = finish_begin (by_table k) outcomes b.body b.here (stack_at k b.places) (only_at t)
-        ∙ sym (finish_begin (by_table k) no_outcomes b.body b.here (stack_at k b.places) (only_at t))
+    open_child b outcomes = finish_begin (by_tables k) outcomes b.body b.here (stack_at k.cancelled_from b.places) (only_at t)
+        ∙ sym (finish_begin (by_tables k) no_outcomes b.body b.here (stack_at k.cancelled_from b.places) (only_at t))
 
     fits_first : (b : Begun) → Fits k (record {
       serial = m;

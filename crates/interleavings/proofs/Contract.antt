@@ -4,13 +4,12 @@ use Rattle.std.proofs.Common.{◌≡◌, ◌⊎◌, ℕ, suc, ◌+◌, ◌<◌, 
 use Rattle.turn_semantics.specs.Lists.{IsAmong}
 use Rattle.exceptions.specs.Exceptions.{Label}
 use Rattle.cancel_scopes.specs.Sight.{Tick}
-use Rattle.job_meaning.specs.Log.{Log, nil, entry, sign, entered, task, Table}
+use Rattle.job_meaning.specs.Log.{Log, nil, entry, sign, entered, act, task, Table}
 use Rattle.job_meaning.specs.Moments.{a_round_after, Now}
 use Rattle.job_meaning.specs.declared.clock.Clock.{Clock}
-use Rattle.job_meaning.specs.Walk.{by_table}
 use Rattle.job_meaning.specs.Before.{upto, Near}
-use Rattle.job_meaning.specs.Rest.{Event, noted, signs, enters, starts, ChildOutcomes, Stopped, Rest, rest_comes_to, rest_weight, stop_weight, frames_weight, inside}
-use Rattle.turn_semantics.specs.Midway.{Place, level_on, stack_at, Begun, Move, now_after, after_events, stop_comes_to}
+use Rattle.job_meaning.specs.Rest.{Event, noted, signs, enters, acts, starts, ChildOutcomes, Stopped, Rest, rest_comes_to, rest_weight, stop_weight, frames_weight, inside}
+use Rattle.turn_semantics.specs.Midway.{Place, level_on, Tables, by_tables, stack_at, Begun, Move, now_after, after_events, stop_comes_to}
 use Rattle.turn_semantics.specs.Steps.{cancelled_from_after}
 use Rattle.turn_semantics.specs.Placed.{PlacedStop, PlacedAfter}
 use Rattle.turn_semantics.specs.Wakes.{Wake, WakesBy}
@@ -39,6 +38,7 @@ agrees_each t k nil h = tt
 agrees_each t k (entry u e rest) h = agrees_each t k rest h
 agrees_each t k (sign l u rest) h = agrees_each t k rest h
 agrees_each t k (entered l u d rest) h = (h l d (inl (refl, refl)), agrees_each t k rest (λ m c i. h m c (inr i)))
+agrees_each t k (act label moment done rest) h = agrees_each t k rest h
 agrees_each t k (task l s u e own rest) h = agrees_each t k rest (λ m c i. h m c (inr i))
 
 -- ---- children
@@ -55,6 +55,7 @@ numbers_of n [] (b ∷ bs) h = absurd h
 numbers_of n (noted t e ∷ es) bs h = numbers_of n es bs h
 numbers_of n (signs l t ∷ es) bs h = numbers_of n es bs h
 numbers_of n (enters l t d ∷ es) bs h = numbers_of n es bs h
+numbers_of n (acts label moment done ∷ es) bs h = numbers_of n es bs h
 numbers_of n (starts i l t ∷ es) [] h = absurd h
 numbers_of n (starts i l t ∷ es) (b ∷ bs) h = (h.1, numbers_of (suc n) es bs h.3)
 
@@ -76,6 +77,7 @@ known_of ls [] l h = inl h
 known_of ls (noted t e ∷ es) l h = known_of ls es l h
 known_of ls (signs m t ∷ es) l h = known_of ls es l h
 known_of ls (enters m t d ∷ es) l h = after_entered l m t d ls es (known_of (m ∷ ls) es l h)
+known_of ls (acts label moment done ∷ es) l h = known_of ls es l h
 known_of ls (starts i m t ∷ es) l h = known_of ls es l h
 
 -- what is true for each known label is true for each enclosing scope or nursery with a known label
@@ -110,11 +112,12 @@ module _ (now : Now) (f : Table) (wake : Wake) (q : Started) (o : Move) (s : Sto
   rest_after = record { stopped = s; frames = o.frames }
 
   -- what was left before the turn results in what it did, followed by the result of what is left after it
-  pub keeps_to : (k : Table) (outcomes : ChildOutcomes) → AgreesOn now.at k f q.places →
-      AgreesIn now.at k (rest_comes_to (by_table k) outcomes q.rest q.here (stack_at k q.places) q.stop).log → AreOutcomes (a_round_after q.here.clock now.at) k outcomes o.begun →
+  pub keeps_to : (k : Tables) (outcomes : ChildOutcomes) → AgreesOn now.at k.cancelled_from f q.places →
+      AgreesIn now.at k.cancelled_from (rest_comes_to (by_tables k) outcomes q.rest q.here (stack_at k.cancelled_from q.places) q.stop).log → AreOutcomes (a_round_after q.here.clock now.at) k outcomes o.begun →
       WakesBy k outcomes (inside q.rest.frames q.here) q.stop now wake q.rest.stopped q.places →
-      rest_comes_to (by_table k) outcomes q.rest q.here (stack_at k q.places) q.stop
-      ≡ after_events outcomes o.made (rest_comes_to (by_table k) outcomes rest_after q.here (stack_at k o.places) (now_after q.here.clock now o.made))
+      rest_comes_to (by_tables k) outcomes q.rest q.here (stack_at k.cancelled_from q.places) q.stop
+      ≡ after_events outcomes o.made
+      (rest_comes_to (by_tables k) outcomes rest_after q.here (stack_at k.cancelled_from o.places) (now_after q.here.clock now o.made))
   keeps_to k outcomes near inside all come =
       w.keeps k outcomes come near (inr inside) all
       ∙ ap (λ (x : Option Stopped). after_events outcomes o.made (stop_comes_to x k outcomes q.here (now_after q.here.clock now o.made) o.frames o.places o.exc)) e

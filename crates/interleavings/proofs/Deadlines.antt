@@ -1,17 +1,20 @@
 -- By rounds, each deadline is the first moment of a tick: so it is in the log of each walk.
 use Rattle.std.proofs.Common.{◌≡◌, ℕ, zero, suc, ◌+◌, ◌*◌, ◌/◌, Bool, true, false, Option, Some, None, List, [], ◌∷◌, sym, subst, arith, nat_le, nat_lt, max, if◌then◌else◌}
+use Rattle.std.specs.Prelude.{codes}
 use Rattle.job_tree.specs.declared.deadline.Deadline.{Deadline}
 use Rattle.job_tree.specs.declared.deadline.Deadline.TheVariants.{Never, After, At}
-use Rattle.job_tree.specs.Tree.{Step, sleep, checkpoint, forever, pace, find, head, longest, need, raise, cancel, set_event, wait_for, scope, nursery, event, start, repeat, attempt, Steps, stop, step, Handled, unhandled, except, Cleaned, uncleaned, finally}
+use Rattle.job_tree.specs.declared.object.Ask.{Ask}
+use Rattle.job_tree.specs.Tree.{Step, sleep, checkpoint, forever, pace, find, head, longest, need, raise, cancel, set_event, wait_for, ask_for, close_channel, scope, nursery, event, object, start, repeat, attempt, Steps, stop, step, Handled, unhandled, except, Cleaned, uncleaned, finally}
 use Rattle.input_lines.specs.Lines.{Span}
-use Rattle.exceptions.specs.Exceptions.{Label, Exc, cancelled}
+use Rattle.exceptions.specs.Exceptions.{Label, Exc, cancelled, raised}
 use Rattle.exceptions.specs.Split.{Wanted, keep, drop}
-use Rattle.cancel_scopes.specs.Sight.{Tick, Level, sight}
-use Rattle.job_meaning.specs.Log.{Log, nil, entry, sign, entered, task, followed_by, Result, same_label, either, deadline_if, deadline_of}
-use Rattle.job_meaning.specs.Moments.{a_round_after, wakes_at, gives_up_at, due, Now, only_at}
+use Rattle.cancel_scopes.specs.Sight.{Tick, Level, is_reached, sight, seen}
+use Rattle.job_meaning.specs.Log.{Log, nil, entry, sign, entered, gives_back, act, task, followed_by, Result, same_label, either, deadline_if, deadline_of}
+use Rattle.job_meaning.specs.Sharing.{What, a_token, was_sent, a_part, closed_resource, end_of_channel, Granted}
+use Rattle.job_meaning.specs.Moments.{tick_of, a_round_after, wakes_at, gives_up_at, due, Now, only_at}
 use Rattle.job_meaning.specs.declared.clock.Clock.{Clock}
 use Rattle.job_meaning.specs.declared.clock.Clock.TheVariants.{ByRounds as by_rounds}
-use Rattle.job_meaning.specs.Walk.{Stack, Mode, Here, walk, walk_step, walk_handler, walk_cleanup, done_at, raised_at, now_of, and_then, then_if, wait_by_sight, sleep_result, pace_result, wait_until, set_moment, wait_by, with_line_if, with_line, event_wait, log_of_lines, lines_result, raise_result, need_result, cancel_result, set_result, Kind, from_of, block, event_block, with_sign, sign_if, home_of, nursery_result, child, each, passes, handler_result, handler_for, handler_if_any, cleanup_result}
+use Rattle.job_meaning.specs.Walk.{Stack, Mode, grants_in, Here, walk, walk_step, walk_handler, walk_cleanup, done_at, raised_at, now_of, and_then, then_if, wait_by_sight, sleep_result, pace_result, wait_until, set_moment, wait_by, with_line_if, with_line, event_wait, log_of_lines, lines_result, raise_result, need_result, cancel_result, set_result, stack_for, close_result, with_token_back, last_grant, leaves_queue, in_time, left_result, goes_on, granted_result, asked_result, asks_in, ask_result, Kind, from_of, block, event_block, with_sign, sign_if, home_of, nursery_result, child, each, passes, handler_result, handler_for, handler_if_any, cleanup_result}
 use Rattle.interleavings.specs.Laws.{round_of}
 
 -- a deadline is the first moment of a tick, or there is none
@@ -25,6 +28,7 @@ EachOnTick nil = Unit {0}
 EachOnTick (entry t e rest) = EachOnTick rest
 EachOnTick (sign l t rest) = EachOnTick rest
 EachOnTick (entered l t d rest) = OnTick d × EachOnTick rest
+EachOnTick (act label moment done rest) = EachOnTick rest
 EachOnTick (task l s u e own rest) = EachOnTick own × EachOnTick rest
 
 -- the first moment of a tick is in round 0
@@ -44,6 +48,7 @@ each_followed nil b h k = k
 each_followed (entry t e rest) b h k = each_followed rest b h k
 each_followed (sign l t rest) b h k = each_followed rest b h k
 each_followed (entered l t d rest) b h k = (h.0, each_followed rest b h.1 k)
+each_followed (act label moment done rest) b h k = each_followed rest b h k
 each_followed (task l s u e own rest) b h k = (h.0, each_followed rest b h.1 k)
 
 each_then : (r : Result) (go : Now → Result) → EachOnTick r.log → ((u : Now) → EachOnTick (go u).log) → EachOnTick (and_then r go).log
@@ -181,6 +186,60 @@ each_cleaned : (r : Result) (go : Now → Result) → EachOnTick r.log → ((u :
 unfolding cleanup_result
 each_cleaned r go h k = each_followed r.log (go (now_of r)).log h (k (now_of r))
 
+-- what was granted is noted, and what follows has such deadlines
+each_goes_on : (label : Label) (m : ℕ) (go : Now → Result) → ((u : Now) → EachOnTick (go u).log) → EachOnTick (goes_on label m go).log
+each_goes_on label m go h = h (only_at m)
+
+each_token_back : (label : Label) (r : Result) → EachOnTick r.log → EachOnTick (with_token_back label r).log
+unfolding with_token_back
+each_token_back label r h = each_followed r.log (act label r.end gives_back nil) h tt
+
+-- what a task does with what it is granted
+each_granted : (label : Label) (here : Here) → here.clock ≡ by_rounds → (m : ℕ) (what : What) (go : Here → Now → Result) →
+    ((inner : Here) → inner.clock ≡ by_rounds → (u : Now) → EachOnTick (go inner u).log) → EachOnTick (granted_result label here m what go).log
+each_granted label here c m a_token go h =
+    each_goes_on label m (λ (u : Now). with_token_back label (go here u)) (λ u. each_token_back label (go here u) (h here c u))
+each_granted label here c m was_sent go h = each_goes_on label m (λ (u : Now). go here u) (λ u. h here c u)
+each_granted label here c m (a_part lent) go h =
+    each_goes_on label m (λ (u : Now). go (record here { part = lent }) u) (λ u. h (record here { part = lent }) c u)
+each_granted label here c m closed_resource go h = tt
+each_granted label here c m end_of_channel go h = tt
+
+-- who leaves the queue enters nothing
+each_leaving : (here : Here) (from : Tick) (left : ℕ) → EachOnTick (left_result here from left).log
+each_leaving here from left = by_sight (is_reached from left)
+  where
+    by_sight : (b : Bool) → EachOnTick (if b then raised_at cancelled (only_at left)
+        else raised_at (raised (codes "Deadlock") here.task (tick_of here.clock left)) (only_at left)).log
+    by_sight true = tt
+    by_sight false = tt
+
+each_asked : (ask : Ask) (label : Label) (here : Here) → here.clock ≡ by_rounds → (from : Tick) (m left : ℕ) (o : Option Granted)
+    (go : Here → Now → Result) → ((inner : Here) → inner.clock ≡ by_rounds → (u : Now) → EachOnTick (go inner u).log) →
+    EachOnTick (asked_result ask label here from m left o go).log
+each_asked ask label here c from m left None go h = each_leaving here from left
+each_asked ask label here c from m left (Some g) go h = each_granted label here c g.at g.what go h
+
+each_asking : (m : Mode) (ask : Ask) (label : Option Label) (here : Here) → here.clock ≡ by_rounds → (st : Stack) (t : Now)
+    (go : Here → Now → Result) → ((inner : Here) → inner.clock ≡ by_rounds → (u : Now) → EachOnTick (go inner u).log) →
+    EachOnTick (ask_result m ask label here st t go).log
+unfolding ask_result
+each_asking m ask None here c st t go h = tt
+each_asking m ask (Some label) here c st t go h = by_sight (seen (stack_for t.own t.at st.scopes) t.at)
+  where
+    left : ℕ
+    left = leaves_queue (sight st.scopes) (last_grant here.clock t.at)
+
+    by_sight : (b : Bool) →
+        EachOnTick (if b then raised_at cancelled (only_at (gives_up_at here.clock 0 t.at)) else asks_in m ask label here st t.at go).log
+    by_sight true = tt
+    by_sight false = each_asked ask label here c (sight st.scopes) t.at left (in_time t.at left (grants_in m label here.task t.at)) go h
+
+each_closing : (label : Option Label) (t : Now) → EachOnTick (close_result label t).log
+unfolding close_result
+each_closing None t = tt
+each_closing (Some l) t = tt
+
 mutual
   unfolding walk
 
@@ -202,12 +261,15 @@ mutual
   each_step m (cancel name) here c st t = each_cancelling here.clock _ t
   each_step m (set_event name) here c st t = each_setting here.clock _ t
   each_step m (wait_for name) here c st t = each_awaiting here.clock st _ t
+  each_step m (ask_for name ask body) here c st t = each_asking m ask _ here c st t _ (λ inner d u. each_walked m body inner d st u)
+  each_step m (close_channel name) here c st t = each_closing _ t
   each_step m (scope name d shield fail body) here c st t =
       each_block here.clock m _ _ t.at _ shield st _ (due_on here.clock c d t.at) (λ from. each_walked m body here c _ t)
   each_step m (nursery name d shield body) here c st t =
       each_block here.clock m _ _ t.at _ shield st _ (due_on here.clock c d t.at)
       (λ from. each_gathered here.clock _ _ (each_signed _ _ (each_walked m body here c _ t)))
   each_step m (event name body) here c st t = each_event m _ t.at _ (λ from. each_walked m body here c _ t)
+  each_step m (object name kind body) here c st t = each_event m _ t.at _ (λ from. each_walked m body here c _ t)
   each_step m (start name None body) here c st t =
       each_child _ _ _ t (each_signed st _ (each_walked m body _ c st (only_at (a_round_after here.clock t.at))))
   each_step m (start name (Some k) body) here c st t =
@@ -240,6 +302,7 @@ deadline_on l (entered m t d rest) h = by_test (same_label l m) (deadline_on l r
     by_test : (b : Bool) → OnTickIf (deadline_of l rest) → OnTickIf (either (deadline_if b d) (deadline_of l rest))
     by_test true more = h.0
     by_test false more = more
+deadline_on l (act label moment done rest) h = deadline_on l rest h
 deadline_on l (task m s u e own rest) h = first_of (deadline_of l own) (deadline_of l rest) (deadline_on l own h.0) (deadline_on l rest h.1)
   where
     first_of : (a b : Option Tick) → OnTickIf a → OnTickIf b → OnTickIf (either a b)

@@ -1,17 +1,20 @@
 -- If `start` occurs only directly in nurseries, a task ends no earlier than those that it started.
 use Rattle.std.proofs.Common.{◌≡◌, ℕ, zero, suc, ◌≤◌, max, Bool, true, false, Option, Some, None, List, [], ◌∷◌, ◌++◌, refl, subst, arith, nat_le, nat_lt, if◌then◌else◌}
-use Rattle.job_tree.specs.Tree.{Step, sleep, checkpoint, forever, pace, find, head, longest, need, raise, cancel, set_event, wait_for, scope, nursery, event, start, repeat, attempt, Steps, stop, step, Handled, unhandled, except, Cleaned, uncleaned, finally}
+use Rattle.std.specs.Prelude.{codes}
+use Rattle.job_tree.specs.Tree.{Step, sleep, checkpoint, forever, pace, find, head, longest, need, raise, cancel, set_event, wait_for, ask_for, close_channel, scope, nursery, event, object, start, repeat, attempt, Steps, stop, step, Handled, unhandled, except, Cleaned, uncleaned, finally}
+use Rattle.job_tree.specs.declared.object.Ask.{Ask}
 use Rattle.job_tree.specs.Starting.{StartsIn, StartsAt, HandlerStarts, CleanupStarts}
 use Rattle.input_lines.specs.Lines.{Span}
-use Rattle.exceptions.specs.Exceptions.{Label, Exc, cancelled}
+use Rattle.exceptions.specs.Exceptions.{Label, Exc, cancelled, raised}
 use Rattle.exceptions.specs.Split.{Wanted, keep, drop}
-use Rattle.cancel_scopes.specs.Sight.{Tick, Level, sight}
-use Rattle.job_meaning.specs.Log.{Log, nil, entry, sign, entered, task, followed_by, Member, Result}
-use Rattle.job_meaning.specs.Moments.{a_round_after, wakes_at, gives_up_at, Now, only_at}
+use Rattle.cancel_scopes.specs.Sight.{Tick, Level, is_reached, sight, seen}
+use Rattle.job_meaning.specs.Log.{Log, nil, entry, sign, entered, Act, gives_back, closes, act, task, followed_by, Member, Result}
+use Rattle.job_meaning.specs.Sharing.{What, a_token, was_sent, a_part, closed_resource, end_of_channel, Granted}
+use Rattle.job_meaning.specs.Moments.{tick_of, a_round_after, wakes_at, gives_up_at, Now, only_at}
 use Rattle.job_meaning.specs.declared.clock.Clock.{Clock}
-use Rattle.job_meaning.specs.Walk.{Stack, Mode, Here, walk, walk_step, walk_handler, walk_cleanup, done_at, raised_at, now_of, in_sequence, and_then, then_if, wait_by_sight, sleep_result, pace_result, wait_until, set_moment, wait_by, with_line_if, with_line, event_wait, log_of_lines, lines_result, need_result, raise_result, cancel_result, set_result, sign_of, Kind, from_of, block, event_block, with_sign, sign_if, home_of, latest, nursery_result, child, each, handler_result, handler_for, handler_if_any, cleanup_result, passes}
+use Rattle.job_meaning.specs.Walk.{Stack, Mode, grants_in, Here, walk, walk_step, walk_handler, walk_cleanup, done_at, raised_at, now_of, in_sequence, and_then, then_if, wait_by_sight, sleep_result, pace_result, wait_until, set_moment, wait_by, with_line_if, with_line, event_wait, log_of_lines, lines_result, need_result, raise_result, cancel_result, set_result, sign_of, stack_for, with_act, close_result, with_token_back, last_grant, leaves_queue, in_time, left_result, goes_on, granted_result, asked_result, asks_in, ask_result, Kind, from_of, block, event_block, with_sign, sign_if, home_of, latest, nursery_result, child, each, handler_result, handler_for, handler_if_any, cleanup_result, passes}
 use Rattle.job_meaning.proofs.MomentLemmas.{round_after}
-use Rattle.job_meaning.proofs.Late.{Late, late, latest_ends, child_ends, each_ends, late_passes}
+use Rattle.job_meaning.proofs.Late.{Late, late, noted_at, late_token_back, latest_ends, child_ends, each_ends, late_passes}
 
 -- each task of a log ends by e, and those that it started by its end
 abbrev pub Inside : ℕ → Log → Type 0
@@ -19,6 +22,7 @@ Inside e nil = Unit {0}
 Inside e (entry t x rest) = Inside e rest
 Inside e (sign l t rest) = Inside e rest
 Inside e (entered l t d rest) = Inside e rest
+Inside e (act label moment done rest) = Inside e rest
 Inside e (task l s u x own rest) = (u ≤ e) × Inside u own × Inside e rest
 
 -- so of two logs together, and of the first of them
@@ -27,6 +31,7 @@ inside_followed e nil b h k = k
 inside_followed e (entry t x rest) b h k = inside_followed e rest b h k
 inside_followed e (sign l t rest) b h k = inside_followed e rest b h k
 inside_followed e (entered l t d rest) b h k = inside_followed e rest b h k
+inside_followed e (act label moment done rest) b h k = inside_followed e rest b h k
 inside_followed e (task l s u x own rest) b h k = (h.0, h.1, inside_followed e rest b h.2 k)
 
 -- where each task of two logs together ends by e, and those that it started by its end, so it is in the first
@@ -35,6 +40,7 @@ inside_first e nil b h = tt
 inside_first e (entry t x rest) b h = inside_first e rest b h
 inside_first e (sign l t rest) b h = inside_first e rest b h
 inside_first e (entered l t d rest) b h = inside_first e rest b h
+inside_first e (act label moment done rest) b h = inside_first e rest b h
 inside_first e (task l s u x own rest) b h = (h.0, h.1, inside_first e rest b h.2)
 
 inside_later : (e f : ℕ) (a : Log) → e ≤ f → Inside e a → Inside f a
@@ -42,6 +48,7 @@ inside_later e f nil le h = tt
 inside_later e f (entry t x rest) le h = inside_later e f rest le h
 inside_later e f (sign l t rest) le h = inside_later e f rest le h
 inside_later e f (entered l t d rest) le h = inside_later e f rest le h
+inside_later e f (act label moment done rest) le h = inside_later e f rest le h
 inside_later e f (task l s u x own rest) le h = (by h.0, h.1, inside_later e f rest le h.2)
   where
     by : u ≤ e → u ≤ f
@@ -248,6 +255,73 @@ ends_cleaned body r go h k l =
     let both : Ends body (in_sequence r (go (now_of r))) = ends_joined body r (go (now_of r)) h (k (now_of r)) (l (now_of r)).ends in
     record { inside = both.inside; closed = both.closed }
 
+-- what was granted is noted, and what follows ends likewise
+ends_goes_on : (body : Bool) (label : Label) (m : ℕ) (go : Now → Result) → ((u : Now) → Ends body (go u)) → ((u : Now) → Late u.at (go u)) →
+    Ends body (goes_on label m go)
+ends_goes_on body label m go h l = ends_joined body (noted_at label m) (go (only_at m)) noted (h (only_at m)) (l (only_at m)).ends
+  where
+    noted : Ends body (noted_at label m)
+    noted = record { inside = tt; closed = λ e. refl }
+
+-- so does a block whose token comes back
+ends_token_back : (body : Bool) (label : Label) (r : Result) → Ends body r → Ends body (with_token_back label r)
+unfolding with_token_back
+ends_token_back body label r h = record {
+  inside = inside_followed (latest r.end r.members) r.log (act label r.end gives_back nil) h.inside tt;
+  closed = h.closed;
+}
+
+-- what a task does with what it is granted
+ends_granted : (body : Bool) (label : Label) (here : Here) (m : ℕ) (what : What) (go : Here → Now → Result) →
+    ((inner : Here) (u : Now) → Ends body (go inner u)) → ((inner : Here) (u : Now) → Late u.at (go inner u)) →
+    Ends body (granted_result label here m what go)
+ends_granted body label here m a_token go h l =
+    ends_goes_on body label m _ (λ u. ends_token_back body label _ (h here u)) (λ u. late_token_back u.at label _ (l here u))
+ends_granted body label here m was_sent go h l = ends_goes_on body label m _ (λ u. h here u) (λ u. l here u)
+ends_granted body label here m (a_part lent) go h l =
+    ends_goes_on body label m _ (λ u. h (record here { part = lent }) u) (λ u. l (record here { part = lent }) u)
+ends_granted body label here m closed_resource go h l = ends_raised body _ (only_at m)
+ends_granted body label here m end_of_channel go h l = ends_raised body _ (only_at m)
+
+-- who leaves the queue starts nothing
+ends_leaving : (body : Bool) (here : Here) (from : Tick) (left : ℕ) → Ends body (left_result here from left)
+ends_leaving body here from left = by_sight (is_reached from left)
+  where
+    by_sight : (b : Bool) → Ends body (if b then raised_at cancelled (only_at left)
+        else raised_at (raised (codes "Deadlock") here.task (tick_of here.clock left)) (only_at left))
+    by_sight true = ends_raised body _ (only_at left)
+    by_sight false = ends_raised body _ (only_at left)
+
+-- an act starts nothing
+ends_acted : (body : Bool) (label : Label) (m : ℕ) (a : Act) (r : Result) → Ends body r → Ends body (with_act label m a r)
+ends_acted body label m a r h = record { inside = h.inside; closed = h.closed }
+
+ends_asked : (body : Bool) (ask : Ask) (label : Label) (here : Here) (from : Tick) (m left : ℕ) (o : Option Granted) (go : Here → Now → Result) →
+    ((inner : Here) (u : Now) → Ends body (go inner u)) → ((inner : Here) (u : Now) → Late u.at (go inner u)) →
+    Ends body (asked_result ask label here from m left o go)
+ends_asked body ask label here from m left None go h l = ends_acted body label m _ _ (ends_leaving body here from left)
+ends_asked body ask label here from m left (Some g) go h l = ends_acted body label m _ _ (ends_granted body label here g.at g.what go h l)
+
+ends_asking : (body : Bool) (m : Mode) (ask : Ask) (label : Option Label) (here : Here) (st : Stack) (t : Now) (go : Here → Now → Result) →
+    ((inner : Here) (u : Now) → Ends body (go inner u)) → ((inner : Here) (u : Now) → Late u.at (go inner u)) →
+    Ends body (ask_result m ask label here st t go)
+unfolding ask_result
+ends_asking body m ask None here st t go h l = ends_done body t
+ends_asking body m ask (Some label) here st t go h l = by_sight (seen (stack_for t.own t.at st.scopes) t.at)
+  where
+    left : ℕ
+    left = leaves_queue (sight st.scopes) (last_grant here.clock t.at)
+
+    by_sight : (b : Bool) →
+        Ends body (if b then raised_at cancelled (only_at (gives_up_at here.clock 0 t.at)) else asks_in m ask label here st t.at go)
+    by_sight true = ends_raised body cancelled (only_at (gives_up_at here.clock 0 t.at))
+    by_sight false = ends_asked body ask label here (sight st.scopes) t.at left (in_time t.at left (grants_in m label here.task t.at)) go h l
+
+ends_closing : (body : Bool) (label : Option Label) (t : Now) → Ends body (close_result label t)
+unfolding close_result
+ends_closing body None t = ends_done body t
+ends_closing body (Some label) t = ends_acted body label t.at closes (done_at t) (ends_done body t)
+
 -- outside of a nursery's body nothing is open, so in one too
 ends_in : (body : Bool) (r : Result) → Ends false r → Ends body r
 ends_in body r h = record { inside = h.inside; closed = λ e. h.closed refl }
@@ -273,10 +347,15 @@ mutual
   ends_step m body (cancel name) here st t p = ends_cancelling body here.clock _ t
   ends_step m body (set_event name) here st t p = ends_setting body here.clock _ t
   ends_step m body (wait_for name) here st t p = ends_awaiting body here.clock st _ t
+  ends_step m body (ask_for name ask b) here st t p =
+      ends_in body _ (ends_asking false m ask _ here st t _ (λ inner u. ends m false b inner st u p) (λ inner u. late m b inner st u))
+  ends_step m body (close_channel name) here st t p = ends_closing body _ t
   ends_step m body (scope name d shield fail b) here st t p = ends_block body here.clock m _ _ t.at _ shield st _ (λ f. ends m false b here _ t p)
   ends_step m body (nursery name d shield b) here st t p =
       ends_block body here.clock m _ _ t.at _ shield st _ (λ f. ends_gathered false here.clock _ _ (ends_signed true _ _ (ends m true b here _ t p)))
   ends_step m body (event name b) here st t p = ends_event body m _ t.at _ (λ f. ends_in body _ (ends m false b here _ t p))
+  ends_step m body (object name kind b) here st t p =
+      ends_acted body _ t.at _ _ (ends_event body m _ t.at _ (λ f. ends_in body _ (ends m false b here _ t p)))
   ends_step m true (start name None b) here st t p = ends_child _ _ _ t (ends_signed false st _ (ends m false b _ st (only_at (a_round_after here.clock t.at)) p.1))
   ends_step m true (start name (Some k) b) here st t p =
       ends_each k _ t (λ i. child_ends _ (a_round_after here.clock t.at) _ t)

@@ -6,15 +6,15 @@ use Rattle.job_tree.specs.Tree.{Tree}
 use Rattle.exceptions.specs.Exceptions.{Label}
 use Rattle.job_meaning.specs.Log.{Table}
 use Rattle.job_meaning.specs.Moments.{a_round_after, Now}
-use Rattle.job_meaning.specs.Rest.{Event, noted, signs, enters, starts, Frame, steps_left, in_scope, in_event, in_nursery, in_repeat, in_try, in_handler, in_cleanup, Stopped, to_begin, asking, asleep, waiting_for, giving_up, awaiting, at_end}
-use Rattle.turn_semantics.specs.Midway.{Place, Begun, Move}
+use Rattle.job_meaning.specs.Rest.{Event, noted, signs, enters, acts, starts, Frame, steps_left, in_scope, in_event, with_token, with_part, in_nursery, in_repeat, in_try, in_handler, in_cleanup, Stopped, to_begin, asking, asleep, waiting_for, queued, giving_up, awaiting, at_end}
+use Rattle.turn_semantics.specs.Midway.{Place, Tables, Begun, Move}
 use Rattle.turn_semantics.specs.Placed.{PlacedStop, PlacedAfter, home_after, AllBelow, KidsBelow, KidsAfter, HasChild, WaitsFor, HasChildAfter, AllHoused}
-use Rattle.turn_semantics.specs.Wakes.{Wake, begins, sees, gives_up, is_due, has_answer, settles}
+use Rattle.turn_semantics.specs.Wakes.{Wake, begins, sees, gives_up, is_due, has_answer, is_granted, settles}
 use Rattle.turn_semantics.specs.Turned.{labels_of, AllKnown, known_after, EntersIn, Starts, BegunIn, TurnsOver}
 use Rattle.interleavings.specs.Interleaving.{Started, EachPlace, EntersWith, times_made, made_times, all_times, live}
 use Rattle.interleavings.specs.Going.{root_task, children_from, task_after_turn}
 use Rattle.interleavings.specs.Woken.{MayWake}
-use Rattle.interleavings.specs.Runs.{Reached, begun, turn, jump}
+use Rattle.interleavings.specs.Runs.{keeping, Reached, begun, turn, jump}
 use Rattle.interleavings.specs.Laws.{Home, home_of, IsHoused, TasksAreHoused, LastToLeave}
 use Rattle.interleavings.proofs.Picking.{SameTasks, front_same}
 use Rattle.interleavings.proofs.Readings.{in_second, in_either, made_few, made_counted, enters_too, enters_counted}
@@ -36,6 +36,8 @@ child_below n i home (in_scope fail ∷ fs) [] b h = absurd h
 child_below n i home (in_scope fail ∷ fs) (p ∷ ps) b h = child_below n i home fs ps b h
 child_below n i home (in_event ∷ fs) [] b h = absurd h
 child_below n i home (in_event ∷ fs) (p ∷ ps) b h = child_below n i home fs ps b h
+child_below n i home (with_token limiter ∷ fs) ps b h = child_below n i home fs ps b h
+child_below n i home (with_part received ∷ fs) ps b h = child_below n i home fs ps b h
 child_below n i home (in_nursery children ∷ fs) [] b h = absurd h
 child_below n i home (in_nursery children ∷ fs) (p ∷ ps) b (inl a) = among_below n i children b.0 a.0
 child_below n i home (in_nursery children ∷ fs) (p ∷ ps) b (inr h) = child_below n i home fs ps b.1 h
@@ -51,6 +53,7 @@ stop_below n i home to_begin fs ps b (inr h) = child_below n i home fs ps b h
 stop_below n i home (asking kernel purpose) fs ps b (inr h) = child_below n i home fs ps b h
 stop_below n i home (asleep paced m since) fs ps b (inr h) = child_below n i home fs ps b h
 stop_below n i home (waiting_for event since) fs ps b (inr h) = child_below n i home fs ps b h
+stop_below n i home (queued object ask since body) fs ps b (inr h) = child_below n i home fs ps b h
 stop_below n i home (giving_up since) fs ps b (inr h) = child_below n i home fs ps b h
 stop_below n i home (awaiting children ended exc) fs [] b (inr h) = child_below n i home fs [] b.1 h
 stop_below n i home (awaiting children ended exc) fs (p ∷ ps) b (inl a) = among_below n i children b.0 a.0
@@ -60,6 +63,7 @@ stop_below n i home to_begin fs ps b (inl h) = absurd h
 stop_below n i home (asking kernel purpose) fs ps b (inl h) = absurd h
 stop_below n i home (asleep paced m since) fs ps b (inl h) = absurd h
 stop_below n i home (waiting_for event since) fs ps b (inl h) = absurd h
+stop_below n i home (queued object ask since body) fs ps b (inl h) = absurd h
 stop_below n i home (giving_up since) fs ps b (inl h) = absurd h
 stop_below n i home (awaiting children ended exc) fs [] b (inl h) = absurd h
 stop_below n i home (at_end u e) fs ps b (inl h) = absurd h
@@ -67,11 +71,12 @@ stop_below n i home (at_end u e) fs ps b (inl h) = absurd h
 -- ---- which tasks may be woken
 
 -- a task that may be woken has not ended
-wakes_live : (f : Table) (qs : List Started) (t : Now) (q : Started) (w : Wake) (s : Stopped) → MayWake f qs t q w s → live s ≡ true
+wakes_live : (f : Tables) (qs : List Started) (t : Now) (q : Started) (w : Wake) (s : Stopped) → MayWake f qs t q w s → live s ≡ true
 wakes_live f qs t q w to_begin h = refl
 wakes_live f qs t q w (asking kernel purpose) h = refl
 wakes_live f qs t q w (asleep paced n since) h = refl
 wakes_live f qs t q w (waiting_for event since) h = refl
+wakes_live f qs t q w (queued object ask since body) h = refl
 wakes_live f qs t q w (giving_up since) h = refl
 wakes_live f qs t q w (awaiting children ended exc) h = refl
 wakes_live f qs t q begins (at_end u e) h = absurd h
@@ -79,10 +84,11 @@ wakes_live f qs t q sees (at_end u e) h = absurd h
 wakes_live f qs t q gives_up (at_end u e) h = absurd h
 wakes_live f qs t q is_due (at_end u e) h = absurd h
 wakes_live f qs t q (has_answer a) (at_end u e) h = absurd h
+wakes_live f qs t q (is_granted what) (at_end u e) h = absurd h
 wakes_live f qs t q (settles x) (at_end u e) h = absurd h
 
 -- and none for which it waited is live
-none_waited : (f : Table) (qs : List Started) (t : Now) (q : Started) (w : Wake) (s : Stopped) (ps : List Place) → MayWake f qs t q w s →
+none_waited : (f : Tables) (qs : List Started) (t : Now) (q : Started) (w : Wake) (s : Stopped) (ps : List Place) → MayWake f qs t q w s →
     (i : ℕ) (home : List Place) → WaitsFor i home (Some s) ps → (c : Started) → IsAmong c qs → c.serial ≡ q.child i →
     live c.rest.stopped ≡ true → ⊥
 none_waited f qs t q (settles x) (awaiting children ended e) (p ∷ ps) h i home a c among serial l =
@@ -94,11 +100,13 @@ none_waited f qs t q sees (awaiting children ended e) (p ∷ ps) h i home a c am
 none_waited f qs t q gives_up (awaiting children ended e) (p ∷ ps) h i home a c among serial l = absurd h
 none_waited f qs t q is_due (awaiting children ended e) (p ∷ ps) h i home a c among serial l = absurd h
 none_waited f qs t q (has_answer b) (awaiting children ended e) (p ∷ ps) h i home a c among serial l = absurd h
+none_waited f qs t q (is_granted what) (awaiting children ended e) (p ∷ ps) h i home a c among serial l = absurd h
 none_waited f qs t q w (awaiting children ended e) [] h i home a c among serial l = absurd a
 none_waited f qs t q w to_begin ps h i home a c among serial l = absurd a
 none_waited f qs t q w (asking kernel purpose) ps h i home a c among serial l = absurd a
 none_waited f qs t q w (asleep paced n since) ps h i home a c among serial l = absurd a
 none_waited f qs t q w (waiting_for event since) ps h i home a c among serial l = absurd a
+none_waited f qs t q w (queued object ask since body) ps h i home a c among serial l = absurd a
 none_waited f qs t q w (giving_up since) ps h i home a c among serial l = absurd a
 none_waited f qs t q w (at_end u e) ps h i home a c among serial l = absurd a
 
@@ -124,6 +132,7 @@ enters_before l (noted t e ∷ es) more h = enters_before l es more h
 enters_before l (signs m t ∷ es) more h = enters_before l es more h
 enters_before l (enters m t d ∷ es) more (inl e) = inl e
 enters_before l (enters m t d ∷ es) more (inr h) = inr (enters_before l es more h)
+enters_before l (acts label moment done ∷ es) more h = enters_before l es more h
 enters_before l (starts i m t ∷ es) more h = enters_before l es more h
 
 enters_after : (l : Label) (es more : List Event) → EntersIn l more → EntersIn l (es ++ more)
@@ -131,12 +140,13 @@ enters_after l [] more h = h
 enters_after l (noted t e ∷ es) more h = enters_after l es more h
 enters_after l (signs m t ∷ es) more h = enters_after l es more h
 enters_after l (enters m t d ∷ es) more h = inr (enters_after l es more h)
+enters_after l (acts label moment done ∷ es) more h = enters_after l es more h
 enters_after l (starts i m t ∷ es) more h = enters_after l es more h
 
 -- ---- a turn
 
-module _ (k f : Table) (now : Now) (m : ℕ) (q : Started) (ys : List Started) (wake : Wake) (o : Move) (s : Stopped)
-    (all : (x : Started) → IsAmong x (q ∷ ys) → IsHoused (q ∷ ys) x) (may : MayWake f (q ∷ ys) now q wake q.rest.stopped)
+module _ (k : Tables) (f : Table) (now : Now) (m : ℕ) (q : Started) (ys : List Started) (wake : Wake) (o : Move) (s : Stopped)
+    (all : (x : Started) → IsAmong x (q ∷ ys) → IsHoused (q ∷ ys) x) (may : MayWake (keeping f k) (q ∷ ys) now q wake q.rest.stopped)
     (goes : TurnsOver q.stop now q.here f wake q.rest q.places q.count o) (stopped : o.stopped ≡ Some s)
     (small : (x : Started) → IsAmong x (q ∷ ys) → x.serial < m) where
   -- the moment in which the new children begin
@@ -175,7 +185,7 @@ module _ (k f : Table) (now : Now) (m : ℕ) (q : Started) (ys : List Started) (
         where
           by_wait : HasChildAfter number home (Some q.rest.stopped) q.rest.frames q.places →
               HasChildAfter number home o.stopped o.frames o.places
-          by_wait (inl a) = absurd (none_waited f (q ∷ ys) now q wake q.rest.stopped q.places may number home a x i (e ∙ same) l)
+          by_wait (inl a) = absurd (none_waited (keeping f k) (q ∷ ys) now q wake q.rest.stopped q.places may number home a x i (e ∙ same) l)
           by_wait (inr a) = goes.stays number home a
 
       by_starter : IsAmong h.starter (q ∷ ys) → Home after_turn serial home
@@ -203,7 +213,7 @@ module _ (k f : Table) (now : Now) (m : ℕ) (q : Started) (ys : List Started) (
   }
     where
       before : live q.rest.stopped ≡ true
-      before = wakes_live f (q ∷ ys) now q wake q.rest.stopped may
+      before = wakes_live (keeping f k) (q ∷ ys) now q wake q.rest.stopped may
 
       same_home : home_of q' ≡ home_of q
       same_home = here_stopped (λ (z : Option Stopped). home_after z o.frames o.places
@@ -240,6 +250,7 @@ module _ (k f : Table) (now : Now) (m : ℕ) (q : Started) (ys : List Started) (
   begun_housed i n j (noted u y ∷ es) (c ∷ bs) a e g b h x z = begun_housed i n j es (c ∷ bs) a e g b h x z
   begun_housed i n j (signs l u ∷ es) (c ∷ bs) a e g b h x z = begun_housed i n j es (c ∷ bs) a e g b h x z
   begun_housed i n j (enters l u d ∷ es) (c ∷ bs) a e g b h x z = begun_housed i n j es (c ∷ bs) a e g b h x z
+  begun_housed i n j (acts label moment done ∷ es) (c ∷ bs) a e g b h x z = begun_housed i n j es (c ∷ bs) a e g b h x z
   begun_housed i n j (starts v l u ∷ es) (c ∷ bs) a e g b h x (inr z) =
       begun_housed (suc i) (suc n) (suc j) es bs a.3 (omega arith) (omega arith) b.2 h.1 x z
   begun_housed i n j (starts v l u ∷ es) (c ∷ bs) a e g b h x (inl z) = subst (λ (y : Started). IsHoused after_turn y) (sym z) (record {
@@ -306,7 +317,7 @@ housed_moved qs rs same all x i = record { placed = h.placed; kids = h.kids; own
     })
 
 -- serial numbers are below the number of tasks started
-serials_below : (k : Table) (job : Tree) (input : List ℕ) (f : Table) (t m : ℕ) (qs : List Started) → Reached k job input f t m qs →
+serials_below : (k : Tables) (job : Tree) (input : List ℕ) (f : Table) (t m : ℕ) (qs : List Started) → Reached k job input f t m qs →
     (x : Started) → IsAmong x qs → x.serial < m
 serials_below k job input f t m _ (begun f') x (inl e) = let a : x.serial ≡ 0 = ap (λ (z : Started). z.serial) e in omega arith
 serials_below k job input f t m _ (begun f') x (inr i) = absurd i
@@ -345,6 +356,8 @@ home_among i l home (in_scope fail ∷ fs) [] h k = absurd h
 home_among i l home (in_scope fail ∷ fs) (p ∷ ps) h k = inr (home_among i l home fs ps h k)
 home_among i l home (in_event ∷ fs) [] h k = absurd h
 home_among i l home (in_event ∷ fs) (p ∷ ps) h k = inr (home_among i l home fs ps h k)
+home_among i l home (with_token limiter ∷ fs) ps h k = home_among i l home fs ps h k
+home_among i l home (with_part received ∷ fs) ps h k = home_among i l home fs ps h k
 home_among i l home (in_nursery children ∷ fs) [] h k = absurd h
 home_among i l home (in_nursery children ∷ fs) (p ∷ ps) (inl a) k = subst (λ (rs : List Place). IsAmong l (labels_of rs)) a.1 k
 home_among i l home (in_nursery children ∷ fs) (p ∷ ps) (inr h) k = inr (home_among i l home fs ps h k)
@@ -362,9 +375,11 @@ home_within i l home (asking kernel purpose) fs ps (inl h) k = absurd h
 home_within i l home (asking kernel purpose) fs ps (inr h) k = home_among i l home fs ps h k
 home_within i l home (asleep paced n since) fs ps (inl h) k = absurd h
 home_within i l home (waiting_for event since) fs ps (inl h) k = absurd h
+home_within i l home (queued object ask since body) fs ps (inl h) k = absurd h
 home_within i l home (giving_up since) fs ps (inl h) k = absurd h
 home_within i l home (asleep paced n since) fs ps (inr h) k = home_among i l home fs ps h k
 home_within i l home (waiting_for event since) fs ps (inr h) k = home_among i l home fs ps h k
+home_within i l home (queued object ask since body) fs ps (inr h) k = home_among i l home fs ps h k
 home_within i l home (giving_up since) fs ps (inr h) k = home_among i l home fs ps h k
 home_within i l home (awaiting children ended exc) fs [] (inl h) k = absurd h
 home_within i l home (awaiting children ended exc) fs [] (inr h) k = home_among i l home fs [] h k
@@ -380,6 +395,7 @@ has_live i home to_begin fs ps p h = refl
 has_live i home (asking kernel purpose) fs ps p h = refl
 has_live i home (asleep paced n since) fs ps p h = refl
 has_live i home (waiting_for event since) fs ps p h = refl
+has_live i home (queued object ask since body) fs ps p h = refl
 has_live i home (giving_up since) fs ps p h = refl
 has_live i home (awaiting children ended exc) fs ps p h = refl
 has_live i home (at_end u e) fs ps p (inl h) = absurd h

@@ -6,23 +6,25 @@ use Rattle.std.specs.Str.{bytes_eq}
 use Rattle.turn_semantics.specs.Lists.{IsAmong}
 use Rattle.exceptions.specs.Exceptions.{Label, Exc, cancelled}
 use Rattle.cancel_scopes.specs.Sight.{Tick, Level, is_reached, sight, seen}
-use Rattle.job_meaning.specs.Log.{nil, Member, Result, Table}
+use Rattle.job_meaning.specs.Log.{nil, Member, Result, least_sign, Table}
 use Rattle.job_meaning.specs.Moments.{tick_of, a_round_after, far, wakes_at, gives_up_at, Now, only_at}
 use Rattle.job_meaning.specs.declared.clock.Clock.{Clock}
 use Rattle.job_meaning.specs.declared.clock.Clock.TheVariants.{ByTicks as by_ticks, ByRounds as by_rounds}
-use Rattle.job_meaning.specs.Walk.{Levels, Stack, by_table, Here, done_at, raised_at, pace_ticks, wait_by_sight, sleep_result, pace_result, wait_until, set_moment, wait_by, with_line_if, with_line, event_wait, label_if, level_if, event_on, a_nursery, nursery_result, latest}
+use Rattle.job_meaning.specs.Walk.{Levels, Stack, Here, walk, last_grant, leaves_queue, in_time, done_at, raised_at, pace_ticks, wait_by_sight, sleep_result, pace_result, wait_until, set_moment, wait_by, with_line_if, with_line, event_wait, label_if, level_if, event_on, a_nursery, nursery_result, latest}
 use Rattle.job_meaning.specs.Before.{upto}
 use Rattle.job_meaning.specs.Asking.{Answer, lines, missing, counted, answer_of, Purpose, shows, needs, paces, answer_result}
-use Rattle.job_meaning.specs.Rest.{ChildOutcomes, outcome_members, Frame, Stopped, to_begin, asking, asleep, waiting_for, giving_up, awaiting, at_end, wait_result, rest_comes_to, inside}
+use Rattle.job_meaning.specs.Rest.{ChildOutcomes, outcome_members, Frame, Stopped, to_begin, asking, asleep, waiting_for, queued, giving_up, awaiting, at_end, finish, queue_result, wait_result, rest_comes_to, inside}
 use Rattle.job_meaning.proofs.MomentLemmas.{wakes_after, gives_up_after}
-use Rattle.job_meaning.proofs.Late.{Late, Timed, timed_earlier, late_done, late_raised, late_raising, late_waited, late_pacing, late_until, late_showing, latest_ends}
+use Rattle.job_meaning.proofs.Late.{Late, Timed, late, timed_earlier, late_done, late_raised, late_raising, late_waited, late_pacing, late_until, late_showing, latest_ends}
 use Rattle.job_meaning.proofs.Clips.{NearEvents}
 use Rattle.job_meaning.proofs.LateRest.{late_left, late_finish}
-use Rattle.turn_semantics.specs.Midway.{Place, label_among, level_on, stack_at}
+use Rattle.turn_semantics.specs.Midway.{Place, label_among, level_on, Tables, by_tables, stack_at}
 use Rattle.turn_semantics.specs.Placed.{IsSome, PlacedStop}
 use Rattle.turn_semantics.specs.Wakes.{set_at, IsBefore, SeesAt, SeesWaiting, GoesOnWaiting}
-use Rattle.interleavings.specs.Interleaving.{live, slept, goes_on}
+use Rattle.turn_semantics.proofs.Agreeing.{event_at_places}
+use Rattle.interleavings.specs.Interleaving.{live, slept, leaves_by, goes_on, leaves_at}
 use Rattle.interleavings.specs.Woken.{SeesNow, IsOver}
+use Rattle.interleavings.proofs.Queues.{pending_asked, pending_finish, PendingOn, LateFrom, late_from_unsigned}
 
 late_earlier : (v t : ℕ) (r : Result) → v ≤ t → Late t r → Late v r
 late_earlier v t r le h = let e : t ≤ r.end = h.ends in record { ends = omega arith; timed = timed_earlier v t r.log le h.timed }
@@ -348,50 +350,80 @@ late_settled v clock ms u exc l outer now h =
     late_left v clock a_nursery l outer (nursery_result clock l.label (record { end = u; own = []; exc = exc; members = ms; log = nil }))
     (record { ends = h; timed = tt })
 
-module _ (k : Table) (outcomes : ChildOutcomes) (here : Here) (t : Now) (v : ℕ) where
-  -- what a live task has left is as late as the moment of its next turn
+module _ (k : Tables) (outcomes : ChildOutcomes) (here : Here) (t : Now) (v : ℕ) where
+  -- What a live task has left is as late as the moment of its next turn, but for what it asked, if it is in a queue.
   pub late_rest : (s : Stopped) (fs : List Frame) (ps : List Place) → PlacedStop s fs ps → live s ≡ true →
-      v ≤ goes_on here.clock outcomes s (stack_at k ps) t.at →
-      Late v (rest_comes_to (by_table k) outcomes (record { stopped = s; frames = fs }) here (stack_at k ps) t)
-  late_rest to_begin fs ps h l le = late_finish fs v (by_table k) outcomes here (stack_at k ps) (done_at t) (late_done v t le)
+      v ≤ goes_on here.clock outcomes s (stack_at k.cancelled_from ps) (leaves_at k s here ps) t.at →
+      LateFrom v here fs ps s (rest_comes_to (by_tables k) outcomes (record { stopped = s; frames = fs }) here (stack_at k.cancelled_from ps) t)
+  late_rest to_begin fs ps h l le = late_finish fs v (by_tables k) outcomes here (stack_at k.cancelled_from ps) (done_at t) (late_done v t le)
   late_rest (asking kernel purpose) fs ps h l le =
-      late_finish fs v (by_table k) outcomes here (stack_at k ps) (answer_result (answer_of kernel (inside fs here)) purpose here (stack_at k ps) t)
-      (late_earlier v t.at _ le (late_answered (answer_of kernel (inside fs here)) purpose here (stack_at k ps) t))
+      late_finish fs v (by_tables k) outcomes here (stack_at k.cancelled_from ps)
+      (answer_result (answer_of kernel (inside fs here)) purpose here (stack_at k.cancelled_from ps) t)
+      (late_earlier v t.at _ le (late_answered (answer_of kernel (inside fs here)) purpose here (stack_at k.cancelled_from ps) t))
   late_rest (asleep false n since) fs ps h l le =
-      late_finish fs v (by_table k) outcomes here (stack_at k ps) (sleep_result here.clock (stack_at k ps) n since)
-      (late_slept v here.clock false (stack_at k ps) n since (omega arith))
+      late_finish fs v (by_tables k) outcomes here (stack_at k.cancelled_from ps) (sleep_result here.clock (stack_at k.cancelled_from ps) n since)
+      (late_slept v here.clock false (stack_at k.cancelled_from ps) n since (omega arith))
   late_rest (asleep true n since) fs ps h l le =
-      late_finish fs v (by_table k) outcomes here (stack_at k ps) (pace_result here.clock (stack_at k ps) n since)
-      (late_slept v here.clock true (stack_at k ps) n since (omega arith))
+      late_finish fs v (by_tables k) outcomes here (stack_at k.cancelled_from ps) (pace_result here.clock (stack_at k.cancelled_from ps) n since)
+      (late_slept v here.clock true (stack_at k.cancelled_from ps) n since (omega arith))
   late_rest (waiting_for event since) fs ps h l le =
-      late_finish fs v (by_table k) outcomes here (stack_at k ps) _
-      (late_awaited v here.clock (stack_at k ps) (event_on event (stack_at k ps).events) since (omega arith))
+      late_finish fs v (by_tables k) outcomes here (stack_at k.cancelled_from ps) _
+      (late_awaited v here.clock (stack_at k.cancelled_from ps) (event_on event (stack_at k.cancelled_from ps).events) since (omega arith))
+  late_rest (queued object ask since body) fs ps h l le =
+      subst (λ (x : Option Label). PendingOn v (label_among true object ps) since ask (inside fs here).part (asked x))
+      (sym (event_at_places k.cancelled_from object ps)) (by_label (label_among true object ps) h.0 le)
+    where
+      st : Stack
+      st = stack_at k.cancelled_from ps
+
+      -- what comes of the ask of an object with this label
+      asked : Option Label → Result
+      asked x =
+          finish (by_tables k) outcomes fs here (stack_at k.cancelled_from ps)
+          (queue_result (by_tables k) ask x (inside fs here) (stack_at k.cancelled_from ps) since
+          (λ inner u. walk (by_tables k) body inner (stack_at k.cancelled_from ps) u))
+
+      by_label : (x : Option Label) → IsSome x → v ≤ leaves_by k here x since (stack_at k.cancelled_from ps) →
+          PendingOn v x since ask (inside fs here).part (asked x)
+      by_label None some i = absurd some
+      by_label (Some label) some i =
+          pending_finish fs v (by_tables k) outcomes here st label since ask (inside fs here).part _
+          (pending_asked v ask label (inside fs here) (sight st.scopes) since (leaves_queue (sight st.scopes) (last_grant here.clock since))
+          (in_time since (leaves_queue (sight st.scopes) (last_grant here.clock since)) (k.granted label here.task since))
+          (λ inner u. walk (by_tables k) body inner st u) i (λ inner u. late (by_tables k) body inner st u))
   late_rest (giving_up since) fs ps h l le =
-      late_finish fs v (by_table k) outcomes here (stack_at k ps) (raised_at cancelled (only_at (suc since)))
+      late_finish fs v (by_tables k) outcomes here (stack_at k.cancelled_from ps) (raised_at cancelled (only_at (suc since)))
       (late_raised cancelled v (only_at (suc since)) le)
   late_rest (awaiting children ended exc) fs [] h l le = absurd h
   late_rest (awaiting children ended exc) fs (p ∷ ps) h l le = by_kind p.is_event h.0
     where
       by_kind : (b : Bool) → b ≡ false →
-          (let st : Stack = level_on b (record { label = p.label; shield = p.shield; from = k p.label }) (stack_at k ps) in
-          Late v (rest_comes_to (by_table k) outcomes (record { stopped = awaiting children ended exc; frames = fs }) here st t))
+          (let st : Stack = level_on b (record { label = p.label; shield = p.shield; from = k.cancelled_from p.label }) (stack_at k.cancelled_from ps) in
+          Late v (rest_comes_to (by_tables k) outcomes (record { stopped = awaiting children ended exc; frames = fs }) here st t))
       by_kind true e = absurd (true≢false e)
       by_kind false e =
-          late_finish fs v (by_table k) outcomes here (stack_at k ps) _
-          (late_settled v here.clock (outcome_members outcomes children) ended exc _ (stack_at k ps).scopes t le)
+          late_finish fs v (by_tables k) outcomes here (stack_at k.cancelled_from ps) _
+          (late_settled v here.clock (outcome_members outcomes children) ended exc _ (stack_at k.cancelled_from ps).scopes t le)
   late_rest (at_end u e) fs ps h l le = cc
 
-  -- and what any task has left happens then or later
-  pub timed_rest : (s : Stopped) (fs : List Frame) (ps : List Place) → PlacedStop s fs ps →
-      (live s ≡ true → v ≤ goes_on here.clock outcomes s (stack_at k ps) t.at) → Timed v
-      (rest_comes_to (by_table k) outcomes (record { stopped = s; frames = fs }) here (stack_at k ps) t).log
-  timed_rest to_begin fs ps h le = (late_rest to_begin fs ps h refl (le refl)).timed
-  timed_rest (asking kernel purpose) fs ps h le = (late_rest (asking kernel purpose) fs ps h refl (le refl)).timed
-  timed_rest (asleep paced n since) fs ps h le = (late_rest (asleep paced n since) fs ps h refl (le refl)).timed
-  timed_rest (waiting_for event since) fs ps h le = (late_rest (waiting_for event since) fs ps h refl (le refl)).timed
-  timed_rest (giving_up since) fs ps h le = (late_rest (giving_up since) fs ps h refl (le refl)).timed
-  timed_rest (awaiting children ended exc) fs ps h le = (late_rest (awaiting children ended exc) fs ps h refl (le refl)).timed
-  timed_rest (at_end u e) fs ps h le = tt
+  -- and what any task has left has no sign before
+  pub unsigned_rest : (s : Stopped) (fs : List Frame) (ps : List Place) → PlacedStop s fs ps →
+      (live s ≡ true → v ≤ goes_on here.clock outcomes s (stack_at k.cancelled_from ps) (leaves_at k s here ps) t.at) → (l : Label) →
+      upto v (least_sign l (rest_comes_to (by_tables k) outcomes (record { stopped = s; frames = fs }) here (stack_at k.cancelled_from ps) t).log) ≡ v
+  unsigned_rest to_begin fs ps h le = late_from_unsigned v here fs ps to_begin _ (late_rest to_begin fs ps h refl (le refl))
+  unsigned_rest (asking kernel purpose) fs ps h le =
+      late_from_unsigned v here fs ps (asking kernel purpose) _ (late_rest (asking kernel purpose) fs ps h refl (le refl))
+  unsigned_rest (asleep paced n since) fs ps h le =
+      late_from_unsigned v here fs ps (asleep paced n since) _ (late_rest (asleep paced n since) fs ps h refl (le refl))
+  unsigned_rest (waiting_for event since) fs ps h le =
+      late_from_unsigned v here fs ps (waiting_for event since) _ (late_rest (waiting_for event since) fs ps h refl (le refl))
+  unsigned_rest (queued object ask since body) fs ps h le =
+      late_from_unsigned v here fs ps (queued object ask since body) _ (late_rest (queued object ask since body) fs ps h refl (le refl))
+  unsigned_rest (giving_up since) fs ps h le =
+      late_from_unsigned v here fs ps (giving_up since) _ (late_rest (giving_up since) fs ps h refl (le refl))
+  unsigned_rest (awaiting children ended exc) fs ps h le =
+      late_from_unsigned v here fs ps (awaiting children ended exc) _ (late_rest (awaiting children ended exc) fs ps h refl (le refl))
+  unsigned_rest (at_end u e) fs ps h le l = refl
 
 -- a child's end is no later than that of its nursery
 pub latest_in : (outcomes : ChildOutcomes) (u : ℕ) (is : List ℕ) (i : ℕ) → IsAmong i is → (outcomes i).end ≤ latest u (outcome_members outcomes is)

@@ -1,5 +1,6 @@
 pub mod Readings
 pub mod Contract
+pub mod Queues
 pub mod Lateness
 pub mod Agreement
 pub mod Commit

@@ -2,10 +2,10 @@
 use Rattle.std.proofs.Common.{◌≡◌, ℕ, zero, suc, ◌+◌, ◌<◌, ◌≤◌, true, List, [], ◌∷◌, refl, sym, ap, subst, ◌⊎◌, inl, inr, arith}
 use Rattle.turn_semantics.specs.Lists.{IsAmong}
 use Rattle.job_meaning.specs.Log.{Log, Result, Table, followed_by}
-use Rattle.job_meaning.specs.Walk.{by_table}
-use Rattle.job_meaning.specs.Rest.{Event, noted, signs, enters, starts, ChildOutcomes, fill, Stopped, to_begin, asking, asleep, waiting_for, giving_up, awaiting, at_end, rest_comes_to}
-use Rattle.turn_semantics.specs.Midway.{stack_at}
+use Rattle.job_meaning.specs.Rest.{Event, noted, signs, enters, acts, starts, ChildOutcomes, fill, Stopped, to_begin, asking, asleep, waiting_for, queued, giving_up, awaiting, at_end, rest_comes_to}
+use Rattle.turn_semantics.specs.Midway.{Tables, by_tables, stack_at}
 use Rattle.interleavings.specs.Interleaving.{Started, StartsChild, Kid, Parent, RunInvariant, live, AllFrom, Unended, Settling, StaysUntil, Blocked}
+use Rattle.interleavings.specs.Runs.{keeping}
 use Rattle.interleavings.specs.Laws.{HasNextTurn, GoesOn}
 use Rattle.interleavings.proofs.Agreement.{outcomes_tell, ends_at}
 use Rattle.interleavings.proofs.Ends.{Inside, inside_first}
@@ -17,14 +17,15 @@ inside_child e outcomes i [] h s = absurd s
 inside_child e outcomes i (noted t x ∷ es) h s = inside_child e outcomes i es h s
 inside_child e outcomes i (signs l t ∷ es) h s = inside_child e outcomes i es h s
 inside_child e outcomes i (enters l t d ∷ es) h s = inside_child e outcomes i es h s
+inside_child e outcomes i (acts label moment done ∷ es) h s = inside_child e outcomes i es h s
 inside_child e outcomes i (starts j l t ∷ es) h (inl p) =
     subst (λ (n : ℕ). ((outcomes n).end ≤ e) × Inside (outcomes n).end (outcomes n).log) (sym p) (h.0, h.1)
 inside_child e outcomes i (starts j l t ∷ es) h (inr s) = inside_child e outcomes i es h.2 s
 
-module _ (k f : Table) (whole : Result) (qs : List Started) (o : RunInvariant k f whole qs) where
+module _ (k : Tables) (f : Table) (whole : Result) (qs : List Started) (o : RunInvariant k f whole qs) where
   -- what a task did is first in the log of its whole result
   log_of : (q : Started) → IsAmong q qs → followed_by (fill q.outcomes q.made)
-      (rest_comes_to (by_table k) q.outcomes q.rest q.here (stack_at k q.places) q.stop).log ≡ q.final_result.log
+      (rest_comes_to (by_tables k) q.outcomes q.rest q.here (stack_at k.cancelled_from q.places) q.stop).log ≡ q.final_result.log
   log_of q i = ap (λ (r : Result). r.log) ((o.fits q i).comes q.outcomes (outcomes_tell q))
 
   -- each task ends by the end of the whole, where each of the whole's does
@@ -61,7 +62,7 @@ module _ (k f : Table) (whole : Result) (qs : List Started) (o : RunInvariant k 
       omega arith
 
   -- in a blocked run some task has a next turn: a task that waits does so for a child that has not ended, or its nursery settles
-  pub has_next : (u bound : ℕ) → Blocked f qs u → ((q : Started) → IsAmong q qs → q.serial < bound) → (n : ℕ) (q : Started) → IsAmong q qs →
+  pub has_next : (u bound : ℕ) → Blocked (keeping f k) qs u → ((q : Started) → IsAmong q qs → q.serial < bound) → (n : ℕ) (q : Started) → IsAmong q qs →
       live q.rest.stopped ≡ true → bound ≤ q.serial + n → GoesOn qs
   has_next u m b small zero q i a z = let w : q.serial < m = small q i in absurd (omega arith)
   has_next u m b small (suc n) q i a z =
@@ -71,7 +72,7 @@ module _ (k f : Table) (whole : Result) (qs : List Started) (o : RunInvariant k 
       let x : q.serial < kid.kid.serial = kid.later in
       has_next u m b small n kid.kid kid.among (c.alive kid.kid kid.among kid.serial) (omega arith))
     where
-      by_stop : (s : Stopped) → q.rest.stopped ≡ s → live s ≡ true → StaysUntil f qs u q s →
+      by_stop : (s : Stopped) → q.rest.stopped ≡ s → live s ≡ true → StaysUntil (keeping f k) qs u q s →
           ((children : List ℕ) (c : Unended qs q children) → GoesOn qs) → GoesOn qs
       by_stop to_begin e l p go = record { next = q; among = i; has = subst (λ (x : Stopped). HasNextTurn qs q x) (sym e) tt }
       by_stop (asking kernel purpose) e l p go =
@@ -79,6 +80,8 @@ module _ (k f : Table) (whole : Result) (qs : List Started) (o : RunInvariant k 
       by_stop (asleep paced d since) e l p go =
           record { next = q; among = i; has = subst (λ (x : Stopped). HasNextTurn qs q x) (sym e) tt }
       by_stop (waiting_for event since) e l p go =
+          record { next = q; among = i; has = subst (λ (x : Stopped). HasNextTurn qs q x) (sym e) tt }
+      by_stop (queued object ask since body) e l p go =
           record { next = q; among = i; has = subst (λ (x : Stopped). HasNextTurn qs q x) (sym e) tt }
       by_stop (giving_up since) e l p go =
           record { next = q; among = i; has = subst (λ (x : Stopped). HasNextTurn qs q x) (sym e) tt }

@@ -4,7 +4,7 @@ use Rattle.turn_semantics.specs.Lists.{IsAmong}
 use Rattle.exceptions.specs.Exceptions.{Label}
 use Rattle.job_meaning.specs.Log.{Result, Table}
 use Rattle.job_meaning.specs.Before.{upto}
-use Rattle.turn_semantics.specs.Midway.{Place}
+use Rattle.turn_semantics.specs.Midway.{Place, Tables}
 use Rattle.interleavings.specs.Interleaving.{Started, made_least, all_least, made_times, all_times, Kid, HasFrom, Parent, Entered, EachPlace, RunInvariant, AllFrom}
 use Rattle.interleavings.specs.Runs.{Front, is_front, after_one}
 
@@ -55,7 +55,7 @@ front_same q _ _ (after_one q' x qs' others' at) = go (front_same q' qs' others'
         here z (inr (inl e)) = inl e
         here z (inr (inr n)) = inr (p.back z (inr n))
 
-module _ (k f : Table) (whole : Result) (qs rs : List Started) (same : SameTasks qs rs) where
+module _ (k : Tables) (f : Table) (whole : Result) (qs rs : List Started) (same : SameTasks qs rs) where
   kid_moved : (q : Started) (i : ℕ) → Kid qs q i → Kid rs q i
   kid_moved q i c = record { kid = c.kid; among = same.forth c.kid c.among; serial = c.serial; later = c.later; same = c.same }
 
@@ -71,7 +71,7 @@ module _ (k f : Table) (whole : Result) (qs rs : List Started) (same : SameTasks
     same = p.same;
   })
 
-  known_moved : (l : Label) (d : _) → HasFrom k f whole.log qs l d → HasFrom k f whole.log rs l d
+  known_moved : (l : Label) (d : _) → HasFrom k.cancelled_from f whole.log qs l d → HasFrom k.cancelled_from f whole.log rs l d
   known_moved l d p = record {
     settled = p.settled;
     kept = λ c. p.kept c

@@ -3,9 +3,9 @@ use Rattle.std.proofs.Common.{◌≡◌, ℕ, suc, ◌+◌, ◌≤◌, min, Bool
 use Rattle.turn_semantics.specs.Lists.{IsAmong}
 use Rattle.exceptions.specs.Exceptions.{Label}
 use Rattle.cancel_scopes.specs.Sight.{Tick, next}
-use Rattle.job_meaning.specs.Log.{Log, nil, entry, sign, entered, task, followed_by, same_label, tick_if, least_sign, from_by, times_entered}
+use Rattle.job_meaning.specs.Log.{Log, nil, entry, sign, entered, act, task, followed_by, same_label, tick_if, least_sign, from_by, times_entered}
 use Rattle.job_meaning.specs.Before.{upto}
-use Rattle.job_meaning.specs.Rest.{Event, noted, signs, enters, starts, ChildOutcomes, fill}
+use Rattle.job_meaning.specs.Rest.{Event, noted, signs, enters, acts, starts, ChildOutcomes, fill}
 use Rattle.job_meaning.proofs.Clips.{upto_most, upto_earlier}
 use Rattle.job_meaning.proofs.Distinct.{same_label_itself}
 use Rattle.job_meaning.proofs.Touched.{least_followed}
@@ -61,6 +61,7 @@ first_join c l (signs m t ∷ xs) ys =
       first_join c l xs ys,
     )
 first_join c l (enters m t d ∷ xs) ys = first_join c l xs ys
+first_join c l (acts label moment done ∷ xs) ys = first_join c l xs ys
 first_join c l (starts i m t ∷ xs) ys = first_join c l xs ys
 
 -- and how often they enter a label
@@ -70,6 +71,7 @@ times_join l [] ys = omega arith
 times_join l (noted t e ∷ xs) ys = times_join l xs ys
 times_join l (signs m t ∷ xs) ys = times_join l xs ys
 times_join l (enters m t d ∷ xs) ys = omega (arith, times_join l xs ys)
+times_join l (acts label moment done ∷ xs) ys = times_join l xs ys
 times_join l (starts i m t ∷ xs) ys = times_join l xs ys
 
 -- what one part enters, both do, and vice versa
@@ -79,6 +81,7 @@ enters_first l d (noted t e ∷ xs) ys h = enters_first l d xs ys h
 enters_first l d (signs m t ∷ xs) ys h = enters_first l d xs ys h
 enters_first l d (enters m t x ∷ xs) ys (inl e) = inl e
 enters_first l d (enters m t x ∷ xs) ys (inr h) = inr (enters_first l d xs ys h)
+enters_first l d (acts label moment done ∷ xs) ys h = enters_first l d xs ys h
 enters_first l d (starts i m t ∷ xs) ys h = enters_first l d xs ys h
 
 -- what the second part of events enters, both do
@@ -87,6 +90,7 @@ enters_second l d [] ys h = h
 enters_second l d (noted t e ∷ xs) ys h = enters_second l d xs ys h
 enters_second l d (signs m t ∷ xs) ys h = enters_second l d xs ys h
 enters_second l d (enters m t x ∷ xs) ys h = inr (enters_second l d xs ys h)
+enters_second l d (acts label moment done ∷ xs) ys h = enters_second l d xs ys h
 enters_second l d (starts i m t ∷ xs) ys h = enters_second l d xs ys h
 
 -- what two parts of events enter together, one of them does
@@ -100,6 +104,7 @@ enters_either l d (enters m t x ∷ xs) ys (inr h) = after (enters_either l d xs
     after : EntersWith l d xs ⊎ EntersWith l d ys → (((l ≡ m) × (d ≡ x)) ⊎ EntersWith l d xs) ⊎ EntersWith l d ys
     after (inl j) = inl (inr j)
     after (inr j) = inr j
+enters_either l d (acts label moment done ∷ xs) ys h = enters_either l d xs ys h
 enters_either l d (starts i m t ∷ xs) ys h = enters_either l d xs ys h
 
 -- a child that both start, one of them does
@@ -108,6 +113,7 @@ starts_either i [] ys h = inr h
 starts_either i (noted t e ∷ xs) ys h = starts_either i xs ys h
 starts_either i (signs m t ∷ xs) ys h = starts_either i xs ys h
 starts_either i (enters m t d ∷ xs) ys h = starts_either i xs ys h
+starts_either i (acts label moment done ∷ xs) ys h = starts_either i xs ys h
 starts_either i (starts j m t ∷ xs) ys (inl e) = inl (inl e)
 starts_either i (starts j m t ∷ xs) ys (inr h) = after (starts_either i xs ys h)
   where
@@ -133,6 +139,7 @@ entered_times l d (entry t e rest) h = entered_times l d rest h
 entered_times l d (sign m t rest) h = entered_times l d rest h
 entered_times l d (entered m t x rest) (inl e) = one_more (same_label l m) (times_entered l rest) (same_for l m e.0)
 entered_times l d (entered m t x rest) (inr h) = no_fewer (same_label l m) (times_entered l rest) (entered_times l d rest h)
+entered_times l d (act label moment done rest) h = entered_times l d rest h
 entered_times l d (task m s u e own rest) (inl h) = omega (arith, entered_times l d own h)
 entered_times l d (task m s u e own rest) (inr h) = omega (arith, entered_times l d rest h)
 
@@ -143,6 +150,7 @@ enters_too l d (noted t e ∷ es) h = enters_too l d es h
 enters_too l d (signs m t ∷ es) h = enters_too l d es h
 enters_too l d (enters m t x ∷ es) (inl e) = inl e.0
 enters_too l d (enters m t x ∷ es) (inr h) = inr (enters_too l d es h)
+enters_too l d (acts label moment done ∷ es) h = enters_too l d es h
 enters_too l d (starts i m t ∷ es) h = enters_too l d es h
 
 -- and entered once at least
@@ -153,6 +161,7 @@ enters_counted l (noted t e ∷ es) h = enters_counted l es h
 enters_counted l (signs m t ∷ es) h = enters_counted l es h
 enters_counted l (enters m t x ∷ es) (inl e) = one_more (same_label l m) (times_made l es) (same_for l m e)
 enters_counted l (enters m t x ∷ es) (inr h) = no_fewer (same_label l m) (times_made l es) (enters_counted l es h)
+enters_counted l (acts label moment done ∷ es) h = enters_counted l es h
 enters_counted l (starts i m t ∷ es) h = enters_counted l es h
 
 -- so it is with a deadline
@@ -179,6 +188,7 @@ enters_once l d (enters m t c ∷ es) (inr h) n = by_test (same_label l m) refl 
       where
         differ : l ≡ m → ⊥
         differ e = let x : true ≡ false = sym (same_for l m e) ∙ f in cc
+enters_once l d (acts label moment done ∷ es) h n = enters_once l d es h n
 enters_once l d (starts i m t ∷ es) h n = enters_once l d es h n
 
 -- ---- logs
@@ -194,6 +204,7 @@ left_join l nil b = omega arith
 left_join l (entry t e rest) b = left_join l rest b
 left_join l (sign m t rest) b = left_join l rest b
 left_join l (entered m t d rest) b = omega (arith, left_join l rest b)
+left_join l (act label moment done rest) b = left_join l rest b
 left_join l (task m s u e own rest) b = omega (arith, left_join l rest b)
 
 -- what one part enters, both do
@@ -203,6 +214,7 @@ entered_first l d (entry t e rest) b h = entered_first l d rest b h
 entered_first l d (sign m t rest) b h = entered_first l d rest b h
 entered_first l d (entered m t x rest) b (inl e) = inl e
 entered_first l d (entered m t x rest) b (inr h) = inr (entered_first l d rest b h)
+entered_first l d (act label moment done rest) b h = entered_first l d rest b h
 entered_first l d (task m s u e own rest) b (inl h) = inl h
 entered_first l d (task m s u e own rest) b (inr h) = inr (entered_first l d rest b h)
 
@@ -212,6 +224,7 @@ entered_second l d nil b h = h
 entered_second l d (entry t e rest) b h = entered_second l d rest b h
 entered_second l d (sign m t rest) b h = entered_second l d rest b h
 entered_second l d (entered m t x rest) b h = inr (entered_second l d rest b h)
+entered_second l d (act label moment done rest) b h = entered_second l d rest b h
 entered_second l d (task m s u e own rest) b h = inr (entered_second l d rest b h)
 
 -- what is entered among events is entered in their log
@@ -221,6 +234,7 @@ enters_fill outcomes l d (noted t e ∷ es) h = enters_fill outcomes l d es h
 enters_fill outcomes l d (signs m t ∷ es) h = enters_fill outcomes l d es h
 enters_fill outcomes l d (enters m t x ∷ es) (inl e) = inl e
 enters_fill outcomes l d (enters m t x ∷ es) (inr h) = inr (enters_fill outcomes l d es h)
+enters_fill outcomes l d (acts label moment done ∷ es) h = enters_fill outcomes l d es h
 enters_fill outcomes l d (starts i m t ∷ es) h = inr (enters_fill outcomes l d es h)
 
 -- ---- all tasks

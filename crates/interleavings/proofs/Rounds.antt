@@ -80,6 +80,7 @@ SignsBelow n [] = Unit {0}
 SignsBelow n (noted t e ∷ es) = SignsBelow n es
 SignsBelow n (signs l t ∷ es) = (round_of t < n) × SignsBelow n es
 SignsBelow n (enters l t d ∷ es) = SignsBelow n es
+SignsBelow n (acts label moment done ∷ es) = SignsBelow n es
 SignsBelow n (starts i l t ∷ es) = SignsBelow n es
 
 -- a task that stopped in a moment did so in a round less than n, but for one that begins
@@ -88,6 +89,7 @@ StopBelow n at to_begin = round_of at ≤ n
 StopBelow n at (asking kernel purpose) = round_of at < n
 StopBelow n at (asleep paced ticks since) = (round_of at < n) × (since ≡ at)
 StopBelow n at (waiting_for event since) = (round_of at < n) × (since ≡ at)
+StopBelow n at (queued object ask since body) = (round_of at < n) × (since ≡ at)
 StopBelow n at (giving_up since) = (round_of at < n) × (since ≡ at)
 StopBelow n at (awaiting children ended e) = (round_of at < n) × (ended ≡ at)
 StopBelow n at (at_end u e) = (round_of at < n) × (u ≡ at)
@@ -105,6 +107,7 @@ signs_later n (signs l t ∷ es) h = (one_more h.0, signs_later n es h.1)
     one_more : round_of t < n → round_of t < n + 1
     one_more j = omega arith
 signs_later n (enters l t d ∷ es) h = signs_later n es h
+signs_later n (acts label moment done ∷ es) h = signs_later n es h
 signs_later n (starts i l t ∷ es) h = signs_later n es h
 
 stop_later : (n at : ℕ) (s : Stopped) → StopBelow n at s → StopBelow (n + 1) at s
@@ -112,6 +115,7 @@ stop_later n at to_begin h = omega arith
 stop_later n at (asking kernel purpose) h = omega arith
 stop_later n at (asleep paced ticks since) h = let a : round_of at < n = h.0 in (omega arith, h.1)
 stop_later n at (waiting_for event since) h = let a : round_of at < n = h.0 in (omega arith, h.1)
+stop_later n at (queued object ask since body) h = let a : round_of at < n = h.0 in (omega arith, h.1)
 stop_later n at (giving_up since) h = let a : round_of at < n = h.0 in (omega arith, h.1)
 stop_later n at (awaiting children ended e) h = let a : round_of at < n = h.0 in (omega arith, h.1)
 stop_later n at (at_end u e) h = let a : round_of at < n = h.0 in (omega arith, h.1)
@@ -124,6 +128,7 @@ signs_append n [] ys h k = k
 signs_append n (noted t e ∷ xs) ys h k = signs_append n xs ys h k
 signs_append n (signs l t ∷ xs) ys h k = (h.0, signs_append n xs ys h.1 k)
 signs_append n (enters l t d ∷ xs) ys h k = signs_append n xs ys h k
+signs_append n (acts label moment done ∷ xs) ys h k = signs_append n xs ys h k
 signs_append n (starts i l t ∷ xs) ys h k = signs_append n xs ys h k
 
 -- the events of a turn are in its moment
@@ -132,6 +137,7 @@ signs_made n clock t ls [] h m = tt
 signs_made n clock t ls (noted u e ∷ es) h m = signs_made n clock t ls es h m.1
 signs_made n clock t ls (signs l u ∷ es) h m = (subst (λ (x : ℕ). round_of x < n) (sym m.0) h, signs_made n clock t ls es h m.2)
 signs_made n clock t ls (enters l u d ∷ es) h m = signs_made n clock t (l ∷ ls) es h m.1
+signs_made n clock t ls (acts label moment done ∷ es) h m = signs_made n clock t ls es h m.1
 signs_made n clock t ls (starts i l u ∷ es) h m = signs_made n clock t ls es h m.1
 
 -- so is its stop
@@ -140,6 +146,7 @@ stop_made n clock t f ps to_begin h k = absurd k
 stop_made n clock t f ps (asking kernel purpose) h k = h
 stop_made n clock t f ps (asleep paced ticks since) h k = (h, k.0)
 stop_made n clock t f ps (waiting_for event since) h k = (h, k)
+stop_made n clock t f ps (queued object ask since body) h k = (h, k)
 stop_made n clock t f ps (giving_up since) h k = (h, k)
 stop_made n clock t f ps (awaiting children ended e) h k = (h, k)
 stop_made n clock t f ps (at_end u e) h k = (h, k)
@@ -169,6 +176,7 @@ made_below n l [] h = tt
 made_below n l (noted t e ∷ es) h = made_below n l es h
 made_below n l (signs m t ∷ es) h = sign_earlier n _ _ (sign_if n (same_label l m) t h.0) (made_below n l es h.1)
 made_below n l (enters m t d ∷ es) h = made_below n l es h
+made_below n l (acts label moment done ∷ es) h = made_below n l es h
 made_below n l (starts i m t ∷ es) h = made_below n l es h
 
 -- the first sign that any task made before c is in a round less than n, if there is one
@@ -362,6 +370,7 @@ module _ (k f : Table) (job : Tree) (input : List ℕ) (settled : IsSettled k jo
     by_stop own begins (asking kernel purpose) b w h = absurd h
     by_stop own begins (asleep paced ticks since) b w h = absurd h
     by_stop own begins (waiting_for event since) b w h = absurd h
+    by_stop own begins (queued object ask since body) b w h = absurd h
     by_stop own begins (giving_up since) b w h = absurd h
     by_stop own begins (awaiting children ended e) b w h = absurd h
     by_stop own begins (at_end u e) b w h = absurd h
@@ -369,9 +378,18 @@ module _ (k f : Table) (job : Tree) (input : List ℕ) (settled : IsSettled k jo
     by_stop own (has_answer a) (asking kernel purpose) b w h = subst (λ (v : Now). round_of v.at ≤ n) h.0 (omega arith)
     by_stop own (has_answer a) (asleep paced ticks since) b w h = absurd h
     by_stop own (has_answer a) (waiting_for event since) b w h = absurd h
+    by_stop own (has_answer a) (queued object ask since body) b w h = absurd h
     by_stop own (has_answer a) (giving_up since) b w h = absurd h
     by_stop own (has_answer a) (awaiting children ended e) b w h = absurd h
     by_stop own (has_answer a) (at_end u e) b w h = absurd h
+    by_stop own (is_granted what) to_begin b w h = absurd h
+    by_stop own (is_granted what) (asking kernel purpose) b w h = absurd h
+    by_stop own (is_granted what) (asleep paced ticks since) b w h = absurd h
+    by_stop own (is_granted what) (waiting_for event since) b w h = absurd h
+@@QUEUED     by_stop own (is_granted what) (queued object ask since body) b w h =
+    by_stop own (is_granted what) (giving_up since) b w h = absurd h
+    by_stop own (is_granted what) (awaiting children ended e) b w h = absurd h
+    by_stop own (is_granted what) (at_end u e) b w h = absurd h
     by_stop own is_due to_begin b w h = absurd h
     by_stop own is_due (asking kernel purpose) b w h = absurd h
     by_stop own is_due (asleep paced ticks since) b w h = due_below ticks since (stopped_in since b.0 b.1) h.0
@@ -383,6 +401,7 @@ module _ (k f : Table) (job : Tree) (input : List ℕ) (settled : IsSettled k jo
     by_stop own sees (asking kernel purpose) b w h = absurd h
     by_stop own sees (asleep paced ticks since) b w h = seen_below since (stopped_in since b.0 b.1) w.2
     by_stop own sees (waiting_for event since) b w h = seen_below since (stopped_in since b.0 b.1) w.0.1
+    by_stop own sees (queued object ask since body) b w h = seen_below since (stopped_in since b.0 b.1) w.0.1
     by_stop own sees (giving_up since) b w h = absurd h
     by_stop own sees (awaiting children ended e) b w h = absurd h
     by_stop own sees (at_end u e) b w h = absurd h
@@ -390,6 +409,7 @@ module _ (k f : Table) (job : Tree) (input : List ℕ) (settled : IsSettled k jo
     by_stop own gives_up (asking kernel purpose) b w h = absurd h
     by_stop own gives_up (asleep paced ticks since) b w h = absurd h
     by_stop own gives_up (waiting_for event since) b w h = absurd h
+    by_stop own gives_up (queued object ask since body) b w h = absurd h
     by_stop own gives_up (giving_up since) b w h =
         let a : round_of since < n = stopped_in since b.0 b.1 in
         let c : round_of (since + 1) ≤ round_of since + 1 = round_later since in
@@ -401,6 +421,7 @@ module _ (k f : Table) (job : Tree) (input : List ℕ) (settled : IsSettled k jo
     by_stop own (settles x) (asking kernel purpose) b w h = absurd h
     by_stop own (settles x) (asleep paced ticks since) b w h = absurd h
     by_stop own (settles x) (waiting_for event since) b w h = absurd h
+    by_stop own (settles x) (queued object ask since body) b w h = absurd h
     by_stop own (settles x) (giving_up since) b w h = absurd h
     by_stop own (settles x) (awaiting children ended e) b w h =
         let over : WaitIsOver qs q t children ended e x = h.0 in
@@ -510,6 +531,7 @@ stop_within n at to_begin h = h
 stop_within n at (asking kernel purpose) h = omega arith
 stop_within n at (asleep paced ticks since) h = let a : round_of at < n = h.0 in omega arith
 stop_within n at (waiting_for event since) h = let a : round_of at < n = h.0 in omega arith
+stop_within n at (queued object ask since body) h = let a : round_of at < n = h.0 in omega arith
 stop_within n at (giving_up since) h = let a : round_of at < n = h.0 in omega arith
 stop_within n at (awaiting children ended e) h = let a : round_of at < n = h.0 in omega arith
 stop_within n at (at_end u e) h = let a : round_of at < n = h.0 in omega arith

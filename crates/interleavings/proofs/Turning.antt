@@ -4,25 +4,29 @@ use Rattle.std.proofs.Common.{◌≡◌, ℕ, suc, ◌+◌, ◌-◌, ◌<◌, �
 use Rattle.std.proofs.lemmas.Bool.{cases_lt, le-ltb, lt-ltb}
 use Rattle.turn_semantics.specs.Lists.{IsAmong}
 use Rattle.exceptions.specs.Exceptions.{Label}
-use Rattle.cancel_scopes.specs.Sight.{Tick}
+use Rattle.cancel_scopes.specs.Sight.{Tick, seen}
 use Rattle.job_meaning.specs.Log.{Log, Result, least_sign, from_by, times_entered, Table, followed_by}
 use Rattle.job_meaning.specs.Moments.{a_round_after, wakes_at, Now, only_at}
 use Rattle.job_meaning.specs.Walk.{event_on, latest}
 use Rattle.job_meaning.specs.Before.{upto}
-use Rattle.job_meaning.specs.Rest.{Event, ChildOutcomes, fill, outcome_members, Stopped, to_begin, asking, asleep, waiting_for, giving_up, awaiting, at_end, noted, signs, enters, starts, inside}
+use Rattle.job_meaning.specs.Rest.{Event, ChildOutcomes, fill, outcome_members, Stopped, to_begin, asking, asleep, waiting_for, queued, giving_up, awaiting, at_end, noted, signs, enters, acts, starts, inside}
 use Rattle.job_meaning.proofs.MomentLemmas.{round_after, wakes_after}
 use Rattle.job_meaning.proofs.Clips.{upto_most}
 use Rattle.job_meaning.proofs.Late.{late_awaiting, latest_ends}
-use Rattle.turn_semantics.specs.Midway.{Place, stack_at, Begun, Move, begun_comes_to}
+use Rattle.turn_semantics.specs.Midway.{Place, label_among, Tables, stack_at, Begun, Move, begun_comes_to}
 use Rattle.turn_semantics.specs.Steps.{cancelled_from_after}
 use Rattle.turn_semantics.specs.Placed.{PlacedStop}
 use Rattle.turn_semantics.specs.Wakes.{Wake, WakesBy}
 use Rattle.turn_semantics.specs.Turned.{AgreesOn, AgreesIn, AreOutcomes, labels_of, AllKnown, known_after, Starts, BegunIn, made_sign, EntersIn, StopsAt, TurnsOver}
+use Rattle.turn_semantics.proofs.Agreeing.{seen_alike}
 use Rattle.turn_semantics.proofs.CancelledFrom.{unsigned}
-use Rattle.interleavings.specs.Interleaving.{Started, Tells, Fits, times_made, made_least, all_least, made_times, all_times, EnteredIn, EntersWith, StartsChild, Kid, HasFrom, Parent, Entered, EachPlace, Root, RunInvariant, slept, goes_on, resumes, AllFrom}
+use Rattle.turn_semantics.proofs.Events.{agrees_after}
+use Rattle.turn_semantics.proofs.Turns.{agrees_in_first}
+use Rattle.interleavings.specs.Interleaving.{Started, Tells, Fits, times_made, made_least, all_least, made_times, all_times, EnteredIn, EntersWith, StartsChild, Kid, HasFrom, Parent, Entered, EachPlace, Root, RunInvariant, slept, leaves_by, goes_on, leaves_at, resumes, AllFrom}
 use Rattle.interleavings.specs.Going.{outcomes_with, children_from, child_from, task_after_turn}
 use Rattle.interleavings.proofs.Readings.{in_first, in_second, in_either, enters_first, enters_second, enters_either, starts_either, enters_counted, enters_times, entered_first, entered_second, enters_fill, made_low, all_least_join, all_times_join, made_few, made_counted, first_join, times_join}
 use Rattle.interleavings.proofs.Contract.{NumberedFrom, numbers_of, OldOrNew, known_of, each_known, lowered_from, opened_from, placed_stop, stops_at}
+use Rattle.interleavings.proofs.Queues.{leaves_since}
 use Rattle.interleavings.proofs.Lateness.{slept_after}
 use Rattle.interleavings.proofs.Agreement.{agrees_on, agrees_in}
 use Rattle.interleavings.proofs.Commit.{outcome_of_old, outcome_of_first, outcome_of_later, tells_begun, tells_itself, left_is, fits_turned, least_turned, times_turned, fits_begun, fill_entered}
@@ -30,39 +34,39 @@ use Rattle.interleavings.proofs.Commit.{outcome_of_old, outcome_of_first, outcom
 -- ---- the new children
 
 -- children that did nothing yet made nothing
-begun_least : (k : Table) (t c : ℕ) (l : Label) (m : ℕ) (bs : List Begun) (ys : List Started) → made_least c l ys ≤ c →
+begun_least : (k : Tables) (t c : ℕ) (l : Label) (m : ℕ) (bs : List Begun) (ys : List Started) → made_least c l ys ≤ c →
     made_least c l (children_from k t m bs ++ ys) ≡ made_least c l ys
 unfolding made_least children_from
 begun_least k t c l m [] ys h = refl
 begun_least k t c l m (b ∷ bs) ys h = omega (arith, begun_least k t c l (suc m) bs ys h)
 
-begun_times : (k : Table) (t : ℕ) (l : Label) (m : ℕ) (bs : List Begun) (ys : List Started) →
+begun_times : (k : Tables) (t : ℕ) (l : Label) (m : ℕ) (bs : List Begun) (ys : List Started) →
     made_times l (children_from k t m bs ++ ys) ≡ made_times l ys
 unfolding made_times times_made children_from
 begun_times k t l m [] ys = refl
 begun_times k t l m (b ∷ bs) ys = omega (arith, begun_times k t l (suc m) bs ys)
 
-begun_made : (k : Table) (t m : ℕ) (bs : List Begun) (x : Started) → IsAmong x (children_from k t m bs) → x.made ≡ []
+begun_made : (k : Tables) (t m : ℕ) (bs : List Begun) (x : Started) → IsAmong x (children_from k t m bs) → x.made ≡ []
 unfolding children_from
 begun_made k t m [] x i = absurd i
 begun_made k t m (b ∷ bs) x (inl e) = ap (λ (z : Started). z.made) e
 begun_made k t m (b ∷ bs) x (inr i) = begun_made k t (suc m) bs x i
 
-begun_count : (k : Table) (t m : ℕ) (bs : List Begun) (x : Started) → IsAmong x (children_from k t m bs) → x.count ≡ 0
+begun_count : (k : Tables) (t m : ℕ) (bs : List Begun) (x : Started) → IsAmong x (children_from k t m bs) → x.count ≡ 0
 unfolding children_from
 begun_count k t m [] x i = absurd i
 begun_count k t m (b ∷ bs) x (inl e) = ap (λ (z : Started). z.count) e
 begun_count k t m (b ∷ bs) x (inr i) = begun_count k t (suc m) bs x i
 
 -- their frames fit the scopes and nurseries that enclose them, and these have known labels
-begun_shape : (k : Table) (t m : ℕ) (ls : List Label) (bs : List Begun) → BegunIn ls bs →
+begun_shape : (k : Tables) (t m : ℕ) (ls : List Label) (bs : List Begun) → BegunIn ls bs →
     (x : Started) → IsAmong x (children_from k t m bs) → PlacedStop x.rest.stopped x.rest.frames x.places
 unfolding children_from
 begun_shape k t m ls [] p x i = absurd i
 begun_shape k t m ls (b ∷ bs) p x (inl e) = subst (λ (z : Started). PlacedStop z.rest.stopped z.rest.frames z.places) (sym e) (p.1, tt)
 begun_shape k t m ls (b ∷ bs) p x (inr i) = begun_shape k t (suc m) ls bs p.2 x i
 
-begun_places : (k : Table) (t m : ℕ) (ls : List Label) (bs : List Begun) → BegunIn ls bs →
+begun_places : (k : Tables) (t m : ℕ) (ls : List Label) (bs : List Begun) → BegunIn ls bs →
     (x : Started) → IsAmong x (children_from k t m bs) → AllKnown x.places ls
 unfolding children_from
 begun_places k t m ls [] p x i = absurd i
@@ -70,7 +74,7 @@ begun_places k t m ls (b ∷ bs) p x (inl e) = subst (λ (z : Started). AllKnown
 begun_places k t m ls (b ∷ bs) p x (inr i) = begun_places k t (suc m) ls bs p.2 x i
 
 -- they begin in this moment
-begun_resumes : (k : Table) (t m : ℕ) (bs : List Begun) (x : Started) → IsAmong x (children_from k t m bs) → t ≤ resumes k x
+begun_resumes : (k : Tables) (t m : ℕ) (bs : List Begun) (x : Started) → IsAmong x (children_from k t m bs) → t ≤ resumes k x
 unfolding children_from
 begun_resumes k t m [] x i = absurd i
 begun_resumes k t m (b ∷ bs) x (inl e) = subst (λ (z : Started). t ≤ resumes k z) (sym e) (omega arith)
@@ -87,13 +91,13 @@ unfolding child_from
 later_child count child m i h = ap (λ (b : Bool). if b then child i else (m + (i - count))) (le-ltb i count h)
 
 -- the number of a new child, which was started and whose whole result is recorded
-record NewChild (k : Table) (t m : ℕ) (bs : List Begun) (es : List Event) (outcomes : ChildOutcomes) (x : Started) : Type 0 where
+record NewChild (k : Tables) (t m : ℕ) (bs : List Begun) (es : List Event) (outcomes : ChildOutcomes) (x : Started) : Type 0 where
   number : ℕ
   started : StartsChild number es
   serial : m ≤ x.serial
   same : x.final_result ≡ outcomes number
 
-new_child : (k : Table) (t : ℕ) (outcomes : ChildOutcomes) (n m : ℕ) (es : List Event) (bs : List Begun) → Starts n es bs → AreOutcomes t k outcomes bs →
+new_child : (k : Tables) (t : ℕ) (outcomes : ChildOutcomes) (n m : ℕ) (es : List Event) (bs : List Begun) → Starts n es bs → AreOutcomes t k outcomes bs →
     (x : Started) → IsAmong x (children_from k t m bs) → NewChild k t m bs es outcomes x
 unfolding children_from
 new_child k t outcomes n m [] [] a b x i = absurd i
@@ -107,6 +111,9 @@ new_child k t outcomes n m (signs l u ∷ es) bs a b x i =
 new_child k t outcomes n m (enters l u d ∷ es) bs a b x i =
     let r : NewChild k t m bs es outcomes x = new_child k t outcomes n m es bs a b x i in
     record { number = r.number; started = r.started; serial = r.serial; same = r.same }
+new_child k t outcomes n m (acts label moment done ∷ es) bs a b x i =
+    let r : NewChild k t m bs es outcomes x = new_child k t outcomes n m es bs a b x i in
+    record { number = r.number; started = r.started; serial = r.serial; same = r.same }
 new_child k t outcomes n m (starts j l u ∷ es) [] a b x i = absurd a
 new_child k t outcomes n m (starts j l u ∷ es) (c ∷ bs) a b x (inl e) =
     let z : x.serial ≡ m = ap (λ (v : Started). v.serial) e in
@@ -118,13 +125,13 @@ new_child k t outcomes n m (starts j l u ∷ es) (c ∷ bs) a b x (inr i) =
     record { number = r.number; started = inr r.started; serial = omega arith; same = r.same }
 
 -- the task of a new child's number
-record NewKid (k : Table) (t : ℕ) (outcomes : ChildOutcomes) (n m : ℕ) (bs : List Begun) (i : ℕ) : Type 0 where
+record NewKid (k : Tables) (t : ℕ) (outcomes : ChildOutcomes) (n m : ℕ) (bs : List Begun) (i : ℕ) : Type 0 where
   kid : Started
   among : IsAmong kid (children_from k t m bs)
   serial : kid.serial ≡ m + (i - n)
   same : kid.final_result ≡ outcomes_with k t outcomes bs i
 
-new_kid : (k : Table) (t : ℕ) (outcomes : ChildOutcomes) (n m : ℕ) (bs : List Begun) → NumberedFrom n bs → (i : ℕ) → n ≤ i → i < n + length bs →
+new_kid : (k : Tables) (t : ℕ) (outcomes : ChildOutcomes) (n m : ℕ) (bs : List Begun) → NumberedFrom n bs → (i : ℕ) → n ≤ i → i < n + length bs →
     NewKid k t outcomes n m bs i
 unfolding children_from
 new_kid k t outcomes n m [] p i h j = absurd (omega arith)
@@ -145,7 +152,7 @@ new_kid k t outcomes n m (b ∷ bs) p i h j = by_case (split i n h) (λ g. new_k
 
 -- ---- the run
 
-module _ (k f : Table) (whole : Result) (q : Started) (ys : List Started) (interleaving : RunInvariant k f whole (q ∷ ys))
+module _ (k : Tables) (f : Table) (whole : Result) (q : Started) (ys : List Started) (interleaving : RunInvariant k f whole (q ∷ ys))
     (now : Now) (from : AllFrom k (q ∷ ys) now.at) (m : ℕ) (small : (x : Started) → IsAmong x (q ∷ ys) → x.serial < m)
     (wake : Wake) (o : Move) (s : Stopped)
     (w : TurnsOver q.stop now q.here f wake q.rest q.places q.count o) (stopped : o.stopped ≡ Some s)
@@ -168,10 +175,10 @@ module _ (k f : Table) (whole : Result) (q : Started) (ys : List Started) (inter
   abbrev pub after_turn : List Started
   after_turn = (q' ∷ new) ++ ys
 
-  near : AgreesOn now.at k f q.places
+  near : AgreesOn now.at k.cancelled_from f q.places
   near = agrees_on k f whole (q ∷ ys) interleaving now.at from q.places (interleaving.placed q (inl refl))
 
-  deadlines : AgreesIn now.at k q.left
+  deadlines : AgreesIn now.at k.cancelled_from q.left
   deadlines = agrees_in k f whole (q ∷ ys) interleaving now.at from q (inl refl)
 
   numbers : NumberedFrom q.count o.begun
@@ -275,11 +282,11 @@ module _ (k f : Table) (whole : Result) (q : Started) (ys : List Started) (inter
   in_rest : (l : Label) (d : Tick) → EnteredIn l d q'.left → EnteredIn l d q.left
   in_rest l d j = subst (λ (a : Log). EnteredIn l d a) (sym rest_is) (entered_second l d (fill d' o.made) q'.left j)
 
-  follows_after : (x : Started) → IsAmong x after_turn → (l : Label) (d : Tick) → EnteredIn l d x.left → k l ≡ from_by d (least_sign l whole.log)
+  follows_after : (x : Started) → IsAmong x after_turn → (l : Label) (d : Tick) → EnteredIn l d x.left → k.cancelled_from l ≡ from_by d (least_sign l whole.log)
   follows_after x (inl e) l d j = interleaving.follows q (inl refl) l d (in_rest l d (subst (λ (z : Started). EnteredIn l d z.left) e j))
   follows_after x (inr i) l d j = by_place (in_either x new ys i)
     where
-      by_place : IsAmong x new ⊎ IsAmong x ys → k l ≡ from_by d (least_sign l whole.log)
+      by_place : IsAmong x new ⊎ IsAmong x ys → k.cancelled_from l ≡ from_by d (least_sign l whole.log)
       by_place (inl z) = interleaving.follows q (inl refl) l d (in_made l d
           (fill_entered k next d' q.count m o.made o.begun w.starts all_begun x z l d j))
       by_place (inr z) = interleaving.follows x (inr z) l d j
@@ -291,6 +298,7 @@ module _ (k f : Table) (whole : Result) (q : Started) (ys : List Started) (inter
   new_number n (noted u e ∷ es) bs a i h = new_number n es bs a i h
   new_number n (signs l u ∷ es) bs a i h = new_number n es bs a i h
   new_number n (enters l u d ∷ es) bs a i h = new_number n es bs a i h
+  new_number n (acts label moment done ∷ es) bs a i h = new_number n es bs a i h
   new_number n (starts j l u ∷ es) [] a i h = absurd a
   new_number n (starts j l u ∷ es) (c ∷ bs) a i (inl e) = let x : j ≡ n = a.0 in omega arith
   new_number n (starts j l u ∷ es) (c ∷ bs) a i (inr h) = let x : i < suc n + length bs = new_number (suc n) es bs a.3 i h in omega arith
@@ -384,6 +392,7 @@ module _ (k f : Table) (whole : Result) (q : Started) (ys : List Started) (inter
   starts_first i (noted u e ∷ xs) zs h = starts_first i xs zs h
   starts_first i (signs l u ∷ xs) zs h = starts_first i xs zs h
   starts_first i (enters l u d ∷ xs) zs h = starts_first i xs zs h
+  starts_first i (acts label moment done ∷ xs) zs h = starts_first i xs zs h
   starts_first i (starts j l u ∷ xs) zs (inl e) = inl e
   starts_first i (starts j l u ∷ xs) zs (inr h) = inr (starts_first i xs zs h)
 
@@ -392,6 +401,7 @@ module _ (k f : Table) (whole : Result) (q : Started) (ys : List Started) (inter
   starts_second i (noted u e ∷ xs) zs h = starts_second i xs zs h
   starts_second i (signs l u ∷ xs) zs h = starts_second i xs zs h
   starts_second i (enters l u d ∷ xs) zs h = starts_second i xs zs h
+  starts_second i (acts label moment done ∷ xs) zs h = starts_second i xs zs h
   starts_second i (starts j l u ∷ xs) zs h = inr (starts_second i xs zs h)
 
   -- the starter of a task that was there before
@@ -463,8 +473,8 @@ module _ (k f : Table) (whole : Result) (q : Started) (ys : List Started) (inter
   -- ---- moments of cancellation
 
   -- of a label that was entered before
-  has_from_old : (l : Label) (d : Tick) → 1 ≤ made_times l (q ∷ ys) → HasFrom k f whole.log (q ∷ ys) l d →
-      HasFrom k g whole.log after_turn l d
+  has_from_old : (l : Label) (d : Tick) → 1 ≤ made_times l (q ∷ ys) → HasFrom k.cancelled_from f whole.log (q ∷ ys) l d →
+      HasFrom k.cancelled_from g whole.log after_turn l d
   unfolding made_times made_least
   has_from_old l d e p =
       let n : made_times l after_turn ≤ 1 = made_once l in
@@ -476,7 +486,7 @@ module _ (k f : Table) (whole : Result) (q : Started) (ys : List Started) (inter
       }
 
   -- and of one that the turn entered
-  has_from_new : (l : Label) (d : Tick) → EntersWith l d o.made → HasFrom k g whole.log after_turn l d
+  has_from_new : (l : Label) (d : Tick) → EntersWith l d o.made → HasFrom k.cancelled_from g whole.log after_turn l d
   unfolding made_times made_least
   has_from_new l d p =
       let n : made_times l after_turn ≤ 1 = made_once l in
@@ -492,24 +502,24 @@ module _ (k f : Table) (whole : Result) (q : Started) (ys : List Started) (inter
             ∙ ap (λ (v : ℕ). min (upto (suc c) d) (suc v)) (sym u);
       }
 
-  has_from_by : (x : Started) → IsAmong x (q ∷ ys) → (l : Label) (d : Tick) → EntersWith l d x.made → HasFrom k g whole.log after_turn l d
+  has_from_by : (x : Started) → IsAmong x (q ∷ ys) → (l : Label) (d : Tick) → EntersWith l d x.made → HasFrom k.cancelled_from g whole.log after_turn l d
   has_from_by x i l d h =
       let a : 1 ≤ times_made l x.made = enters_times l d x.made h in
       let b : times_made l x.made ≤ made_times l (q ∷ ys) = made_counted l x (q ∷ ys) i in
       has_from_old l d (omega arith) (interleaving.known x i l d h)
 
-  has_from_turned : (l : Label) (d : Tick) → EntersWith l d (q.made ++ o.made) → HasFrom k g whole.log after_turn l d
+  has_from_turned : (l : Label) (d : Tick) → EntersWith l d (q.made ++ o.made) → HasFrom k.cancelled_from g whole.log after_turn l d
   has_from_turned l d h = by_time (enters_either l d q.made o.made h)
     where
-      by_time : EntersWith l d q.made ⊎ EntersWith l d o.made → HasFrom k g whole.log after_turn l d
+      by_time : EntersWith l d q.made ⊎ EntersWith l d o.made → HasFrom k.cancelled_from g whole.log after_turn l d
       by_time (inl j) = has_from_by q (inl refl) l d j
       by_time (inr j) = has_from_new l d j
 
-  has_from_after : (x : Started) → IsAmong x after_turn → (l : Label) (d : Tick) → EntersWith l d x.made → HasFrom k g whole.log after_turn l d
+  has_from_after : (x : Started) → IsAmong x after_turn → (l : Label) (d : Tick) → EntersWith l d x.made → HasFrom k.cancelled_from g whole.log after_turn l d
   has_from_after x (inl e) l d h = has_from_turned l d (subst (λ (z : Started). EntersWith l d z.made) e h)
   has_from_after x (inr i) l d h = by_place (in_either x new ys i)
     where
-      by_place : IsAmong x new ⊎ IsAmong x ys → HasFrom k g whole.log after_turn l d
+      by_place : IsAmong x new ⊎ IsAmong x ys → HasFrom k.cancelled_from g whole.log after_turn l d
       by_place (inl z) = absurd (subst (λ (es : List Event). EntersWith l d es) (begun_made k next m o.begun x z) h)
       by_place (inr z) = has_from_by x (inr z) l d h
 
@@ -585,23 +595,36 @@ module _ (k f : Table) (whole : Result) (q : Started) (ys : List Started) (inter
     root = root_after;
   }
 
+  -- the table agrees after the turn with the moments of cancellation of the scopes and nurseries that enclose the task then
+  near_after : AgreesOn now.at k.cancelled_from g o.places
+  near_after =
+      agrees_after q.here.clock now.at k.cancelled_from d' o.made q.places o.places f w.made_now w.places near
+      (agrees_in_first now.at k.cancelled_from (fill d' o.made) q'.left
+      (subst (λ (a : Log). AgreesIn now.at k.cancelled_from a) rest_is deadlines))
+
   -- the task has its next turn in this moment or later
-  from_stop : (x : Stopped) → StopsAt q.here.clock now.at g (Some x) o.places → now.at ≤ goes_on q.here.clock d' x (stack_at k o.places) now.at
+  from_stop : (x : Stopped) → StopsAt q.here.clock now.at g (Some x) o.places →
+      now.at ≤ goes_on q.here.clock d' x (stack_at k.cancelled_from o.places) (leaves_at k x q.here o.places) now.at
   from_stop to_begin c = absurd c
   from_stop (asking kernel purpose) c = omega arith
   from_stop (asleep paced n since) c =
       let e : since ≡ now.at = c.0 in
       let r : since ≤ a_round_after q.here.clock since = round_after q.here.clock since in
-      let x : a_round_after q.here.clock since ≤ (slept q.here.clock paced (stack_at k o.places) n since).end =
-      slept_after q.here.clock paced (stack_at k o.places) n since in
+      let x : a_round_after q.here.clock since ≤ (slept q.here.clock paced (stack_at k.cancelled_from o.places) n since).end =
+      slept_after q.here.clock paced (stack_at k.cancelled_from o.places) n since in
       let y : a_round_after q.here.clock since ≤ wakes_at q.here.clock n since = wakes_after q.here.clock n since in
       omega arith
   from_stop (waiting_for event since) c =
       let e : since ≡ now.at = c in
-      let x = (late_awaiting q.here.clock (stack_at k o.places) (event_on event (stack_at k o.places).events) (only_at since)).ends in
+      let x = (late_awaiting q.here.clock (stack_at k.cancelled_from o.places) (event_on event (stack_at k.cancelled_from o.places).events) (only_at since)).ends in
       let y : since ≤ a_round_after q.here.clock since = round_after q.here.clock since in
       omega arith
-  from_stop (giving_up since) c = let e : since ≡ now.at = c in omega arith
+  from_stop (queued object ask since body) c =
+      subst (λ (n : ℕ). n ≤ leaves_by k q.here (label_among true object o.places) since (stack_at k.cancelled_from o.places)) c.0
+      (leaves_since k q.here (label_among true object o.places) since (stack_at k.cancelled_from o.places)
+      (ap (λ (n : ℕ). seen (stack_at k.cancelled_from o.places).scopes n) c.0 ∙ (seen_alike now.at k.cancelled_from g o.places near_after ∙ c.1)))
+  from_stop (giving_up since) (inl e) = omega arith
+  from_stop (giving_up since) (inr e) = omega arith
   from_stop (awaiting children ended exc) c =
       let e : ended ≡ now.at = c in
       let z : ended ≤ latest ended (outcome_members d' children) = latest_ends ended (outcome_members d' children) in
