@@ -20,19 +20,20 @@ use Rattle.interleavings.specs.Interleaving.{Started, Tells, Fits, made_least, a
 use Rattle.interleavings.specs.Runs.{keeping}
 use Rattle.interleavings.proofs.Readings.{upto_from, entered_times, left_fresh}
 use Rattle.interleavings.proofs.Contract.{near_places, agrees_each}
-use Rattle.interleavings.proofs.Queues.{left_near, leaves_alike, late_from_ends}
-use Rattle.interleavings.proofs.Lateness.{slept_after, slept_unseen, awaited_after, awaited_unseen, event_there, ends_near, late_rest, unsigned_rest, latest_in}
+use Rattle.interleavings.proofs.Queues.{left_near, leaves_alike, late_from_ends, left_unsigned}
+use Rattle.interleavings.proofs.Lateness.{slept_after, slept_unseen, awaited_after, awaited_unseen, event_there, ends_near, late_rest, left_rest, latest_in}
 
 -- a record of outcomes says the same as itself
 pub outcomes_tell : (q : Started) → Tells q q.outcomes
 outcomes_tell q = λ i h. refl
 
 -- what a task has left has no sign before v
-left_unsigned : (k : Tables) (q : Started) (v : ℕ) → Fits k q → PlacedStop q.rest.stopped q.rest.frames q.places →
+unsigned_left : (k : Tables) (q : Started) (v : ℕ) → Fits k q → PlacedStop q.rest.stopped q.rest.frames q.places →
     (live q.rest.stopped ≡ true → v ≤ resumes k q) → (l : Label) → upto v (least_sign l q.left) ≡ v
-left_unsigned k q v p s h l =
+unsigned_left k q v p s h l =
     subst (λ (a : Log). upto v (least_sign l a) ≡ v) (p.lefts q.outcomes (outcomes_tell q))
-    (unsigned_rest k q.outcomes q.here q.stop v q.rest.stopped q.rest.frames q.places s h l)
+    (left_unsigned v q.here q.rest.frames q.places q.rest.stopped _
+    (left_rest k q.outcomes q.here q.stop v q.rest.stopped q.rest.frames q.places s h) l)
 
 -- a task ends no earlier than it continues
 pub ends_at : (k : Tables) (q : Started) (v : ℕ) → Fits k q → PlacedStop q.rest.stopped q.rest.frames q.places →
@@ -85,7 +86,7 @@ module _ (k : Tables) (f : Table) (whole : Result) (qs : List Started) (o : RunI
 module _ (k : Tables) (f : Table) (whole : Result) (qs : List Started) (o : RunInvariant k f whole qs) (v : ℕ) (from : AllFrom k qs v) where
   -- the first sign before v, where there is one, was made
   pub same_least : (l : Label) → upto v (least_sign l whole.log) ≡ made_least v l qs
-  same_least l = o.signed v l ∙ lefts_late v l qs (λ q i. left_unsigned k q v (o.fits q i) (o.shape q i) (from q i) l)
+  same_least l = o.signed v l ∙ lefts_late v l qs (λ q i. unsigned_left k q v (o.fits q i) (o.shape q i) (from q i) l)
 
   -- the table agrees at v with the from that is kept of a label that was entered
   pub agrees : (l : Label) (d : Tick) → HasFrom k.cancelled_from f whole.log qs l d → upto (suc v) (k.cancelled_from l) ≡ upto (suc v) (f l)

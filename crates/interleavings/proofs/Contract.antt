@@ -13,7 +13,7 @@ use Rattle.turn_semantics.specs.Midway.{Place, level_on, Tables, by_tables, stac
 use Rattle.turn_semantics.specs.Steps.{cancelled_from_after}
 use Rattle.turn_semantics.specs.Placed.{PlacedStop, PlacedAfter}
 use Rattle.turn_semantics.specs.Wakes.{Wake, WakesBy}
-use Rattle.turn_semantics.specs.Turned.{AgreesOn, AgreesIn, AreOutcomes, AllKnown, known_after, MadeAt, Starts, made_sign, EntersIn, StopsAt, weight_of_stop, weight_of_begun, TurnsOver}
+use Rattle.turn_semantics.specs.Turned.{AgreesOn, AgreesIn, AreOutcomes, AllKnown, known_after, MadeAt, Starts, made_sign, EntersIn, StopsAt, weight_of_stop, weight_of_begun, rounds_skipped, TurnsOver}
 use Rattle.turn_semantics.proofs.CancelledFrom.{from_lowered, from_opened}
 use Rattle.interleavings.specs.Interleaving.{Started, times_made, EnteredIn, EntersWith, EachPlace}
 use Rattle.interleavings.proofs.Readings.{upto_from, enters_counted, enters_once}
@@ -130,9 +130,11 @@ module _ (now : Now) (f : Table) (wake : Wake) (q : Started) (o : Move) (s : Sto
   pub stops_at : StopsAt q.here.clock now.at (cancelled_from_after f o.made) (Some s) o.places
   stops_at = subst (λ (x : Option Stopped). StopsAt q.here.clock now.at (cancelled_from_after f o.made) x o.places) e w.stops
 
-  -- what is left weighs less than before, that of the children included
-  pub lighter : rest_weight rest_after + weight_of_begun o.begun < rest_weight q.rest
+  -- what is left weighs less than before, that of the children included, and so does it with the rounds that a task skips
+  pub lighter : rest_weight rest_after + weight_of_begun o.begun + rounds_skipped now.at (Some s) < rest_weight q.rest
   lighter =
-      let a : weight_of_stop o.stopped + frames_weight o.frames + weight_of_begun o.begun < rest_weight q.rest = w.weight in
+      let a : weight_of_stop o.stopped + frames_weight o.frames + weight_of_begun o.begun + rounds_skipped now.at o.stopped < rest_weight q.rest =
+      w.weight in
       let b : weight_of_stop o.stopped ≡ stop_weight s = ap weight_of_stop e in
+      let c : rounds_skipped now.at o.stopped ≡ rounds_skipped now.at (Some s) = ap (rounds_skipped now.at) e in
       omega arith

@@ -317,7 +317,7 @@ housed_moved qs rs same all x i = record { placed = h.placed; kids = h.kids; own
     })
 
 -- serial numbers are below the number of tasks started
-serials_below : (k : Tables) (job : Tree) (input : List ℕ) (f : Table) (t m : ℕ) (qs : List Started) → Reached k job input f t m qs →
+pub serials_below : (k : Tables) (job : Tree) (input : List ℕ) (f : Table) (t m : ℕ) (qs : List Started) → Reached k job input f t m qs →
     (x : Started) → IsAmong x qs → x.serial < m
 serials_below k job input f t m _ (begun f') x (inl e) = let a : x.serial ≡ 0 = ap (λ (z : Started). z.serial) e in omega arith
 serials_below k job input f t m _ (begun f') x (inr i) = absurd i

@@ -6,7 +6,7 @@ use Rattle.std.specs.Str.{bytes_eq}
 use Rattle.turn_semantics.specs.Lists.{IsAmong}
 use Rattle.exceptions.specs.Exceptions.{Label, Exc, cancelled}
 use Rattle.cancel_scopes.specs.Sight.{Tick, Level, is_reached, sight, seen}
-use Rattle.job_meaning.specs.Log.{nil, Member, Result, least_sign, Table}
+use Rattle.job_meaning.specs.Log.{nil, Member, Result, Table}
 use Rattle.job_meaning.specs.Moments.{tick_of, a_round_after, far, wakes_at, gives_up_at, Now, only_at}
 use Rattle.job_meaning.specs.declared.clock.Clock.{Clock}
 use Rattle.job_meaning.specs.declared.clock.Clock.TheVariants.{ByTicks as by_ticks, ByRounds as by_rounds}
@@ -24,7 +24,7 @@ use Rattle.turn_semantics.specs.Wakes.{set_at, IsBefore, SeesAt, SeesWaiting, Go
 use Rattle.turn_semantics.proofs.Agreeing.{event_at_places}
 use Rattle.interleavings.specs.Interleaving.{live, slept, leaves_by, goes_on, leaves_at}
 use Rattle.interleavings.specs.Woken.{SeesNow, IsOver}
-use Rattle.interleavings.proofs.Queues.{pending_asked, pending_finish, PendingOn, LateFrom, late_from_unsigned}
+use Rattle.interleavings.proofs.Queues.{pending_asked, pending_finish, PendingOn, LateFrom, LeftFrom}
 
 late_earlier : (v t : ℕ) (r : Result) → v ≤ t → Late t r → Late v r
 late_earlier v t r le h = let e : t ≤ r.end = h.ends in record { ends = omega arith; timed = timed_earlier v t r.log le h.timed }
@@ -406,24 +406,18 @@ module _ (k : Tables) (outcomes : ChildOutcomes) (here : Here) (t : Now) (v : �
           (late_settled v here.clock (outcome_members outcomes children) ended exc _ (stack_at k.cancelled_from ps).scopes t le)
   late_rest (at_end u e) fs ps h l le = cc
 
-  -- and what any task has left has no sign before
-  pub unsigned_rest : (s : Stopped) (fs : List Frame) (ps : List Place) → PlacedStop s fs ps →
-      (live s ≡ true → v ≤ goes_on here.clock outcomes s (stack_at k.cancelled_from ps) (leaves_at k s here ps) t.at) → (l : Label) →
-      upto v (least_sign l (rest_comes_to (by_tables k) outcomes (record { stopped = s; frames = fs }) here (stack_at k.cancelled_from ps) t).log) ≡ v
-  unsigned_rest to_begin fs ps h le = late_from_unsigned v here fs ps to_begin _ (late_rest to_begin fs ps h refl (le refl))
-  unsigned_rest (asking kernel purpose) fs ps h le =
-      late_from_unsigned v here fs ps (asking kernel purpose) _ (late_rest (asking kernel purpose) fs ps h refl (le refl))
-  unsigned_rest (asleep paced n since) fs ps h le =
-      late_from_unsigned v here fs ps (asleep paced n since) _ (late_rest (asleep paced n since) fs ps h refl (le refl))
-  unsigned_rest (waiting_for event since) fs ps h le =
-      late_from_unsigned v here fs ps (waiting_for event since) _ (late_rest (waiting_for event since) fs ps h refl (le refl))
-  unsigned_rest (queued object ask since body) fs ps h le =
-      late_from_unsigned v here fs ps (queued object ask since body) _ (late_rest (queued object ask since body) fs ps h refl (le refl))
-  unsigned_rest (giving_up since) fs ps h le =
-      late_from_unsigned v here fs ps (giving_up since) _ (late_rest (giving_up since) fs ps h refl (le refl))
-  unsigned_rest (awaiting children ended exc) fs ps h le =
-      late_from_unsigned v here fs ps (awaiting children ended exc) _ (late_rest (awaiting children ended exc) fs ps h refl (le refl))
-  unsigned_rest (at_end u e) fs ps h le l = refl
+  -- and so is what any task has left
+  pub left_rest : (s : Stopped) (fs : List Frame) (ps : List Place) → PlacedStop s fs ps →
+      (live s ≡ true → v ≤ goes_on here.clock outcomes s (stack_at k.cancelled_from ps) (leaves_at k s here ps) t.at) →
+      LeftFrom v here fs ps s (rest_comes_to (by_tables k) outcomes (record { stopped = s; frames = fs }) here (stack_at k.cancelled_from ps) t)
+  left_rest to_begin fs ps h le = late_rest to_begin fs ps h refl (le refl)
+  left_rest (asking kernel purpose) fs ps h le = late_rest (asking kernel purpose) fs ps h refl (le refl)
+  left_rest (asleep paced n since) fs ps h le = late_rest (asleep paced n since) fs ps h refl (le refl)
+  left_rest (waiting_for event since) fs ps h le = late_rest (waiting_for event since) fs ps h refl (le refl)
+  left_rest (queued object ask since body) fs ps h le = late_rest (queued object ask since body) fs ps h refl (le refl)
+  left_rest (giving_up since) fs ps h le = late_rest (giving_up since) fs ps h refl (le refl)
+  left_rest (awaiting children ended exc) fs ps h le = late_rest (awaiting children ended exc) fs ps h refl (le refl)
+  left_rest (at_end u e) fs ps h le = refl
 
 -- a child's end is no later than that of its nursery
 pub latest_in : (outcomes : ChildOutcomes) (u : ℕ) (is : List ℕ) (i : ℕ) → IsAmong i is → (outcomes i).end ≤ latest u (outcome_members outcomes is)

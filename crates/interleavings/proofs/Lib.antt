@@ -1,6 +1,7 @@
 pub mod Readings
 pub mod Contract
 pub mod Queues
+pub mod KnownActs
 pub mod Lateness
 pub mod Agreement
 pub mod Commit

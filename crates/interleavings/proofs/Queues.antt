@@ -6,7 +6,7 @@ use Rattle.job_tree.specs.declared.object.Ask.{Ask}
 use Rattle.input_lines.specs.Lines.{Range}
 use Rattle.exceptions.specs.Exceptions.{Label}
 use Rattle.cancel_scopes.specs.Sight.{Tick, sight, seen}
-use Rattle.job_meaning.specs.Log.{nil, asks, act, Result, least_sign}
+use Rattle.job_meaning.specs.Log.{asks, Log, nil, act, Result, least_sign}
 use Rattle.job_meaning.specs.Sharing.{What, Granted, granted_if}
 use Rattle.job_meaning.specs.Moments.{Now}
 use Rattle.job_meaning.specs.Walk.{Stack, Mode, Here, with_act, last_grant, leaves_queue, in_time, left_result, granted_result, asked_result}
@@ -167,21 +167,28 @@ late_from_ends v here fs ps (giving_up since) r h = h.ends
 late_from_ends v here fs ps (awaiting children ended exc) r h = h.ends
 late_from_ends v here fs ps (at_end u e) r h = h.ends
 
+-- So it is with any task; one that has ended has nothing left.
+abbrev pub LeftFrom : ℕ → Here → List Frame → List Place → Stopped → Result → Type 0
+LeftFrom v here fs ps (queued object ask since body) r = PendingOn v (label_among true object ps) since ask (inside fs here).part r
+LeftFrom v here fs ps (at_end u e) r = r.log ≡ nil
+LeftFrom v here fs ps to_begin r = Late v r
+LeftFrom v here fs ps _ r = Late v r
+
 late_unsigned : (v : ℕ) (l : Label) (r : Result) → Late v r → upto v (least_sign l r.log) ≡ v
 late_unsigned v l r h = least_late v v l r.log (omega arith) h.timed
 
--- and there is no sign in it before
-pub late_from_unsigned : (v : ℕ) (here : Here) (fs : List Frame) (ps : List Place) (s : Stopped) (r : Result) → LateFrom v here fs ps s r →
+-- there is no sign before v in what a task has left
+pub left_unsigned : (v : ℕ) (here : Here) (fs : List Frame) (ps : List Place) (s : Stopped) (r : Result) → LeftFrom v here fs ps s r →
     (l : Label) → upto v (least_sign l r.log) ≡ v
-late_from_unsigned v here fs ps (queued object ask since body) r h l = of_label (label_among true object ps) h
+left_unsigned v here fs ps (queued object ask since body) r h l = of_label (label_among true object ps) h
   where
     of_label : (o : Option Label) → PendingOn v o since ask (inside fs here).part r → upto v (least_sign l r.log) ≡ v
     of_label None p = absurd p
     of_label (Some m) p = ap (λ (x : Result). upto v (least_sign l x.log)) p.same ∙ late_unsigned v l p.rest p.late
-late_from_unsigned v here fs ps to_begin r h l = late_unsigned v l r h
-late_from_unsigned v here fs ps (asking kernel purpose) r h l = late_unsigned v l r h
-late_from_unsigned v here fs ps (asleep paced n since) r h l = late_unsigned v l r h
-late_from_unsigned v here fs ps (waiting_for event since) r h l = late_unsigned v l r h
-late_from_unsigned v here fs ps (giving_up since) r h l = late_unsigned v l r h
-late_from_unsigned v here fs ps (awaiting children ended exc) r h l = late_unsigned v l r h
-late_from_unsigned v here fs ps (at_end u e) r h l = late_unsigned v l r h
+left_unsigned v here fs ps (at_end u e) r h l = ap (λ (a : Log). upto v (least_sign l a)) h
+left_unsigned v here fs ps to_begin r h l = late_unsigned v l r h
+left_unsigned v here fs ps (asking kernel purpose) r h l = late_unsigned v l r h
+left_unsigned v here fs ps (asleep paced n since) r h l = late_unsigned v l r h
+left_unsigned v here fs ps (waiting_for event since) r h l = late_unsigned v l r h
+left_unsigned v here fs ps (giving_up since) r h l = late_unsigned v l r h
+left_unsigned v here fs ps (awaiting children ended exc) r h l = late_unsigned v l r h

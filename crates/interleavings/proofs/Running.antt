@@ -16,7 +16,7 @@ use Rattle.job_meaning.proofs.Settled.{following_is_meaning, table_is_settled}
 use Rattle.turn_semantics.specs.Midway.{Tables, by_tables, Begun, Move, OwnFits}
 use Rattle.turn_semantics.specs.Steps.{cancelled_from_after}
 use Rattle.turn_semantics.specs.Wakes.{Wake, begins, sees, gives_up, is_due, has_answer, is_granted, settles, WakesBy}
-use Rattle.turn_semantics.specs.Turned.{weight_of_begun, TurnsOver}
+use Rattle.turn_semantics.specs.Turned.{weight_of_begun, rounds_skipped, TurnsOver}
 use Rattle.turn_semantics.proofs.Events.{own_fits, none_fits}
 use Rattle.interleavings.specs.Interleaving.{Started, Tells, RunInvariant, AllFrom}
 use Rattle.interleavings.specs.Going.{root_result, root_task, children_from, task_after_turn}
@@ -270,17 +270,29 @@ weights_front : {q : Started} {qs others : List Started} → Front q qs others �
 weights_front (is_front q qs) = refl
 weights_front (after_one q x qs others at) = omega (arith, weights_front at)
 
+-- A turn takes a weight off, and one more where its task gives up two rounds later.
+pub weights_turned : (k : Tables) (f : Table) (now : Now) (m : ℕ) (q : Started) (qs others : List Started) (wake : Wake) (o : Move) (s : Stopped) →
+    Front q qs others → TurnsOver q.stop now q.here f wake q.rest q.places q.count o → o.stopped ≡ Some s →
+    all_weights ((task_after_turn k now m q o s ∷ children_from k (a_round_after q.here.clock now.at) m o.begun) ++ others)
+    + suc (rounds_skipped now.at (Some s)) ≤ all_weights qs
+weights_turned k f now m q qs others wake o s at goes stopped =
+    let a : all_weights qs ≡ rest_weight q.rest + all_weights others = weights_front at in
+    let b : all_weights (children_from k (a_round_after q.here.clock now.at) m o.begun) ≡ weight_of_begun o.begun =
+    weights_begun k (a_round_after q.here.clock now.at) m o.begun in
+    let c : all_weights (children_from k (a_round_after q.here.clock now.at) m o.begun ++ others)
+    ≡ all_weights (children_from k (a_round_after q.here.clock now.at) m o.begun) + all_weights others =
+    weights_join (children_from k (a_round_after q.here.clock now.at) m o.begun) others in
+    let d : rest_weight (record { stopped = s; frames = o.frames }) + weight_of_begun o.begun + rounds_skipped now.at (Some s)
+    < rest_weight q.rest = lighter now f wake q o s goes stopped in
+    omega arith
+
 ends_run : (k : Tables) {job : Tree} {input : List ℕ} {f : Table} {t m : ℕ} {qs : List Started} → (r : Reached k job input f t m qs) →
     turns_taken r + all_weights qs ≤ 2 * size_of job.steps + 1
 ends_run k (begun f) = omega arith
 ends_run k (turn f now m q qs others wake o s r at may goes stopped) =
-    let a : all_weights qs ≡ rest_weight q.rest + all_weights others = weights_front at in
-    let b : all_weights (children_from k (a_round_after q.here.clock now.at) m o.begun) ≡ weight_of_begun o.begun = weights_begun k (a_round_after q.here.clock now.at) m o.begun in
-    let c : all_weights (children_from k (a_round_after q.here.clock now.at) m o.begun ++ others) ≡ all_weights (children_from k (a_round_after q.here.clock now.at) m o.begun) + all_weights others =
-    weights_join (children_from k (a_round_after q.here.clock now.at) m o.begun) others in
-    let d : rest_weight (record { stopped = s; frames = o.frames }) + weight_of_begun o.begun < rest_weight q.rest =
-    lighter now f wake q o s goes stopped in
-    let e : turns_taken r + all_weights qs ≤ _ = ends_run k r in
+    let a : all_weights ((task_after_turn k now m q o s ∷ children_from k (a_round_after q.here.clock now.at) m o.begun) ++ others)
+    + suc (rounds_skipped now.at (Some s)) ≤ all_weights qs = weights_turned k f now m q qs others wake o s at goes stopped in
+    let b : turns_taken r + all_weights qs ≤ _ = ends_run k r in
     omega arith
 ends_run k (jump f t u m qs r le blocked) = ends_run k r
 

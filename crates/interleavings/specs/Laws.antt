@@ -42,12 +42,13 @@ RunsEnd =
 abbrev pub round_of : ℕ → ℕ
 round_of m = m % rounds_in_a_tick
 
--- By rounds, the round in which a task stopped last, or in which it begins, is at most the number of turns so far.
+-- By rounds, the round in which a task stopped last, or in which it begins, is at most the weight that the turns so far have taken off: each
+-- takes off one at least, and one more where an ask is refused, since its task gives up two rounds later.
 abbrev pub RoundsAreFew : Type 0
 RoundsAreFew =
     (k : Tables) (job : Tree) (input : List ℕ) → GivesNamesOnce job → StartsInNurseries job → IsSettledBy k job input → clock_of job.format ≡ by_rounds →
-    (f : Table) (t m : ℕ) (qs : List Started) → (r : Reached k job input f t m qs) → (q : Started) → IsAmong q qs →
-    round_of q.stop.at ≤ turns_taken r
+    (f : Table) (t m : ℕ) (qs : List Started) → Reached k job input f t m qs → (q : Started) → IsAmong q qs →
+    round_of q.stop.at + all_weights qs ≤ 2 * size_of job.steps + 1
 
 -- A run of a job of at most a million steps, those of children included, has fewer turns than a tick has rounds. So no round
 -- overflows into the next tick: the moment a round after a task stopped or begins is in the same tick.
