@@ -37,7 +37,7 @@ act_timed P t (task l s u e own rest) f h = (act_timed P s own (λ w le. f w (la
     later w le = let first : t ≤ s = h.0 in omega arith
 
 -- what a task itself does to an object
-own_acts_each : (P : ℕ → Type 0) (l t : Label) (a : Log) → EachAct P a → Each P (own_acts l t a)
+pub own_acts_each : (P : ℕ → Type 0) (l t : Label) (a : Log) → EachAct P a → Each P (own_acts l t a)
 own_acts_each P l t nil h = tt
 own_acts_each P l t (entry m e rest) h = own_acts_each P l t rest h
 own_acts_each P l t (sign k m rest) h = own_acts_each P l t rest h

@@ -16,3 +16,5 @@ pub mod Running
 pub mod Housing
 pub mod Deadlines
 pub mod Rounds
+pub mod Naming
+pub mod GrantsKnown

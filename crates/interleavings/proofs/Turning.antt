@@ -46,7 +46,7 @@ unfolding made_times times_made children_from
 begun_times k t l m [] ys = refl
 begun_times k t l m (b ∷ bs) ys = omega (arith, begun_times k t l (suc m) bs ys)
 
-begun_made : (k : Tables) (t m : ℕ) (bs : List Begun) (x : Started) → IsAmong x (children_from k t m bs) → x.made ≡ []
+pub begun_made : (k : Tables) (t m : ℕ) (bs : List Begun) (x : Started) → IsAmong x (children_from k t m bs) → x.made ≡ []
 unfolding children_from
 begun_made k t m [] x i = absurd i
 begun_made k t m (b ∷ bs) x (inl e) = ap (λ (z : Started). z.made) e

@@ -107,7 +107,7 @@ RunsKeepInvariant =
 -- order of records. So a program that serves what is done in each round grants what any settled tables say.
 abbrev pub GrantsAreKnown : Type 0
 GrantsAreKnown =
-    (k : Tables) (job : Tree) (input : List ℕ) → IsSettledBy k job input → GivesNamesOnce job → StartsInNurseries job →
+    (k : Tables) (job : Tree) (input : List ℕ) → GivesNamesOnce job → StartsInNurseries job → IsSettledBy k job input →
     (f : Table) (t m : ℕ) (qs : List Started) → Reached k job input f t m qs → (taken : List Started) → InOrder qs (0 ∷ []) taken →
     (object asker : Label) (since : ℕ) →
     granted_before (suc t) (k.granted object asker since) ≡ granted_before (suc t) (granted_so_far taken object asker since)

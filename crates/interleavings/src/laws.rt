@@ -19,7 +19,7 @@ ghost use Rattle.interleavings.specs.Laws.{
 /// task is ready, one has a next turn. A run takes at most twice as many turns as the job has steps (including those of children)
 /// plus one. A task that has not ended is the root, or is in an unsettled nursery of the task that started it; and the task that
 /// leaves a scope or nursery is the last one in it. Where a tick has rounds, no task has a turn in a round that is greater than
-/// the number of turns so far: so no round overflows into the next tick.
+/// the weight that the turns so far have taken off: so no round overflows into the next tick.
 pub fn law_runs()
     ensures interleaving { RunsKeepInvariant }
     ensures meaning { RunsAreTheMeaning }
