@@ -1,10 +1,9 @@
 -- What limiters and channels grant up to the present moment is what they grant by what the tasks of a run did to them before.
-use Rattle.std.proofs.Common.{◌≡◌, ℕ, suc, ◌<◌, ◌≤◌, min, Bool, true, false, Option, Some, None, List, [], ◌∷◌, ◌++◌, refl, sym, ap, ◌∙◌, subst, inl, inr, arith, append_assoc, nat_lt, if◌then◌else◌}
+use Rattle.std.proofs.Common.{◌≡◌, ℕ, suc, ◌<◌, ◌≤◌, min, Bool, true, false, Option, Some, None, List, [], ◌∷◌, ◌++◌, refl, sym, ap, ◌∙◌, inl, inr, arith, append_assoc, nat_lt, if◌then◌else◌}
 use Rattle.std.proofs.lemmas.Bool.{le-ltb}
 use Rattle.std.proofs.lemmas.List.{append-nil}
 use Rattle.turn_semantics.specs.Lists.{IsAmong}
 use Rattle.job_tree.specs.Tree.{Tree}
-use Rattle.job_tree.specs.declared.object.Ask.{Ask}
 use Rattle.input_lines.specs.Lines.{Range}
 use Rattle.exceptions.specs.Exceptions.{Label}
 use Rattle.cancel_scopes.specs.Sight.{Tick}
@@ -316,7 +315,7 @@ module _ (k : Tables) (f : Table) (whole : Result) (qs : List Started) (o : RunI
     tasks : List Started
     among : AllIn tasks
     numbers : serials tasks ≡ children_made q.child es
-    acts : acts_all tasks ≡ cut t (acts_in l (fill q.outcomes es))
+    doings : acts_all tasks ≡ cut t (acts_in l (fill q.outcomes es))
 
   -- a child does what is recorded of it
   child_acts : (q : Started) (i : ℕ) (n : Label) (c : Started) (rest : List Done) → c.final_result ≡ q.outcomes i → c.here.task ≡ n →
@@ -328,15 +327,15 @@ module _ (k : Tables) (f : Table) (whole : Result) (qs : List Started) (o : RunI
 
   children_of : (q : Started) → IsAmong q qs → (es : List Event) → ((i : ℕ) → StartsChild i es → i < q.count) →
       ((i : ℕ) (n : Label) → StartsNamed i n es → Named qs q i n) → Children q es
-  children_of q j [] h s = record { tasks = []; among = tt; numbers = refl; acts = refl }
+  children_of q j [] h s = record { tasks = []; among = tt; numbers = refl; doings = refl }
   children_of q j (noted u e ∷ es) h s =
-      let r : Children q es = children_of q j es h s in record { tasks = r.tasks; among = r.among; numbers = r.numbers; acts = r.acts }
+      let r : Children q es = children_of q j es h s in record { tasks = r.tasks; among = r.among; numbers = r.numbers; doings = r.doings }
   children_of q j (signs n u ∷ es) h s =
-      let r : Children q es = children_of q j es h s in record { tasks = r.tasks; among = r.among; numbers = r.numbers; acts = r.acts }
+      let r : Children q es = children_of q j es h s in record { tasks = r.tasks; among = r.among; numbers = r.numbers; doings = r.doings }
   children_of q j (enters n u d ∷ es) h s =
-      let r : Children q es = children_of q j es h s in record { tasks = r.tasks; among = r.among; numbers = r.numbers; acts = r.acts }
+      let r : Children q es = children_of q j es h s in record { tasks = r.tasks; among = r.among; numbers = r.numbers; doings = r.doings }
   children_of q j (acts n u a ∷ es) h s =
-      let r : Children q es = children_of q j es h s in record { tasks = r.tasks; among = r.among; numbers = r.numbers; acts = r.acts }
+      let r : Children q es = children_of q j es h s in record { tasks = r.tasks; among = r.among; numbers = r.numbers; doings = r.doings }
   children_of q j (starts i n u ∷ es) h s =
       let r : Children q es = children_of q j es (λ x m. h x (inr m)) (λ x y m. s x y (inr m)) in
       let c : Kid qs q i = o.kids q j i (h i (inl refl)) in
@@ -347,9 +346,9 @@ module _ (k : Tables) (f : Table) (whole : Result) (qs : List Started) (o : RunI
         tasks = c.kid ∷ r.tasks;
         among = (c.among, r.among);
         numbers = λ v. c.serial v ∷ r.numbers v;
-        acts =
+        doings =
             child_acts q i n c.kid (acts_all r.tasks) c.same label
-            ∙ (ap (λ (xs : List Done). cut t (own_acts l n (q.outcomes i).log) ++ (cut t (acts_in l (q.outcomes i).log) ++ xs)) r.acts
+            ∙ (ap (λ (xs : List Done). cut t (own_acts l n (q.outcomes i).log) ++ (cut t (acts_in l (q.outcomes i).log) ++ xs)) r.doings
             ∙ sym (cut_append t (own_acts l n (q.outcomes i).log) (acts_in l (q.outcomes i).log ++ acts_in l (fill q.outcomes es))
             ∙ ap (λ (xs : List Done). cut t (own_acts l n (q.outcomes i).log) ++ xs)
             (cut_append t (acts_in l (q.outcomes i).log) (acts_in l (fill q.outcomes es)))));
@@ -368,7 +367,7 @@ module _ (k : Tables) (f : Table) (whole : Result) (qs : List Started) (o : RunI
       let same : q ≡ x = one q x i p.0 first in
       let more : children_made q.child q.made ++ stack ≡ serials (c.tasks ++ ts) =
       ap (λ (y : List ℕ). y ++ stack) (sym c.numbers) ∙ (ap (λ (y : List ℕ). serials c.tasks ++ y) rest ∙ sym (serials_append c.tasks ts)) in
-      let inner : acts_all c.tasks ≡ cut t (acts_in l q.final_result.log) = c.acts ∙ sym (in_final q i) in
+      let inner : acts_all c.tasks ≡ cut t (acts_in l q.final_result.log) = c.doings ∙ sym (in_final q i) in
       cut_append t (acts_of l q) (acts_of_all l taken)
       ∙ (ap (λ (xs : List Done). xs ++ cut t (acts_of_all l taken)) (sym (own_final q i))
       ∙ (ap (λ (xs : List Done). cut t (own_acts l q.here.task q.final_result.log) ++ xs)

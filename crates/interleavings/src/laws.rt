@@ -1,7 +1,8 @@
-//! The laws of runs in turns. The function does nothing: its contract is the law.
+//! The laws of runs in turns. The functions do nothing: their contracts are the laws.
 
 ghost use Rattle.interleavings.specs.Laws.{
   BlockedRunsGoOn,
+  GrantsAreKnown,
   LastToLeave,
   LimitsAreExact,
   RoundsAreFew,
@@ -30,4 +31,11 @@ pub fn law_runs()
     ensures last { LastToLeave }
     ensures rounds { RoundsAreFew }
     ensures room { RoundsStayInTicks }
+{}
+
+/// What limiters and channels grant up to the present moment is what they grant by what the tasks of the run did to them in the
+/// moments before, in the order of records (`specs/Acts.antt`): what each task has made known, and what it asked, if it is still
+/// in a queue. So a program that serves in each round what was done in the rounds before grants what any settled tables say.
+pub fn law_grants()
+    ensures { GrantsAreKnown }
 {}

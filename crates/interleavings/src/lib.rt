@@ -9,4 +9,4 @@
 
 mod laws;
 
-pub use laws::law_runs;
+pub use laws::{law_grants, law_runs};
