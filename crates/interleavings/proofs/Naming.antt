@@ -1,5 +1,5 @@
 -- No two tasks of a run have one serial number, each child has the label with which it was started, and the root has that of the job.
-use Rattle.std.proofs.Common.{◌≡◌, ◌⊎◌, ℕ, zero, suc, ◌+◌, ◌-◌, ◌<◌, ◌≤◌, Bool, true, false, ◌==◌, if◌then◌else◌, Some, List, [], ◌∷◌, ◌++◌, length, refl, sym, ap, ◌∙◌, subst, inl, inr, arith}
+use Rattle.std.proofs.Common.{◌≡◌, ◌⊎◌, ℕ, suc, ◌+◌, ◌-◌, ◌<◌, ◌≤◌, Bool, true, false, ◌==◌, if◌then◌else◌, List, [], ◌∷◌, ◌++◌, refl, sym, ap, ◌∙◌, subst, inl, inr, arith}
 use Rattle.std.proofs.lemmas.Bool.Decides.{nat_tests}
 use Rattle.turn_semantics.specs.Lists.{Exists, IsAmong}
 use Rattle.job_tree.specs.Tree.{Tree}
@@ -11,7 +11,7 @@ use Rattle.job_meaning.specs.Moments.{a_round_after}
 use Rattle.job_meaning.specs.Meaning.{root_label}
 use Rattle.job_meaning.specs.Rest.{Event, noted, signs, enters, acts, starts}
 use Rattle.turn_semantics.specs.Made.{StartedChild, started_in}
-use Rattle.turn_semantics.specs.Midway.{Tables, Begun, Move}
+use Rattle.turn_semantics.specs.Midway.{Tables, Begun}
 use Rattle.turn_semantics.specs.Turned.{Starts}
 use Rattle.interleavings.specs.Interleaving.{Started, StartsChild}
 use Rattle.interleavings.specs.Going.{root_task, children_from, task_after_turn}

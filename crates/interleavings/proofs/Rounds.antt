@@ -182,6 +182,23 @@ turn_made n clock t ls here (giving_up since) fs ps at es h b m a = signs_made n
 turn_made n clock t ls here (awaiting children ended e) fs ps at es h b m a = signs_made n clock t ls es h m a
 turn_made n clock t ls here (at_end u e) fs ps at es h b m a = signs_made n clock t ls es h m a
 
+-- So is its stop; a task that gives up after an ask does so a round later than after a checkpoint.
+stop_made : (n : ℕ) (clock : Clock) (t : ℕ) (f : Table) (ps : List Place) (s : Stopped) → round_of t + rounds_skipped t (Some s) < n →
+    StopsAt clock t f (Some s) ps → StopBelow n t s
+stop_made n clock t f ps to_begin h k = absurd k
+stop_made n clock t f ps (asking kernel purpose) h k = omega arith
+stop_made n clock t f ps (asleep paced ticks since) h k = (omega arith, k.0)
+stop_made n clock t f ps (waiting_for event since) h k = (omega arith, k)
+stop_made n clock t f ps (queued object ask since body) h k = (omega arith, k.0)
+stop_made n clock t f ps (giving_up since) h (inl e) = let a : round_of t < n = omega arith in (a, subst (λ (x : ℕ). round_of x < n) (sym e) a)
+stop_made n clock t f ps (giving_up since) h (inr e) =
+    let a : round_of (t + 1) ≤ round_of t + 1 = round_later t in
+    let b : round_of (t + 1) < n = omega arith in
+    let c : since ≡ t + 1 = omega arith in
+    (omega arith, subst (λ (x : ℕ). round_of x < n) (sym c) b)
+stop_made n clock t f ps (awaiting children ended e) h k = (omega arith, k)
+stop_made n clock t f ps (at_end u e) h k = (omega arith, k)
+
 -- ---- acts
 
 -- a moment is t or later, or in a round less than n; and the next moment is later than t, or in a round of at most n
@@ -225,23 +242,6 @@ left_known t n here fs ps at (asleep paced ticks since) r h b = late_known t n r
 left_known t n here fs ps at (waiting_for event since) r h b = late_known t n r h
 left_known t n here fs ps at (giving_up since) r h b = late_known t n r h
 left_known t n here fs ps at (awaiting children ended exc) r h b = late_known t n r h
-
--- So is the stop of a turn; a task that gives up after an ask does so a round later than after a checkpoint.
-stop_made : (n : ℕ) (clock : Clock) (t : ℕ) (f : Table) (ps : List Place) (s : Stopped) → round_of t + rounds_skipped t (Some s) < n →
-    StopsAt clock t f (Some s) ps → StopBelow n t s
-stop_made n clock t f ps to_begin h k = absurd k
-stop_made n clock t f ps (asking kernel purpose) h k = omega arith
-stop_made n clock t f ps (asleep paced ticks since) h k = (omega arith, k.0)
-stop_made n clock t f ps (waiting_for event since) h k = (omega arith, k)
-stop_made n clock t f ps (queued object ask since body) h k = (omega arith, k.0)
-stop_made n clock t f ps (giving_up since) h (inl e) = let a : round_of t < n = omega arith in (a, subst (λ (x : ℕ). round_of x < n) (sym e) a)
-stop_made n clock t f ps (giving_up since) h (inr e) =
-    let a : round_of (t + 1) ≤ round_of t + 1 = round_later t in
-    let b : round_of (t + 1) < n = omega arith in
-    let c : since ≡ t + 1 = omega arith in
-    (omega arith, subst (λ (x : ℕ). round_of x < n) (sym c) b)
-stop_made n clock t f ps (awaiting children ended e) h k = (omega arith, k)
-stop_made n clock t f ps (at_end u e) h k = (omega arith, k)
 
 -- ---- what is seen
 
