@@ -129,22 +129,22 @@ acting_near c l (d ∷ ds) = both (by_order (nat_lt d.at c) refl) (acting_near c
     by_order true e = ap (λ (a : Act). act_if (nat_lt d.at c) l d.at a nil) (sym (before_twice c d.act))
     by_order false e = ap (λ (x : Bool). act_if x l d.at (act_before c d.act) nil) e
 
+-- a result with this log, which does not end before c
+abbrev doing : ℕ → Log → Result
+doing c a = record { end = c; own = []; exc = None; members = []; log = a }
+
 -- What is granted up to c is granted by what is known before c of what was done.
 served_before : (c : ℕ) (job : Tree) (l asker : Label) (m : ℕ) (ds : List Done) →
     granted_before (suc c) (find_given asker m (serve_acts unopened (by_moment ds)))
     ≡ granted_before (suc c) (find_given asker m (serve_acts unopened (by_moment (cut c ds))))
 served_before c job l asker m ds =
     sym (of_log (acting l ds) ds (acting_own l (root_label job.name) ds) (acting_acts l ds))
-    ∙ (near_grants c job (doing (acting l ds)) (doing (acting_before c l ds)) (acting_timed l ds) (acting_before_timed c l ds)
+    ∙ (near_grants c job (doing c (acting l ds)) (doing c (acting_before c l ds)) (acting_timed l ds) (acting_before_timed c l ds)
     (later (omega arith) (omega arith) (acting_near c l ds)) l asker m
     ∙ of_log (acting_before c l ds) (cut c ds) (acting_before_own c l (root_label job.name) ds) (acting_before_acts c l ds))
   where
-    -- a walk with this log, which does not end before c
-    doing : Log → Result
-    doing a = record { end = c; own = []; exc = None; members = []; log = a }
-
     of_log : (a : Log) (xs : List Done) → own_acts l (root_label job.name) a ≡ [] → acts_in l a ≡ xs →
-        granted_before (suc c) (grants_of (root_log job (doing a)) l asker m)
+        granted_before (suc c) (grants_of (root_log job (doing c a)) l asker m)
         ≡ granted_before (suc c) (find_given asker m (serve_acts unopened (by_moment xs)))
     of_log a xs e f =
         ap (λ (zs : List Done). granted_before (suc c) (find_given asker m (serve_acts unopened (by_moment zs))))

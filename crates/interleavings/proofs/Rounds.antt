@@ -682,7 +682,8 @@ module _ (k : Tables) (job : Tree) (input : List ℕ) (names : GivesNamesOnce jo
       let weights : all_weights ((task_after_turn k now p q o s ∷ children_from k (a_round_after q.here.clock now.at) p o.begun) ++ others)
       + suc (rounds_skipped now.at (Some s)) ≤ all_weights qs = weights_turned k g now p q qs others wake o s at goes stopped in
       let few : turns_taken r + all_weights qs ≤ 2 * size_of job.steps + 1 = runs_end k job input g now.at p qs r in
-      turned_below (taken qs) _ k g now p q others wake o s all by
+      turned_below (taken qs) (taken ((task_after_turn k now p q o s ∷ children_from k (a_round_after q.here.clock now.at) p o.begun) ++ others))
+      k g now p q others wake o s all by
       (woken_below k g job input settled (follow_on k job input clocked) (q ∷ others) (interleaving_moved k g whole qs (q ∷ others) same kept.0) now.at
       (from_moved k g whole qs (q ∷ others) same now.at kept.1) (taken qs) all p
       (λ y j. serials_below k job input g now.at p qs r y (same.back y j)) q (inl refl) by
@@ -707,7 +708,7 @@ pub rounds_are_few : RoundsAreFew
 rounds_are_few k job input names nurseries settled clocked f t m qs r q i =
     let few : turns_taken r + all_weights qs ≤ 2 * size_of job.steps + 1 = runs_end k job input f t m qs r in
     let a : round_of q.stop.at ≤ (2 * size_of job.steps + 1) - all_weights qs =
-    stop_within _ q.stop.at q.rest.stopped (all_below k job input names nurseries settled clocked f t m qs r q i).stop in
+    stop_within ((2 * size_of job.steps + 1) - all_weights qs) q.stop.at q.rest.stopped (all_below k job input names nurseries settled clocked f t m qs r q i).stop in
     omega arith
 
 -- so none overflows into the next tick
