@@ -55,7 +55,9 @@ counted n q (x ∷ qs) (inr i) e = let more : 1 ≤ serial_count n qs = counted 
 none_counted : (n : ℕ) (qs : List Started) → ((q : Started) → IsAmong q qs → q.serial < n) → serial_count n qs ≡ 0
 none_counted n [] h = refl
 none_counted n (q ∷ qs) h =
-    ap (λ (b : Bool). (if b then 1 else 0) + serial_count n qs) (differs (h q (inl refl))) ∙ none_counted n qs (λ x i. h x (inr i))
+    let a : (if q.serial == n then 1 else 0) ≡ 0 = ap (λ (b : Bool). if b then 1 else 0) (differs (h q (inl refl))) in
+    let b : serial_count n qs ≡ 0 = none_counted n qs (λ x i. h x (inr i)) in
+    omega arith
   where
     differs : q.serial < n → (q.serial == n) ≡ false
     differs lt = grind (arith, nat_tests)
@@ -71,7 +73,9 @@ new_low : (k : Tables) (t n m : ℕ) (bs : List Begun) → n < m → serial_coun
 unfolding children_from
 new_low k t n m [] lt = refl
 new_low k t n m (b ∷ bs) lt =
-    ap (λ (x : Bool). (if x then 1 else 0) + serial_count n (children_from k t (suc m) bs)) (differs lt) ∙ new_low k t n (suc m) bs (omega arith)
+    let a : (if m == n then 1 else 0) ≡ 0 = ap (λ (x : Bool). if x then 1 else 0) (differs lt) in
+    let b : serial_count n (children_from k t (suc m) bs) ≡ 0 = new_low k t n (suc m) bs (omega arith) in
+    omega arith
   where
     differs : n < m → (m == n) ≡ false
     differs less = grind (arith, nat_tests)
@@ -83,7 +87,7 @@ new_once k t n m (b ∷ bs) = by_test (m == n) refl (new_once k t n (suc m) bs)
   where
     by_test : (x : Bool) → (m == n) ≡ x → serial_count n (children_from k t (suc m) bs) ≤ 1 →
         (if x then 1 else 0) + serial_count n (children_from k t (suc m) bs) ≤ 1
-    by_test false e h = h
+    by_test false e h = omega arith
     by_test true e h =
         let low : serial_count n (children_from k t (suc m) bs) ≡ 0 = new_low k t n (suc m) bs (grind (arith, nat_tests)) in omega arith
 
