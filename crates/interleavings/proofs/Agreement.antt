@@ -125,12 +125,14 @@ module _ (k : Tables) (f : Table) (whole : Result) (qs : List Started) (o : RunI
       upto (suc v) (sight (stack_at k.cancelled_from ps).scopes) ≡ upto (suc v) (sight (stack_at f ps).scopes) →
       suc v ≤ min (slept clock paced (stack_at k.cancelled_from ps) n since).end (wakes_at clock n since)
   sleeps_until clock paced n since u ps m p (inl g) j =
-      let a : upto (suc v) (sight (stack_at k.cancelled_from ps).scopes) ≡ suc v = unseen (sight (stack_at k.cancelled_from ps).scopes) (sight (stack_at f ps).scopes) u g m j in
+      let a : upto (suc v) (sight (stack_at k.cancelled_from ps).scopes) ≡ suc v =
+      unseen (sight (stack_at k.cancelled_from ps).scopes) (sight (stack_at f ps).scopes) u g m j in
       let b : suc v ≤ (slept clock paced (stack_at k.cancelled_from ps) n since).end =
       slept_unseen clock paced (stack_at k.cancelled_from ps) n since (suc v) (omega arith) a in
       omega arith
   sleeps_until clock paced n since u ps m p (inr g) j =
-      let b : a_round_after clock since ≤ (slept clock paced (stack_at k.cancelled_from ps) n since).end = slept_after clock paced (stack_at k.cancelled_from ps) n since in
+      let b : a_round_after clock since ≤ (slept clock paced (stack_at k.cancelled_from ps) n since).end =
+      slept_after clock paced (stack_at k.cancelled_from ps) n since in
       omega arith
 
   -- nor is a wait for an event over, whether the event is set by then or not
@@ -203,7 +205,8 @@ module _ (k : Tables) (f : Table) (whole : Result) (qs : List Started) (o : RunI
           (sight_near (suc v) _ _ (near_places v k.cancelled_from f q.places (agrees_on q.places (o.placed q i))).0)
       by_stop (waiting_for event since) s l p go =
           let near = near_places v k.cancelled_from f q.places (agrees_on q.places (o.placed q i)) in
-          waits_until q.here.clock since u (stack_at k.cancelled_from q.places) (stack_at f q.places) (event_on event (stack_at k.cancelled_from q.places).events)
+          waits_until q.here.clock since u (stack_at k.cancelled_from q.places) (stack_at f q.places)
+          (event_on event (stack_at k.cancelled_from q.places).events)
           (event_on event (stack_at f q.places).events) (event_there k.cancelled_from event q.places s.0) h p.0 p.1 (sight_near (suc v) _ _ near.0)
           (ends_near (suc v) q.here.clock _ _ since (event_near (suc v) event _ _ near.1))
       by_stop (queued object ask since body) s l p go =

@@ -154,7 +154,9 @@ module _ (k : Tables) (f : Table) (now : Now) (m : ℕ) (wake : Wake) (q : Start
   left_before outcomes = rest_comes_to (by_tables k) outcomes q.rest q.here (stack_at k.cancelled_from q.places) q.stop
 
   abbrev left_after : ChildOutcomes → Result
-  left_after outcomes = rest_comes_to (by_tables k) outcomes (record { stopped = s; frames = o.frames }) q.here (stack_at k.cancelled_from o.places) (now_after q.here.clock now o.made)
+  left_after outcomes =
+      rest_comes_to (by_tables k) outcomes (record { stopped = s; frames = o.frames }) q.here (stack_at k.cancelled_from o.places)
+      (now_after q.here.clock now o.made)
 
   numbers : NumberedFrom q.count o.begun
   numbers = numbers_of q.count o.made o.begun w.starts
@@ -235,7 +237,8 @@ unfolding children_from
 fits_begun k t m [] q i = absurd i
 fits_begun k t m (b ∷ bs) q (inl e) = subst (λ (x : Started). Fits k x) (sym e) (fits_first b)
   where
-    open_child : (b : Begun) (outcomes : ChildOutcomes) → rest_comes_to (by_tables k) outcomes (rest_at_start b.body) b.here (stack_at k.cancelled_from b.places) (only_at t)
+    open_child : (b : Begun) (outcomes : ChildOutcomes) → rest_comes_to (by_tables k) outcomes (rest_at_start b.body) b.here
+        (stack_at k.cancelled_from b.places) (only_at t)
         ≡ begun_comes_to k t b
     open_child b outcomes = finish_begin (by_tables k) outcomes b.body b.here (stack_at k.cancelled_from b.places) (only_at t)
         ∙ sym (finish_begin (by_tables k) no_outcomes b.body b.here (stack_at k.cancelled_from b.places) (only_at t))

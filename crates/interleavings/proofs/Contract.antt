@@ -113,7 +113,8 @@ module _ (now : Now) (f : Table) (wake : Wake) (q : Started) (o : Move) (s : Sto
 
   -- what was left before the turn results in what it did, followed by the result of what is left after it
   pub keeps_to : (k : Tables) (outcomes : ChildOutcomes) → AgreesOn now.at k.cancelled_from f q.places →
-      AgreesIn now.at k.cancelled_from (rest_comes_to (by_tables k) outcomes q.rest q.here (stack_at k.cancelled_from q.places) q.stop).log → AreOutcomes (a_round_after q.here.clock now.at) k outcomes o.begun →
+      AgreesIn now.at k.cancelled_from (rest_comes_to (by_tables k) outcomes q.rest q.here (stack_at k.cancelled_from q.places) q.stop).log →
+      AreOutcomes (a_round_after q.here.clock now.at) k outcomes o.begun →
       WakesBy k outcomes (inside q.rest.frames q.here) q.stop now wake q.rest.stopped q.places →
       rest_comes_to (by_tables k) outcomes q.rest q.here (stack_at k.cancelled_from q.places) q.stop
       ≡ after_events outcomes o.made

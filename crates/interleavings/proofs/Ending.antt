@@ -41,7 +41,8 @@ cancelled_from_append k [] b = refl
 cancelled_from_append k (l ∷ a) b = ap (λ (x : List From). record { label = l; seen = k l } ∷ x) (cancelled_from_append k a b)
 
 -- the log of an ended task is the log of what it did
-ended_log : (k : Tables) (q : Started) → Fits k q → (u : ℕ) (e : Option Exc) → q.rest.stopped ≡ at_end u e → q.final_result.log ≡ fill q.outcomes q.made
+ended_log : (k : Tables) (q : Started) → Fits k q → (u : ℕ) (e : Option Exc) → q.rest.stopped ≡ at_end u e →
+    q.final_result.log ≡ fill q.outcomes q.made
 ended_log k q p u e s =
     sym (ap (λ (r : Result). r.log) (p.comes q.outcomes (outcomes_tell q)))
     ∙ (ap (λ (z : Stopped). (task_comes_to (by_tables k) q.outcomes q.made (record { stopped = z; frames = q.rest.frames }) q.here
@@ -79,7 +80,8 @@ module _ (k : Tables) (f : Table) (whole : Result) (qs : List Started) (o : RunI
   cancelled_from_over q i (signs l t ∷ es) h = cancelled_from_over q i es h
   cancelled_from_over q i (enters l t d ∷ es) h =
       let z : f l ≡ k.cancelled_from l = from_over q i l d (h l d (inl (refl, refl))) in
-      let y : cancelled_from_by f (entered_made es) ≡ cancelled_from_by k.cancelled_from (entered_made es) = cancelled_from_over q i es (λ m c j. h m c (inr j)) in
+      let y : cancelled_from_by f (entered_made es) ≡ cancelled_from_by k.cancelled_from (entered_made es) =
+      cancelled_from_over q i es (λ m c j. h m c (inr j)) in
       λ j. record { label = l; seen = z j } ∷ y j
   cancelled_from_over q i (acts label moment done ∷ es) h = cancelled_from_over q i es h
   cancelled_from_over q i (starts n l t ∷ es) h = cancelled_from_over q i es h
@@ -92,7 +94,8 @@ module _ (k : Tables) (f : Table) (whole : Result) (qs : List Started) (o : RunI
   row_entries : (q : Started) → IsAmong q qs → (rows q.serial).entries ≡ entries_of clock q.final_result.log
   row_entries q i = (rowed q i).entries ∙ sym (ap (entries_of clock) (log_of q i) ∙ entries_fill clock q.outcomes q.made)
 
-  row_cancelled_from : (q : Started) → IsAmong q qs → (rows q.serial).cancelled_from ≡ cancelled_from_by k.cancelled_from (entered_by q.final_result.log)
+  row_cancelled_from : (q : Started) → IsAmong q qs → (rows q.serial).cancelled_from ≡ 
+      cancelled_from_by k.cancelled_from (entered_by q.final_result.log)
   row_cancelled_from q i = (rowed q i).cancelled_from ∙ (cancelled_from_over q i q.made (λ l d j. j)
       ∙ sym (ap (λ (a : Log). cancelled_from_by k.cancelled_from (entered_by a)) (log_of q i) ∙ ap (cancelled_from_by k.cancelled_from) (entered_fill q.outcomes q.made)))
 
@@ -104,7 +107,8 @@ module _ (k : Tables) (f : Table) (whole : Result) (qs : List Started) (o : RunI
 
   abbrev cancelled_from_all : List Started → List From
   cancelled_from_all [] = []
-  cancelled_from_all (q ∷ ts) = ((rows q.serial).cancelled_from ++ cancelled_from_by k.cancelled_from (all_entered q.final_result.log)) ++ cancelled_from_all ts
+  cancelled_from_all (q ∷ ts) =
+      ((rows q.serial).cancelled_from ++ cancelled_from_by k.cancelled_from (all_entered q.final_result.log)) ++ cancelled_from_all ts
 
   abbrev serials : List Started → List ℕ
   serials [] = []
@@ -131,7 +135,8 @@ module _ (k : Tables) (f : Table) (whole : Result) (qs : List Started) (o : RunI
   cancelled_from_all_append : (ts us : List Started) → cancelled_from_all (ts ++ us) ≡ cancelled_from_all ts ++ cancelled_from_all us
   cancelled_from_all_append [] us = refl
   cancelled_from_all_append (q ∷ ts) us =
-      ap (λ (x : List From). ((rows q.serial).cancelled_from ++ cancelled_from_by k.cancelled_from (all_entered q.final_result.log)) ++ x) (cancelled_from_all_append ts us)
+      ap (λ (x : List From). ((rows q.serial).cancelled_from ++ cancelled_from_by k.cancelled_from (all_entered q.final_result.log)) ++ x)
+      (cancelled_from_all_append ts us)
       ∙ sym (append_assoc ((rows q.serial).cancelled_from ++ cancelled_from_by k.cancelled_from (all_entered q.final_result.log)) (cancelled_from_all ts) (cancelled_from_all us))
 
   -- the tasks that these events of a task started
@@ -215,7 +220,8 @@ module _ (k : Tables) (f : Table) (whole : Result) (qs : List Started) (o : RunI
             entries_of clock (q.outcomes i).log;
       } = child_record q i l t c s.0.0 s.0.1 in
       let y : records_of clock c.kid.final_result.log ≡ records_of clock (q.outcomes i).log = ap (λ (v : Result). records_of clock v.log) c.same in
-      let z : (rows c.kid.serial).cancelled_from ++ cancelled_from_by k.cancelled_from (all_entered c.kid.final_result.log) ≡ cancelled_from_by k.cancelled_from (entered_by (q.outcomes i).log)
+      let z : (rows c.kid.serial).cancelled_from ++ cancelled_from_by k.cancelled_from (all_entered c.kid.final_result.log)
+      ≡ cancelled_from_by k.cancelled_from (entered_by (q.outcomes i).log)
       ++ cancelled_from_by k.cancelled_from (all_entered (q.outcomes i).log) =
       ap (λ (v : List From). v ++ cancelled_from_by k.cancelled_from (all_entered c.kid.final_result.log)) (row_cancelled_from c.kid c.among)
       ∙ ap (λ (v : Result). cancelled_from_by k.cancelled_from (entered_by v.log) ++ cancelled_from_by k.cancelled_from (all_entered v.log)) c.same in

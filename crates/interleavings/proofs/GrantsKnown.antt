@@ -121,7 +121,8 @@ acting_near c l [] = refl
 acting_near c l (d ∷ ds) = both (by_order (nat_lt d.at c) refl) (acting_near c l ds)
   where
     both : {a b x y : Log} → a ≡ b → x ≡ y →
-        task_if (nat_lt 0 c) d.task 0 (min c 0) (exc_if (nat_lt 0 c) None) a x ≡ task_if (nat_lt 0 c) d.task 0 (min c 0) (exc_if (nat_lt 0 c) None) b y
+        task_if (nat_lt 0 c) d.task 0 (min c 0) (exc_if (nat_lt 0 c) None) a x
+        ≡ task_if (nat_lt 0 c) d.task 0 (min c 0) (exc_if (nat_lt 0 c) None) b y
     both e f = cc
 
     by_order : (b : Bool) → nat_lt d.at c ≡ b →

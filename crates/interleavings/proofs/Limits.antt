@@ -62,7 +62,8 @@ module _ (k : Tables) (f : Table) (whole : Result) (qs : List Started) (o : RunI
       omega arith
 
   -- in a blocked run some task has a next turn: a task that waits does so for a child that has not ended, or its nursery settles
-  pub has_next : (u bound : ℕ) → Blocked (keeping f k) qs u → ((q : Started) → IsAmong q qs → q.serial < bound) → (n : ℕ) (q : Started) → IsAmong q qs →
+  pub has_next : (u bound : ℕ) → Blocked (keeping f k) qs u → ((q : Started) → IsAmong q qs → q.serial < bound) → (n : ℕ) (q : Started) →
+      IsAmong q qs →
       live q.rest.stopped ≡ true → bound ≤ q.serial + n → GoesOn qs
   has_next u m b small zero q i a z = let w : q.serial < m = small q i in absurd (omega arith)
   has_next u m b small (suc n) q i a z =

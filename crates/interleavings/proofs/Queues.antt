@@ -126,8 +126,8 @@ pending_asked v ask label here from m left (Some g) go le h =
     }
 
 -- and with the frames that the task has left
-pub pending_finish : (fs : List Frame) (v : ℕ) (m : Mode) (outcomes : ChildOutcomes) (here : Here) (st : Stack) (label : Label) (since : ℕ) (ask : Ask)
-    (part : Range) (r : Result) → Pending v label since ask part r → Pending v label since ask part (finish m outcomes fs here st r)
+pub pending_finish : (fs : List Frame) (v : ℕ) (m : Mode) (outcomes : ChildOutcomes) (here : Here) (st : Stack) (label : Label) (since : ℕ)
+    (ask : Ask) (part : Range) (r : Result) → Pending v label since ask part r → Pending v label since ask part (finish m outcomes fs here st r)
 pending_finish fs v m outcomes here st label since ask part r h =
     record {
       left = h.left;

@@ -143,7 +143,8 @@ signs_append n (acts label moment done ∷ xs) ys h k = (h.0, signs_append n xs 
 signs_append n (starts i l t ∷ xs) ys h k = signs_append n xs ys h k
 
 -- events that ask nothing are in the moment of their turn
-signs_made : (n : ℕ) (clock : Clock) (t : ℕ) (ls : List Label) (es : List Event) → round_of t < n → MadeAt clock t ls es → AsksNothing es → SignsBelow n es
+signs_made : (n : ℕ) (clock : Clock) (t : ℕ) (ls : List Label) (es : List Event) → round_of t < n → MadeAt clock t ls es → AsksNothing es →
+    SignsBelow n es
 signs_made n clock t ls [] h m a = tt
 signs_made n clock t ls (noted u e ∷ es) h m a = signs_made n clock t ls es h m.1 a
 signs_made n clock t ls (signs l u ∷ es) h m a = (subst (λ (x : ℕ). round_of x < n) (sym m.0) h, signs_made n clock t ls es h m.2 a)
@@ -369,11 +370,13 @@ module _ (k : Tables) (f : Table) (job : Tree) (input : List ℕ) (settled : IsS
   -- a label that is cancelled from the moment on is so by its deadline, or by a sign that some task made
   from_below : (l : Label) → k.cancelled_from l ≡ Some t → round_of t ≤ n
   from_below l e =
-      by_entry (deadline_of l (follow k.cancelled_from k.granted job input).log) (deadline_on l (follow k.cancelled_from k.granted job input).log on) (sym (settled.froms l) ∙ e)
+      by_entry (deadline_of l (follow k.cancelled_from k.granted job input).log)
+      (deadline_on l (follow k.cancelled_from k.granted job input).log on) (sym (settled.froms l) ∙ e)
     where
       by_sign : (u : ℕ) → least_sign l (follow k.cancelled_from k.granted job input).log ≡ Some u → u + 1 ≡ t → round_of t ≤ n
       by_sign u g h =
-          let a : upto t (least_sign l (follow k.cancelled_from k.granted job input).log) ≡ made_least t l qs = same_least k f (root_result k job input) qs o t from l in
+          let a : upto t (least_sign l (follow k.cancelled_from k.granted job input).log) ≡ made_least t l qs =
+          same_least k f (root_result k job input) qs o t from l in
           let b : min t u ≡ made_least t l qs = sym (ap (λ (x : Tick). upto t x) g) ∙ a in
           let c : made_least t l qs ≡ u = omega arith in
           let d : round_of u < n =
@@ -381,11 +384,13 @@ module _ (k : Tables) (f : Table) (job : Tree) (input : List ℕ) (settled : IsS
           let j : round_of (u + 1) ≤ round_of u + 1 = round_later u in
           subst (λ (x : ℕ). round_of x ≤ n) h (omega arith)
 
-      by_from : (d : Tick) → OnTick d → (d ≡ Some t) ⊎ (next (least_sign l (follow k.cancelled_from k.granted job input).log) ≡ Some t) → round_of t ≤ n
+      by_from : (d : Tick) → OnTick d → (d ≡ Some t) ⊎ (next (least_sign l (follow k.cancelled_from k.granted job input).log) ≡ Some t) →
+          round_of t ≤ n
       by_from d first (inl g) = let a : round_of t ≡ 0 = subst OnTick g first in omega arith
       by_from d first (inr g) = let h : _ = next_is (least_sign l (follow k.cancelled_from k.granted job input).log) t g in by_sign h.0 h.1 h.2
 
-      by_entry : (x : Option Tick) → OnTickIf x → entered_from x (least_sign l (follow k.cancelled_from k.granted job input).log) ≡ Some t → round_of t ≤ n
+      by_entry : (x : Option Tick) → OnTickIf x → entered_from x (least_sign l (follow k.cancelled_from k.granted job input).log) ≡ Some t →
+          round_of t ≤ n
       by_entry None first g = absurd (none_is t g)
       by_entry (Some d) first g = by_from d first (from_is d (least_sign l (follow k.cancelled_from k.granted job input).log) t g)
 
@@ -494,10 +499,12 @@ module _ (k : Tables) (f : Table) (job : Tree) (input : List ℕ) (settled : IsS
         by_order (inr g) = due_below (far - tick_of q.here.clock since) since h (sym g ∙ e)
 
     set_below : (event : List ℕ) (since : ℕ) → round_of since < n →
-        GoesOnWaiting q.here.clock (ends_at q.here.clock k.cancelled_from event since q.places) since t (stack_at k.cancelled_from q.places) → round_of t ≤ n
+        GoesOnWaiting q.here.clock (ends_at q.here.clock k.cancelled_from event since q.places) since t (stack_at k.cancelled_from q.places) →
+            round_of t ≤ n
     set_below event since h (inl e) = next_below since h e.1
     set_below event since h (inr e) =
-        event_is k.cancelled_from event (λ (x : Option (Level Label)). a_round_after q.here.clock since < set_at q.here.clock x since → set_at q.here.clock x since ≡ t →
+        event_is k.cancelled_from event
+        (λ (x : Option (Level Label)). a_round_after q.here.clock since < set_at q.here.clock x since → set_at q.here.clock x since ≡ t →
         round_of t ≤ n) none some q.places e.0 e.1
       where
         none : a_round_after q.here.clock since < since → since ≡ t → round_of t ≤ n
@@ -671,7 +678,8 @@ module _ (k : Tables) (job : Tree) (input : List ℕ) (names : GivesNamesOnce jo
   -- what each task has done, and what it has pending, is in a round of at most that
   all_below : (f : Table) (t m : ℕ) (qs : List Started) → Reached k job input f t m qs → (q : Started) → IsAmong q qs → IsBelow (taken qs) q
   all_below f t m _ (begun f') x (inl e) =
-      subst (λ (z : Started). IsBelow (taken (root_task k job input ∷ [])) z) (sym e) (record { signs = tt; stop = no_round (taken (root_task k job input ∷ [])) })
+      subst (λ (z : Started). IsBelow (taken (root_task k job input ∷ [])) z) (sym e)
+      (record { signs = tt; stop = no_round (taken (root_task k job input ∷ [])) })
   all_below f t m _ (begun f') x (inr i) = absurd i
   all_below f t m _ (turn g now p q qs others wake o s r at may goes stopped) x i =
       let same : SameTasks qs (q ∷ others) = front_same q qs others at in
@@ -708,7 +716,8 @@ pub rounds_are_few : RoundsAreFew
 rounds_are_few k job input names nurseries settled clocked f t m qs r q i =
     let few : turns_taken r + all_weights qs ≤ 2 * size_of job.steps + 1 = runs_end k job input f t m qs r in
     let a : round_of q.stop.at ≤ (2 * size_of job.steps + 1) - all_weights qs =
-    stop_within ((2 * size_of job.steps + 1) - all_weights qs) q.stop.at q.rest.stopped (all_below k job input names nurseries settled clocked f t m qs r q i).stop in
+    stop_within ((2 * size_of job.steps + 1) - all_weights qs) q.stop.at q.rest.stopped
+    (all_below k job input names nurseries settled clocked f t m qs r q i).stop in
     omega arith
 
 -- so none overflows into the next tick

@@ -144,7 +144,8 @@ all_own_fit k job input f t m _ (turn g now n q qs others wake o s r at may goes
 all_own_fit k job input f t m qs (jump g v u n qs' r le blocked) x i = all_own_fit k job input g v n qs' r x i
 
 -- the run invariant is kept by the turn of a task that stops again
-kept_turn : (k : Tables) (f : Table) (whole : Result) (now : Now) (m : ℕ) (q : Started) (qs others : List Started) (wake : Wake) (o : Move) (s : Stopped) →
+kept_turn : (k : Tables) (f : Table) (whole : Result) (now : Now) (m : ℕ) (q : Started) (qs others : List Started) (wake : Wake) (o : Move)
+    (s : Stopped) →
     Kept k f whole now.at m qs → AllOwnFit qs → Front q qs others → MayWake (keeping f k) (q ∷ others) now q wake q.rest.stopped →
     TurnsOver q.stop now q.here f wake q.rest q.places q.count o → o.stopped ≡ Some s →
     Kept k (cancelled_from_after f o.made) whole now.at (m + length o.begun)

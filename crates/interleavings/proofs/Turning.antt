@@ -97,7 +97,8 @@ record NewChild (k : Tables) (t m : ℕ) (bs : List Begun) (es : List Event) (ou
   serial : m ≤ x.serial
   same : x.final_result ≡ outcomes number
 
-new_child : (k : Tables) (t : ℕ) (outcomes : ChildOutcomes) (n m : ℕ) (es : List Event) (bs : List Begun) → Starts n es bs → AreOutcomes t k outcomes bs →
+new_child : (k : Tables) (t : ℕ) (outcomes : ChildOutcomes) (n m : ℕ) (es : List Event) (bs : List Begun) → Starts n es bs →
+    AreOutcomes t k outcomes bs →
     (x : Started) → IsAmong x (children_from k t m bs) → NewChild k t m bs es outcomes x
 unfolding children_from
 new_child k t outcomes n m [] [] a b x i = absurd i
@@ -282,7 +283,8 @@ module _ (k : Tables) (f : Table) (whole : Result) (q : Started) (ys : List Star
   in_rest : (l : Label) (d : Tick) → EnteredIn l d q'.left → EnteredIn l d q.left
   in_rest l d j = subst (λ (a : Log). EnteredIn l d a) (sym rest_is) (entered_second l d (fill d' o.made) q'.left j)
 
-  follows_after : (x : Started) → IsAmong x after_turn → (l : Label) (d : Tick) → EnteredIn l d x.left → k.cancelled_from l ≡ from_by d (least_sign l whole.log)
+  follows_after : (x : Started) → IsAmong x after_turn → (l : Label) (d : Tick) → EnteredIn l d x.left →
+      k.cancelled_from l ≡ from_by d (least_sign l whole.log)
   follows_after x (inl e) l d j = interleaving.follows q (inl refl) l d (in_rest l d (subst (λ (z : Started). EnteredIn l d z.left) e j))
   follows_after x (inr i) l d j = by_place (in_either x new ys i)
     where
@@ -502,7 +504,8 @@ module _ (k : Tables) (f : Table) (whole : Result) (q : Started) (ys : List Star
             ∙ ap (λ (v : ℕ). min (upto (suc c) d) (suc v)) (sym u);
       }
 
-  has_from_by : (x : Started) → IsAmong x (q ∷ ys) → (l : Label) (d : Tick) → EntersWith l d x.made → HasFrom k.cancelled_from g whole.log after_turn l d
+  has_from_by : (x : Started) → IsAmong x (q ∷ ys) → (l : Label) (d : Tick) → EntersWith l d x.made →
+      HasFrom k.cancelled_from g whole.log after_turn l d
   has_from_by x i l d h =
       let a : 1 ≤ times_made l x.made = enters_times l d x.made h in
       let b : times_made l x.made ≤ made_times l (q ∷ ys) = made_counted l x (q ∷ ys) i in
@@ -515,7 +518,8 @@ module _ (k : Tables) (f : Table) (whole : Result) (q : Started) (ys : List Star
       by_time (inl j) = has_from_by q (inl refl) l d j
       by_time (inr j) = has_from_new l d j
 
-  has_from_after : (x : Started) → IsAmong x after_turn → (l : Label) (d : Tick) → EntersWith l d x.made → HasFrom k.cancelled_from g whole.log after_turn l d
+  has_from_after : (x : Started) → IsAmong x after_turn → (l : Label) (d : Tick) → EntersWith l d x.made →
+      HasFrom k.cancelled_from g whole.log after_turn l d
   has_from_after x (inl e) l d h = has_from_turned l d (subst (λ (z : Started). EntersWith l d z.made) e h)
   has_from_after x (inr i) l d h = by_place (in_either x new ys i)
     where
@@ -616,7 +620,8 @@ module _ (k : Tables) (f : Table) (whole : Result) (q : Started) (ys : List Star
       omega arith
   from_stop (waiting_for event since) c =
       let e : since ≡ now.at = c in
-      let x = (late_awaiting q.here.clock (stack_at k.cancelled_from o.places) (event_on event (stack_at k.cancelled_from o.places).events) (only_at since)).ends in
+      let x =
+      (late_awaiting q.here.clock (stack_at k.cancelled_from o.places) (event_on event (stack_at k.cancelled_from o.places).events) (only_at since)).ends in
       let y : since ≤ a_round_after q.here.clock since = round_after q.here.clock since in
       omega arith
   from_stop (queued object ask since body) c =

@@ -68,7 +68,8 @@ module _ (k : Tables) (f : Table) (whole : Result) (qs : List Started) (o : RunI
       SeesNow q.here.clock (ends_at q.here.clock f event since q.places) since t → seen (stack_at f q.places).scopes t ≡ true →
       SeesWaiting q.here.clock (ends_at q.here.clock k.cancelled_from event since q.places) since t (stack_at k.cancelled_from q.places)
   wait_seen event since there late may e =
-      awaited_sees q.here.clock (stack_at k.cancelled_from q.places) (event_on event (stack_at k.cancelled_from q.places).events) since t (event_there k.cancelled_from event q.places there)
+      awaited_sees q.here.clock (stack_at k.cancelled_from q.places) (event_on event (stack_at k.cancelled_from q.places).events) since t
+      (event_there k.cancelled_from event q.places there)
       (sees_alike q.here.clock _ _ since t (sym (same_set event since)) may) (same_seen ∙ e) (omega arith)
 
   wait_over : (event : List ℕ) (since : ℕ) → IsSome (label_among true event q.places) →
@@ -76,7 +77,8 @@ module _ (k : Tables) (f : Table) (whole : Result) (qs : List Started) (o : RunI
       IsOver q.here.clock (ends_at q.here.clock f event since q.places) since t (seen (stack_at f q.places).scopes t) →
       GoesOnWaiting q.here.clock (ends_at q.here.clock k.cancelled_from event since q.places) since t (stack_at k.cancelled_from q.places)
   wait_over event since there late may =
-      awaited_goes q.here.clock (stack_at k.cancelled_from q.places) (event_on event (stack_at k.cancelled_from q.places).events) since t (event_there k.cancelled_from event q.places there)
+      awaited_goes q.here.clock (stack_at k.cancelled_from q.places) (event_on event (stack_at k.cancelled_from q.places).events) since t
+      (event_there k.cancelled_from event q.places there)
       (over_alike q.here.clock _ _ since t _ _ (sym (same_set event since)) same_seen may) (omega arith)
 
   -- a task in a queue is granted something as the tables say
