@@ -94,8 +94,8 @@ module _ (k : Tables) (f : Table) (whole : Result) (qs : List Started) (o : RunI
   row_entries : (q : Started) → IsAmong q qs → (rows q.serial).entries ≡ entries_of clock q.final_result.log
   row_entries q i = (rowed q i).entries ∙ sym (ap (entries_of clock) (log_of q i) ∙ entries_fill clock q.outcomes q.made)
 
-  row_cancelled_from : (q : Started) → IsAmong q qs → (rows q.serial).cancelled_from ≡ 
-      cancelled_from_by k.cancelled_from (entered_by q.final_result.log)
+  row_cancelled_from : (q : Started) → IsAmong q qs → (rows q.serial).cancelled_from
+      ≡ cancelled_from_by k.cancelled_from (entered_by q.final_result.log)
   row_cancelled_from q i = (rowed q i).cancelled_from ∙ (cancelled_from_over q i q.made (λ l d j. j)
       ∙ sym (ap (λ (a : Log). cancelled_from_by k.cancelled_from (entered_by a)) (log_of q i) ∙ ap (cancelled_from_by k.cancelled_from) (entered_fill q.outcomes q.made)))
 
