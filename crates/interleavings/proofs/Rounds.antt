@@ -500,7 +500,7 @@ module _ (k : Tables) (f : Table) (job : Tree) (input : List ℕ) (settled : IsS
 
     set_below : (event : List ℕ) (since : ℕ) → round_of since < n →
         GoesOnWaiting q.here.clock (ends_at q.here.clock k.cancelled_from event since q.places) since t (stack_at k.cancelled_from q.places) →
-            round_of t ≤ n
+        round_of t ≤ n
     set_below event since h (inl e) = next_below since h e.1
     set_below event since h (inr e) =
         event_is k.cancelled_from event
