@@ -42,7 +42,7 @@ RunsEnd =
 abbrev pub round_of : ℕ → ℕ
 round_of m = m % rounds_in_a_tick
 
--- By rounds, the round in which a task stopped last, or in which it begins, is at most the weight that the turns so far have taken off: each
+-- By rounds, the round in which a task stopped last, or in which it begins, is at most the weight that the turns so far have taken off. A turn
 -- takes off one at least, and one more where an ask is refused, since its task gives up two rounds later.
 abbrev pub RoundsAreFew : Type 0
 RoundsAreFew =

@@ -19,8 +19,8 @@ ghost use Rattle.interleavings.specs.Laws.{
 /// from their rows are those of the meaning. While a task has not ended, the job does not end before the present tick; and if no
 /// task is ready, one has a next turn. A run takes at most twice as many turns as the job has steps (including those of children)
 /// plus one. A task that has not ended is the root, or is in an unsettled nursery of the task that started it; and the task that
-/// leaves a scope or nursery is the last one in it. Where a tick has rounds, no task has a turn in a round that is greater than
-/// the weight that the turns so far have taken off: so no round overflows into the next tick.
+/// leaves a scope or nursery is the last one in it. Where a tick has rounds, the round in which a task stopped last and the weight
+/// of what all tasks have left are together at most that number: so no round overflows into the next tick.
 pub fn law_runs()
     ensures interleaving { RunsKeepInvariant }
     ensures meaning { RunsAreTheMeaning }
