@@ -20,7 +20,7 @@ ghost use Rattle.interleavings.specs.Laws.{
 /// task is ready, one has a next turn. A run takes at most twice as many turns as the job has steps (including those of children)
 /// plus one. A task that has not ended is the root, or is in an unsettled nursery of the task that started it; and the task that
 /// leaves a scope or nursery is the last one in it. Where a tick has rounds, the round in which a task stopped last and the weight
-/// of what all tasks have left are together at most that number: so no round overflows into the next tick.
+/// of what all tasks have left are together at most twice the number of steps plus one: so no round overflows into the next tick.
 pub fn law_runs()
     ensures interleaving { RunsKeepInvariant }
     ensures meaning { RunsAreTheMeaning }
