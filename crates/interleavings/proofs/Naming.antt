@@ -14,7 +14,7 @@ use Rattle.turn_semantics.specs.Made.{StartedChild, started_in}
 use Rattle.turn_semantics.specs.Midway.{Tables, Begun}
 use Rattle.turn_semantics.specs.Turned.{Starts}
 use Rattle.interleavings.specs.Interleaving.{Started, StartsChild}
-use Rattle.interleavings.specs.Going.{root_task, children_from, task_after_turn}
+use Rattle.interleavings.specs.Going.{children_from, task_after_turn}
 use Rattle.interleavings.specs.Runs.{Front, is_front, after_one, Reached, begun, turn, jump}
 use Rattle.interleavings.specs.Laws.{IsSettledBy}
 use Rattle.interleavings.proofs.Readings.{in_first, in_second, in_either}

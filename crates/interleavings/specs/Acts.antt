@@ -1,8 +1,8 @@
 -- What the tasks of a run did to limiters and channels so far, in the order of records.
-use Rattle.std.specs.Prelude.{◌≡◌, ℕ, Bool, true, false, Option, Some, None, List, [], ◌∷◌, ◌++◌}
+use Rattle.std.specs.Prelude.{ℕ, true, Option, Some, None, List, [], ◌∷◌, ◌++◌}
 use Rattle.job_tree.specs.declared.object.Ask.{Ask}
 use Rattle.exceptions.specs.Exceptions.{Label}
-use Rattle.job_meaning.specs.Log.{Act, asks, same_label}
+use Rattle.job_meaning.specs.Log.{asks, same_label}
 use Rattle.job_meaning.specs.Walk.{Here}
 use Rattle.job_meaning.specs.Sharing.{Done, done_if, by_moment, unopened, serve_acts, find_given, Grants}
 use Rattle.job_meaning.specs.Rest.{Event, acts, Frame, inside, Stopped, queued}

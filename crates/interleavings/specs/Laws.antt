@@ -7,7 +7,7 @@ use Rattle.job_tree.specs.Names.{GivesNamesOnce, size_of}
 use Rattle.job_tree.specs.Starting.{StartsInNurseries}
 use Rattle.job_tree.specs.InRange.{IsInRange}
 use Rattle.job_meaning.specs.Log.{Table}
-use Rattle.job_meaning.specs.Sharing.{Grants, granted_before}
+use Rattle.job_meaning.specs.Sharing.{granted_before}
 use Rattle.job_meaning.specs.declared.limits.TheConstants.{MAX_INPUT}
 use Rattle.job_meaning.specs.Moments.{clock_of, rounds_in_a_tick, tick_of, a_round_after}
 use Rattle.job_meaning.specs.declared.clock.Clock.TheVariants.{ByRounds as by_rounds}
