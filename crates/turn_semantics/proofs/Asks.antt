@@ -1,5 +1,5 @@
 -- A turn from a queue makes first what its task asked, and nothing else is asked in a turn.
-use Rattle.std.proofs.Common.{◌≡◌, ℕ, zero, suc, ◌+◌, ◌-◌, Bool, true, false, Option, Some, None, List, [], ◌∷◌, ◌++◌, refl}
+use Rattle.std.proofs.Common.{ℕ, zero, suc, ◌+◌, ◌-◌, Bool, true, false, Option, Some, None, List, [], ◌∷◌, ◌++◌, refl}
 use Rattle.std.specs.Prelude.{codes}
 use Rattle.job_tree.specs.Tree.{Step, sleep, checkpoint, forever, pace, find, head, longest, need, raise, cancel, set_event, wait_for, ask_for, close_channel, scope, nursery, event, object, start, repeat, attempt, Steps, stop, step, Handled, unhandled, except, Cleaned, uncleaned, finally}
 use Rattle.job_tree.specs.declared.object.Ask.{Ask}
@@ -7,7 +7,7 @@ use Rattle.input_lines.specs.Lines.{Span}
 use Rattle.exceptions.specs.Exceptions.{Label, Exc, cancelled, raised}
 use Rattle.exceptions.specs.Split.{named, keep, drop}
 use Rattle.cancel_scopes.specs.Sight.{Level, seen}
-use Rattle.job_meaning.specs.Log.{Act, opens, asks, gives_back, closes, Table}
+use Rattle.job_meaning.specs.Log.{opens, asks, gives_back, closes, Table}
 use Rattle.job_meaning.specs.Sharing.{What, a_token, was_sent, a_part, closed_resource, end_of_channel}
 use Rattle.job_meaning.specs.Moments.{tick_of, a_round_after, Now, far}
 use Rattle.job_meaning.specs.declared.clock.Clock.{Clock}
@@ -18,7 +18,7 @@ use Rattle.job_meaning.specs.Asking.{Answer, lines, missing, counted, Purpose, s
 use Rattle.turn_semantics.specs.Midway.{Place, label_among, stack_at, Midway, Move}
 use Rattle.turn_semantics.specs.Steps.{sleeps, falls_asleep, signs_to, waits_on, asks_of, acts_on, home_among, signs_home, handler_if, step_try, step_on, step_steps, step_frames, step_of, begins_passes, step_pass}
 use Rattle.turn_semantics.specs.Wakes.{Wake, lines_made, goes_on_with, leaves_settled, ends_at, is_checkpoint, gives_up_if, notes_wait, leaves_the_queue, granted_on, wake_of, CanWake, from_start, from_asking, from_sleep, from_due, from_seen_waiting, from_set, from_granted, from_seen_queued, from_deadlock, from_giving_up, from_wait}
-use Rattle.turn_semantics.specs.Turned.{AsksNothing, LeavesIn, AsksFirst, AskedFirst}
+use Rattle.turn_semantics.specs.Turned.{AsksNothing, AsksFirst, AskedFirst}
 
 -- ---- events, and more of them
 

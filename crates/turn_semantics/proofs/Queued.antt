@@ -8,13 +8,13 @@ use Rattle.job_tree.specs.declared.object.ObjectKind.{ObjectKind}
 use Rattle.input_lines.specs.Lines.{Range}
 use Rattle.exceptions.specs.Exceptions.{Label, Exc, cancelled, raised}
 use Rattle.cancel_scopes.specs.Sight.{sight, seen}
-use Rattle.job_meaning.specs.Log.{Act, opens, asks, gives_back, closes, Log, nil, entry, act, waited, Result, Table}
+use Rattle.job_meaning.specs.Log.{Act, asks, gives_back, closes, nil, entry, act, waited, Result, Table}
 use Rattle.job_meaning.specs.Sharing.{What, a_token, was_sent, a_part, closed_resource, end_of_channel, Granted}
 use Rattle.job_meaning.specs.Moments.{tick_of, gives_up_at, Now, only_at}
 use Rattle.job_meaning.specs.declared.clock.Clock.{Clock}
 use Rattle.job_meaning.specs.declared.clock.Clock.TheVariants.{ByTicks as by_ticks, ByRounds as by_rounds}
-use Rattle.job_meaning.specs.Walk.{Here, walk, walk_step, done_at, raised_at, stack_for, label_on, label_here, and_then, event_block, stack_in_event, with_act, close_result, with_token_back, last_grant, leaves_queue, left_result, goes_on, granted_result, asked_result, asks_in, ask_of, ask_result}
-use Rattle.job_meaning.specs.Rest.{Event, acts, ChildOutcomes, Frame, steps_left, in_event, with_token, with_part, inside, queued, finish, queue_result, finished_from}
+use Rattle.job_meaning.specs.Walk.{Here, walk, done_at, raised_at, stack_for, label_on, label_here, and_then, with_act, close_result, with_token_back, last_grant, leaves_queue, left_result, goes_on, granted_result, asked_result, asks_in, ask_of, ask_result}
+use Rattle.job_meaning.specs.Rest.{ChildOutcomes, Frame, steps_left, with_token, with_part, inside, queued, finish, queue_result, finished_from}
 use Rattle.job_meaning.proofs.Finish.{after, finish_after, finish_step, finish_object}
 use Rattle.turn_semantics.specs.Midway.{Place, Tables, by_tables, label_among, stack_at, Move, OwnFits, so_far, after_events, left_after}
 use Rattle.turn_semantics.specs.Steps.{onward, makes, asks_if, asks_of, acts_on, enters_object, gives_token_back}

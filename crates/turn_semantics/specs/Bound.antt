@@ -1,7 +1,7 @@
 -- How many steps a turn takes at most, by the frames that are left.
 use Rattle.std.specs.Prelude.{ℕ, ◌+◌, ◌*◌, List, [], ◌∷◌}
-use Rattle.job_tree.specs.Tree.{Step, sleep, checkpoint, forever, pace, find, head, longest, need, raise, cancel, set_event, wait_for, ask_for, close_channel, scope, nursery, event, object, start, repeat, attempt, Steps, stop, step, Handled, unhandled, except, Cleaned, uncleaned, finally}
-use Rattle.job_meaning.specs.Rest.{Frame, steps_left, in_scope, in_event, in_nursery, in_repeat, in_try, in_handler, in_cleanup}
+use Rattle.job_tree.specs.Tree.{Step, checkpoint, forever, longest, ask_for, scope, nursery, event, object, repeat, attempt, Steps, stop, step, Handled, unhandled, except, Cleaned, uncleaned, finally}
+use Rattle.job_meaning.specs.Rest.{Frame, steps_left, in_event, in_repeat, in_try, in_handler}
 
 -- the maximum number of steps of a turn for the steps of a block, and for its end; children take
 -- their own turns

@@ -2,7 +2,7 @@
 use Rattle.std.specs.Prelude.{ℕ, List, [], ◌∷◌, map}
 use Rattle.exceptions.specs.Exceptions.{Label}
 use Rattle.cancel_scopes.specs.Sight.{Tick}
-use Rattle.job_meaning.specs.Rest.{Event, noted, signs, enters, starts}
+use Rattle.job_meaning.specs.Rest.{Event, signs, enters, starts}
 
 -- a label that was entered, with its deadline
 pub record EnteredLabel : Type 0 where

@@ -4,15 +4,15 @@ use Rattle.job_tree.specs.declared.object.Ask.{Ask}
 use Rattle.job_tree.specs.Tree.{Steps}
 use Rattle.input_lines.specs.Lines.{Span}
 use Rattle.exceptions.specs.Exceptions.{Label, Exc, cancelled, raised, by_nursery, parts_of, group_of}
-use Rattle.cancel_scopes.specs.Sight.{Tick, Level, is_reached, sight, seen}
+use Rattle.cancel_scopes.specs.Sight.{Tick, Level, sight, seen}
 use Rattle.job_meaning.specs.Log.{asks, Member, Table, line, waited}
 use Rattle.job_meaning.specs.Sharing.{What, a_token, was_sent, a_part, closed_resource, end_of_channel, Granted}
 use Rattle.job_meaning.specs.Moments.{a_round_after, wakes_at, tick_of, Now}
 use Rattle.job_meaning.specs.declared.clock.Clock.{Clock}
 use Rattle.job_meaning.specs.declared.clock.Clock.TheVariants.{ByTicks as by_ticks, ByRounds as by_rounds}
-use Rattle.job_meaning.specs.Walk.{Stack, Here, event_on, label_on, last_grant, leaves_queue, in_time, set_moment, a_nursery, pace_ticks, with_exc, excs_of, latest}
+use Rattle.job_meaning.specs.Walk.{Stack, Here, event_on, last_grant, leaves_queue, in_time, set_moment, a_nursery, pace_ticks, with_exc, excs_of, latest}
 use Rattle.job_meaning.specs.Asking.{Kernel, Answer, lines, missing, counted, answer_of, Purpose, shows, needs, paces}
-use Rattle.job_meaning.specs.Rest.{Event, noted, acts, ChildOutcomes, outcome_members, Frame, steps_left, with_token, with_part, inside, Stopped, to_begin, asking, asleep, waiting_for, queued, giving_up, awaiting, at_end}
+use Rattle.job_meaning.specs.Rest.{Event, noted, acts, ChildOutcomes, outcome_members, Frame, steps_left, with_token, with_part, inside, Stopped, to_begin, asking, asleep, waiting_for, queued, giving_up, awaiting}
 use Rattle.turn_semantics.specs.Midway.{Place, label_among, Tables, stack_at, Move, then_move, OwnFits, now_after}
 use Rattle.turn_semantics.specs.Steps.{onward, blocks_on, makes, sleeps, leaves, cancelled_from_after, turn_of}
 

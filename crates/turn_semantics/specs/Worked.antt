@@ -1,19 +1,22 @@
 -- Worked turns, each a theorem by computing.
 use Rattle.std.specs.Prelude.{◌≡◌, ℕ, true, false, None, Some, List, [], ◌∷◌, refl, codes, length}
 use Rattle.job_tree.specs.Tree.{Step, sleep, checkpoint, find, raise, cancel, set_event, wait_for, stop}
+use Rattle.job_tree.specs.declared.object.Ask.TheVariants.{Acquire, Receive}
+use Rattle.job_tree.specs.declared.object.ObjectKind.TheVariants.{Limiter}
 use Rattle.exceptions.specs.Exceptions.{cancelled}
-use Rattle.job_meaning.specs.Log.{Result, nil, entry, sign, entered, Table, line, waited, scope_left, nursery_left}
-use Rattle.job_meaning.specs.Sharing.{no_grants}
+use Rattle.job_meaning.specs.Log.{Result, opens, asks, gives_back, nil, entry, sign, entered, Table, line, waited, scope_left, nursery_left}
+use Rattle.job_meaning.specs.Sharing.{a_token, a_part, no_grants}
 use Rattle.job_meaning.specs.Moments.{only_at}
-use Rattle.job_meaning.specs.declared.clock.Clock.TheVariants.{ByTicks as by_ticks}
+use Rattle.job_meaning.specs.declared.clock.Clock.TheVariants.{ByTicks as by_ticks, ByRounds as by_rounds}
 use Rattle.job_meaning.specs.Walk.{by_table, walk, and_then, sleep_result, lines_result, need_result, cancel_result, block, with_sign, nursery_result, child, handler_result, cleanup_result, Here, here_in}
 use Rattle.job_meaning.specs.Asking.{lines, missing, counted, shows, needs, paces}
 use Rattle.job_meaning.specs.Asking as ask
-use Rattle.job_meaning.specs.Rest.{Event, Rest, rest_at_start, task_comes_to, finish, noted, signs, enters, starts, Frame, steps_left, in_scope, in_event, Stopped, to_begin, asking, asleep, waiting_for, awaiting, at_end}
+use Rattle.job_meaning.specs.Rest.{Event, Rest, rest_at_start, task_comes_to, finish, noted, signs, enters, acts, starts, Frame, steps_left, in_scope, in_event, with_part, Stopped, to_begin, asking, asleep, waiting_for, queued, giving_up, awaiting, at_end}
 use Rattle.job_meaning.specs.Examples.{block_of, event_of, scope_of, timed_scope, nursery_of, start_of, label_named, raised_by, group_by}
+use Rattle.job_meaning.specs.ExamplesSharing.{limiter_of, acquire_of}
 use Rattle.turn_semantics.specs.Midway.{no_outcomes, stack_at, Place, Move}
 use Rattle.turn_semantics.specs.Steps.{step_of, turn_of}
-use Rattle.turn_semantics.specs.Wakes.{Wake, begins, is_due, has_answer, settles, turn_from}
+use Rattle.turn_semantics.specs.Wakes.{Wake, begins, sees, is_due, has_answer, is_granted, settles, turn_from}
 
 -- a task `main` on the whole of an input
 abbrev pub main_at : List ℕ → Here
@@ -174,6 +177,101 @@ pub wait_is_noted :
     }
 unfolding later_turn
 wait_is_noted = refl
+
+-- ---- limiters and channels
+
+-- limiter l 1 { acquire l { raise E } }: the limiter is opened, and the task waits for a token
+pub asks_for_a_token :
+    first_turn (limiter_of (codes "l") 1 (acquire_of (codes "l") (raise (codes "E") ∷ []) ∷ []) ∷ [])
+    ≡ record {
+      frames = steps_left stop ∷ in_event ∷ steps_left stop ∷ [];
+      places = event_place (codes "l") ∷ [];
+      exc = None;
+      made = acts (label_named (codes "l")) 0 (opens (Limiter 1)) ∷ enters (label_named (codes "l")) 0 None ∷ [];
+      begun = [];
+      stopped = Some (queued (codes "l") Acquire 0 (block_of (raise (codes "E") ∷ [])));
+    }
+unfolding first_turn
+asks_for_a_token = refl
+
+-- a turn of `main` that asked for a token in moment 0, to raise E with it
+abbrev pub queued_turn : Wake → Move
+queued_turn w =
+    later_turn never 2 [] w (queued (codes "l") Acquire 0 (block_of (raise (codes "E") ∷ []))) (steps_left stop ∷ in_event ∷ steps_left stop ∷ [])
+    (event_place (codes "l") ∷ [])
+
+-- with the token it runs the block, and gives the token back although the block raises
+pub token_comes_back :
+    queued_turn (is_granted a_token)
+    ≡ record {
+      frames = [];
+      places = [];
+      exc = None;
+      made =
+          acts (label_named (codes "l")) 0 (asks Acquire (record { from = 0; to = 0 }) None)
+          ∷ noted 2 (waited (label_named (codes "l")))
+          ∷ acts (label_named (codes "l")) 2 gives_back
+          ∷ [];
+      begun = [];
+      stopped = Some (at_end 2 (Some (raised_by (codes "E") (codes "main") 2)));
+    }
+unfolding later_turn
+token_comes_back = refl
+
+-- cancelled in the queue, it leaves it
+pub leaves_cancelled :
+    queued_turn sees
+    ≡ record {
+      frames = [];
+      places = [];
+      exc = None;
+      made = acts (label_named (codes "l")) 0 (asks Acquire (record { from = 0; to = 0 }) (Some 2)) ∷ [];
+      begun = [];
+      stopped = Some (at_end 2 (Some cancelled));
+    }
+unfolding later_turn
+leaves_cancelled = refl
+
+-- channel c 0 { receive c { find "b"; } }: a task that has received a part asks the kernel about it, not about its own
+pub received_part_is_asked :
+    later_turn never 2 (codes "ab") (is_granted (a_part (record { from = 1; to = 2 }))) (queued (codes "c") Receive 0 (block_of (find (codes "b") ∷ [])))
+    (steps_left stop ∷ in_event ∷ steps_left stop ∷ []) (event_place (codes "c") ∷ [])
+    ≡ record {
+      frames = steps_left stop ∷ with_part (record { from = 1; to = 2 }) ∷ steps_left stop ∷ in_event ∷ steps_left stop ∷ [];
+      places = event_place (codes "c") ∷ [];
+      exc = None;
+      made =
+          acts (label_named (codes "c")) 0 (asks Receive (record { from = 0; to = 2 }) None) ∷ noted 2 (waited (label_named (codes "c"))) ∷ [];
+      begun = [];
+      stopped = Some (asking (ask.find (codes "b")) shows);
+    }
+unfolding later_turn
+received_part_is_asked = refl
+
+-- a first turn of `main` where there are rounds
+unfoldable pub first_turn_by_rounds : List Step → Move
+unfolding turn_from turn_of step_of
+first_turn_by_rounds ss =
+    turn_from 20 never (only_at 0) (record (main_at []) { clock = by_rounds }) begins to_begin (steps_left (block_of ss) ∷ []) [] 0
+
+-- limiter l 1 { scope s { cancel s; acquire l { } } }: it sees what it has just cancelled, does not ask, and raises two rounds later
+pub own_cancel_before_it_asks :
+    first_turn_by_rounds (limiter_of (codes "l") 1 (scope_of (codes "s") (cancel (codes "s") ∷ acquire_of (codes "l") [] ∷ []) ∷ []) ∷ [])
+    ≡ record {
+      frames = steps_left stop ∷ in_scope false ∷ steps_left stop ∷ in_event ∷ steps_left stop ∷ [];
+      places = place (codes "s") ∷ event_place (codes "l") ∷ [];
+      exc = None;
+      made =
+          acts (label_named (codes "l")) 0 (opens (Limiter 1))
+          ∷ enters (label_named (codes "l")) 0 None
+          ∷ enters (label_named (codes "s")) 0 None
+          ∷ signs (label_named (codes "s")) 0
+          ∷ [];
+      begun = [];
+      stopped = Some (giving_up 1);
+    }
+unfolding first_turn_by_rounds
+own_cancel_before_it_asks = refl
 
 -- ---- the result of a task, before a turn and after it
 
