@@ -251,7 +251,7 @@ in_left t l here fs ps (awaiting children ended exc) r h = late_in t l r h
 module _ (k : Tables) (f : Table) (whole : Result) (qs : List Started) (o : RunInvariant k f whole qs) (t : ℕ) (from : AllFrom k qs t)
     (one : (x y : Started) → IsAmong x qs → IsAmong y qs → x.serial ≡ y.serial → x ≡ y)
     (named : (x : Started) → IsAmong x qs → (i : ℕ) (n : Label) → StartsNamed i n x.made → Named qs x i n) (l : Label) where
-  left_result : Started → Result
+  abbrev left_result : Started → Result
   left_result q = rest_comes_to (by_tables k) q.outcomes q.rest q.here (stack_at k.cancelled_from q.places) q.stop
 
   final_log : (q : Started) → IsAmong q qs → q.final_result.log ≡ followed_by (fill q.outcomes q.made) (left_result q).log

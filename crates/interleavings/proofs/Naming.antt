@@ -43,6 +43,10 @@ one_more : (b : Bool) (n : ℕ) → b ≡ true → 1 ≤ (if b then 1 else 0) + 
 one_more true n e = omega arith
 one_more false n e = cc
 
+not_one : (b : Bool) (n : ℕ) → b ≡ false → n ≡ 0 → (if b then 1 else 0) + n ≡ 0
+not_one true n e h = cc
+not_one false n e h = omega arith
+
 counted : (n : ℕ) (q : Started) (qs : List Started) → IsAmong q qs → q.serial ≡ n → 1 ≤ serial_count n qs
 counted n q [] i e = absurd i
 counted n q (x ∷ qs) (inl g) e = one_more (x.serial == n) (serial_count n qs) (same (sym (ap (λ (z : Started). z.serial) g) ∙ e))
@@ -55,9 +59,7 @@ counted n q (x ∷ qs) (inr i) e = let more : 1 ≤ serial_count n qs = counted 
 none_counted : (n : ℕ) (qs : List Started) → ((q : Started) → IsAmong q qs → q.serial < n) → serial_count n qs ≡ 0
 none_counted n [] h = refl
 none_counted n (q ∷ qs) h =
-    let a : (if q.serial == n then 1 else 0) ≡ 0 = ap (λ (b : Bool). if b then 1 else 0) (differs (h q (inl refl))) in
-    let b : serial_count n qs ≡ 0 = none_counted n qs (λ x i. h x (inr i)) in
-    omega arith
+    not_one (q.serial == n) (serial_count n qs) (differs (h q (inl refl))) (none_counted n qs (λ x i. h x (inr i)))
   where
     differs : q.serial < n → (q.serial == n) ≡ false
     differs lt = grind (arith, nat_tests)
@@ -73,9 +75,7 @@ new_low : (k : Tables) (t n m : ℕ) (bs : List Begun) → n < m → serial_coun
 unfolding children_from
 new_low k t n m [] lt = refl
 new_low k t n m (b ∷ bs) lt =
-    let a : (if m == n then 1 else 0) ≡ 0 = ap (λ (x : Bool). if x then 1 else 0) (differs lt) in
-    let b : serial_count n (children_from k t (suc m) bs) ≡ 0 = new_low k t n (suc m) bs (omega arith) in
-    omega arith
+    not_one (m == n) (serial_count n (children_from k t (suc m) bs)) (differs lt) (new_low k t n (suc m) bs (omega arith))
   where
     differs : n < m → (m == n) ≡ false
     differs less = grind (arith, nat_tests)

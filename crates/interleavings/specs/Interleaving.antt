@@ -10,7 +10,7 @@ use Rattle.job_meaning.specs.Moments.{a_round_after, wakes_at, Now, only_at}
 use Rattle.job_meaning.specs.declared.clock.Clock.{Clock}
 use Rattle.job_meaning.specs.Walk.{Stack, Here, last_grant, leaves_queue, sleep_result, pace_result, event_on, event_wait, latest}
 use Rattle.job_meaning.specs.Before.{upto}
-use Rattle.job_meaning.specs.Rest.{Event, noted, signs, enters, starts, ChildOutcomes, outcome_members, inside, Stopped, to_begin, asking, asleep, waiting_for, queued, giving_up, awaiting, at_end, Rest, rest_comes_to, task_comes_to}
+use Rattle.job_meaning.specs.Rest.{Event, ChildOutcomes, outcome_members, inside, Stopped, to_begin, asking, asleep, waiting_for, queued, giving_up, awaiting, at_end, Rest, rest_comes_to, task_comes_to}
 use Rattle.job_meaning.specs.Sharing.{Granted}
 use Rattle.turn_semantics.specs.Midway.{Place, label_among, Tables, by_tables, stack_at}
 use Rattle.turn_semantics.specs.Placed.{PlacedStop}

@@ -13,7 +13,7 @@ use Rattle.job_meaning.specs.Moments.{clock_of, rounds_in_a_tick, tick_of, a_rou
 use Rattle.job_meaning.specs.declared.clock.Clock.TheVariants.{ByRounds as by_rounds}
 use Rattle.job_meaning.specs.Meaning.{root_label, meaning_records, meaning_cancelled_from, meaning_end, meaning_table, meaning_grants}
 use Rattle.job_meaning.specs.Follow.{IsSettled}
-use Rattle.job_meaning.specs.Rest.{Stopped, to_begin, asking, asleep, waiting_for, queued, giving_up, awaiting, at_end}
+use Rattle.job_meaning.specs.Rest.{Stopped, to_begin, awaiting, at_end}
 use Rattle.turn_semantics.specs.Midway.{Place, Tables}
 use Rattle.turn_semantics.specs.Placed.{PlacedStop, home_after, KidsAfter, HasChildAfter}
 use Rattle.turn_semantics.specs.Turned.{AgreesOn, labels_of, EntersIn}

@@ -9,7 +9,7 @@ use Rattle.job_meaning.specs.Moments.{only_at}
 use Rattle.job_meaning.specs.declared.clock.Clock.TheVariants.{ByTicks as by_ticks}
 use Rattle.job_meaning.specs.Walk.{Here}
 use Rattle.job_meaning.specs.Meaning.{Record, root_here}
-use Rattle.job_meaning.specs.Rest.{Event, Rest, rest_at_start, Stopped, to_begin, asking, asleep, waiting_for, giving_up, awaiting, at_end}
+use Rattle.job_meaning.specs.Rest.{Event, Rest, rest_at_start, Stopped, to_begin, at_end}
 use Rattle.job_meaning.specs.Examples.{block_of, job_of, scope_of, shielded_scope, nursery_of, start_of, label_named, raised_by, group_by, scope_caught, scope_passed, nursery_passed, record_of, main_ran, run_of}
 use Rattle.turn_semantics.specs.Midway.{Place, Begun, Move}
 use Rattle.turn_semantics.specs.Steps.{step_of, turn_of, cancelled_from_after}
