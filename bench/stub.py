@@ -42,6 +42,12 @@ def without_bodies(lines):
     """The lines of a file, where each function that others can call has a stub for a body, and the others are gone."""
     out, at, of_trait = [], 0, False
     while at < len(lines):
+        if re.match(r"^(pub )?trait ", lines[at]):
+            # a trait has no bodies
+            end = lines.index("}", at) + 1
+            out += lines[at:end]
+            at = end
+            continue
         found = FUNCTION.match(lines[at])
         if not found:
             if lines[at].startswith("impl"):
@@ -58,7 +64,9 @@ def without_bodies(lines):
             continue
         returns = any("->" in it for it in kept if not re.match(r"^\s*(requires|ensures)", it))
         body = ["{", "    crate::stub_c::stub_false();"] + (["    unreachable!()"] if returns else []) + ["}"]
-        out += [it for it in head if "///" in it or "#[" in it] + kept + [indent + it for it in body]
+        # what an attribute says of the proof, or of a cycle of calls, is not so of a stub
+        out += [it for it in head if "///" in it or ("#[" in it and not re.match(r"^\s*#\[(tactic|cycle)\b", it))]
+        out += kept + [indent + it for it in body]
     return out
 
 
