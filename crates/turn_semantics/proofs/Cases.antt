@@ -20,10 +20,11 @@ use Rattle.job_meaning.specs.Walk.{Here, stack_for, here_in, label_here, label_o
 use Rattle.job_meaning.specs.Rest.{Event, starts, starts_over, sleep_weight, consecutive, Frame, steps_left, in_scope, in_event, with_token, with_part, in_nursery, in_repeat, in_try, in_handler, in_cleanup, inside, asking, asleep, frames_weight}
 use Rattle.job_meaning.specs.Asking.{Kernel, Purpose, Suits, shows, needs, paces}
 use Rattle.job_meaning.specs.Asking as ask
+use Rattle.job_meaning.proofs.Late.{unseen_for}
 use Rattle.turn_semantics.specs.Midway.{Place, is_of_kind, label_among, stack_at, Midway, Begun, Move}
 use Rattle.turn_semantics.specs.Steps.{cancelled_from_after, onward, blocks_on, makes, falls_asleep, sleeps, signs_to, waits_on, asks_if, asks_of, acts_on, home_among, signs_home, with_started, begun_one, begun_over, enters_block, enters_event, enters_object, gives_token_back, step_on, step_steps, leaves, handler_if, step_try, step_frames, step_of, begins_passes, step_pass}
 use Rattle.turn_semantics.specs.Placed.{in_body, Placed, IsSome, PlacedAfter, home_places, home_after}
-use Rattle.turn_semantics.specs.Turned.{labels_of, AllKnown, known_after, MadeAt, Starts, BegunIn, AllBy, FallsAsleep, StopsAt, weight_of_stop, weight_of_begun}
+use Rattle.turn_semantics.specs.Turned.{labels_of, AllKnown, known_after, MadeAt, Starts, BegunIn, AllBy, FallsAsleep, StopsAt, weight_of_stop, weight_of_begun, rounds_skipped}
 use Rattle.turn_semantics.proofs.Events.{all_own, all_grow, known_stays, begun_append, clocks_append, made_append, starts_append, weight_append}
 use Rattle.std.proofs.Math.Nat.{suc-mul}
 
@@ -38,7 +39,7 @@ pub record Case (clock : Clock) (t : ℕ) (cancelled_from : Table) (weight_befor
   pub begun_in : BegunIn (known_after (labels_of ps) o.made) o.begun
   pub clocks : AllBy clock o.begun
   pub stops : StopsAt clock t (cancelled_from_after cancelled_from o.made) o.stopped o.places
-  pub weight : weight_of_stop o.stopped + frames_weight o.frames + weight_of_begun o.begun ≤ weight_before
+  pub weight : weight_of_stop o.stopped + frames_weight o.frames + weight_of_begun o.begun + rounds_skipped t o.stopped ≤ weight_before
 
 -- a label that is found, if one is, is known
 abbrev Found : Option Label → List Label → Type 0
@@ -223,15 +224,16 @@ waits_case clock t cancelled_from name w home fs ps count p h le = by_label (lab
 -- the case of a step that asks something of a limiter or channel
 queues_case : (clock : Clock) (t : ℕ) (cancelled_from : Table) (b : Bool) (name : List ℕ) (ask : Ask) (body : Steps) (w : ℕ) (home : List Place)
     (fs : List Frame) (ps : List Place) (count : ℕ) → StartsIn false body → Placed fs ps → home_places fs ps ≡ home →
-    1 + 2 * size_of body + frames_weight fs ≤ w → Case clock t cancelled_from w home ps count (asks_of clock (label_among true name ps) b name ask t body fs ps)
-queues_case clock t cancelled_from b name ask body w home fs ps count s p h le = by_label (label_among true name ps) refl
+    2 + 2 * size_of body + frames_weight fs ≤ w → (b ≡ false → seen (stack_at cancelled_from ps).scopes t ≡ false) →
+    Case clock t cancelled_from w home ps count (asks_of clock (label_among true name ps) b name ask t body fs ps)
+queues_case clock t cancelled_from b name ask body w home fs ps count s p h le unseen = by_label (label_among true name ps) refl
   where
     found : (o : Option Label) → label_among true name ps ≡ o → IsSome o → IsSome (label_among true name ps)
     found o e i = subst (λ (x : Option Label). IsSome x) (sym e) i
 
-    by_seen : (clock : Clock) (b : Bool) → IsSome (label_among true name ps) → Case clock t cancelled_from w home ps count (asks_if clock b name ask t body fs ps)
-    by_seen by_ticks true i = onward_case by_ticks t cancelled_from w home fs ps (Some cancelled) count p h (omega arith)
-    by_seen by_rounds true i =
+    by_seen : (clock : Clock) (b : Bool) → (b ≡ false → seen (stack_at cancelled_from ps).scopes t ≡ false) → IsSome (label_among true name ps) → Case clock t cancelled_from w home ps count (asks_if clock b name ask t body fs ps)
+    by_seen by_ticks true e i = onward_case by_ticks t cancelled_from w home fs ps (Some cancelled) count p h (omega arith)
+    by_seen by_rounds true e i =
         record {
           placed = p;
           at_home = h;
@@ -243,7 +245,7 @@ queues_case clock t cancelled_from b name ask body w home fs ps count s p h le =
           stops = inr refl;
           weight = omega arith;
         }
-    by_seen by_ticks false i =
+    by_seen by_ticks false e i =
         record {
           placed = (i, s, p);
           at_home = h;
@@ -252,10 +254,10 @@ queues_case clock t cancelled_from b name ask body w home fs ps count s p h le =
           starts_made = tt;
           begun_in = tt;
           clocks = tt;
-          stops = refl;
+          stops = (refl, e refl);
           weight = omega arith;
         }
-    by_seen by_rounds false i =
+    by_seen by_rounds false e i =
         record {
           placed = (i, s, p);
           at_home = h;
@@ -264,13 +266,13 @@ queues_case clock t cancelled_from b name ask body w home fs ps count s p h le =
           starts_made = tt;
           begun_in = tt;
           clocks = tt;
-          stops = refl;
+          stops = (refl, e refl);
           weight = omega arith;
         }
 
     by_label : (o : Option Label) → label_among true name ps ≡ o → Case clock t cancelled_from w home ps count (asks_of clock o b name ask t body fs ps)
     by_label None e = onward_case clock t cancelled_from w home fs ps None count p h (omega arith)
-    by_label (Some l) e = by_seen clock b (found (Some l) e tt)
+    by_label (Some l) e = by_seen clock b unseen (found (Some l) e tt)
 
 -- the case of a step that closes a channel, if there is one
 closes_case : (clock : Clock) (t : ℕ) (cancelled_from : Table) (o : Option Label) (w : ℕ) (home : List Place) (fs : List Frame) (ps : List Place) (count : ℕ) →
@@ -580,7 +582,7 @@ step_case now cancelled_from here (wait_for name) ss fs ps count a b p =
     waits_case here.clock now.at cancelled_from name _ _ (steps_left ss ∷ fs) ps count (b, p) refl (omega arith)
 step_case now cancelled_from here (ask_for name ask body) ss fs ps count a b p =
     queues_case here.clock now.at cancelled_from (seen (stack_for now.own now.at (stack_at cancelled_from ps).scopes) now.at) name ask body _ _
-    (steps_left ss ∷ fs) ps count a (b, p) refl (omega arith)
+    (steps_left ss ∷ fs) ps count a (b, p) refl (omega arith) (unseen_for now.own now.at (stack_at cancelled_from ps).scopes)
 step_case now cancelled_from here (close_channel name) ss fs ps count a b p =
     closes_case here.clock now.at cancelled_from (label_among true name ps) _ _ (steps_left ss ∷ fs) ps count (b, p) refl (omega arith)
 step_case now cancelled_from here (scope name d shield fail body) ss fs ps count a b p =

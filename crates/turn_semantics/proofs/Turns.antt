@@ -99,7 +99,8 @@ stops_append clock t cancelled_from made (Some (asking kernel purpose)) ps more 
 stops_append clock t cancelled_from made (Some (asleep paced n since)) ps more h =
     subst (λ (f : Table). StopsAt clock t f (Some (asleep paced n since)) ps) (sym (cancelled_from_append made more cancelled_from)) h
 stops_append clock t cancelled_from made (Some (waiting_for event since)) ps more h = h
-stops_append clock t cancelled_from made (Some (queued object ask since body)) ps more h = h
+stops_append clock t cancelled_from made (Some (queued object ask since body)) ps more h =
+    subst (λ (f : Table). StopsAt clock t f (Some (queued object ask since body)) ps) (sym (cancelled_from_append made more cancelled_from)) h
 stops_append clock t cancelled_from made (Some (giving_up since)) ps more h = h
 stops_append clock t cancelled_from made (Some (awaiting children u e)) ps more h = h
 stops_append clock t cancelled_from made (Some (at_end u e)) ps more h = h

@@ -1,5 +1,5 @@
 -- What a turn promises of a task: its result is the same as before, and what it did, began and left.
-use Rattle.std.specs.Prelude.{◌≡◌, ◌⊎◌, ℕ, suc, ◌+◌, ◌<◌, Bool, true, false, Option, Some, None, List, [], ◌∷◌, length}
+use Rattle.std.specs.Prelude.{◌≡◌, ◌⊎◌, ℕ, suc, ◌+◌, ◌-◌, ◌<◌, Bool, true, false, Option, Some, None, List, [], ◌∷◌, length}
 use Rattle.exceptions.specs.Exceptions.{Label}
 use Rattle.cancel_scopes.specs.Sight.{Tick, earlier, seen}
 use Rattle.job_meaning.specs.Log.{Act, asks, Log, nil, entry, sign, entered, act, task, Result, Table, same_label, tick_if}
@@ -149,7 +149,8 @@ abbrev pub FallsAsleep : Clock → ℕ → (seen_now : Bool) → Type 0
 FallsAsleep by_ticks n seen_now = (0 < n) × (seen_now ≡ false)
 FallsAsleep by_rounds n seen_now = Unit {0}
 
--- How a task stops in moment t, with these moments of cancellation after the turn: a sleep begins now; for a body that waits, and
+-- How a task stops in moment t, with these moments of cancellation after the turn: a sleep begins now; a task that is in a queue asked now, and
+-- sees no cancellation; for a body that waits, and
 -- for a task that gives up or ended, it is now.
 abbrev pub StopsAt : Clock → ℕ → Table → Option Stopped → List Place → Type 0
 StopsAt clock t cancelled_from None ps = Unit {0}
@@ -157,7 +158,7 @@ StopsAt clock t cancelled_from (Some to_begin) ps = ⊥
 StopsAt clock t cancelled_from (Some (asking kernel purpose)) ps = Unit {0}
 StopsAt clock t cancelled_from (Some (asleep paced n since)) ps = (since ≡ t) × FallsAsleep clock n (seen (stack_at cancelled_from ps).scopes t)
 StopsAt clock t cancelled_from (Some (waiting_for event since)) ps = since ≡ t
-StopsAt clock t cancelled_from (Some (queued object ask since body)) ps = since ≡ t
+StopsAt clock t cancelled_from (Some (queued object ask since body)) ps = (since ≡ t) × (seen (stack_at cancelled_from ps).scopes t ≡ false)
 StopsAt clock t cancelled_from (Some (giving_up since)) ps = (since ≡ t) ⊎ (since ≡ suc t)
 StopsAt clock t cancelled_from (Some (awaiting children ended e)) ps = ended ≡ t
 StopsAt clock t cancelled_from (Some (at_end u e)) ps = u ≡ t
@@ -167,6 +168,13 @@ StopsAt clock t cancelled_from (Some (at_end u e)) ps = u ≡ t
 abbrev pub weight_of_stop : Option Stopped → ℕ
 weight_of_stop None = 0
 weight_of_stop (Some s) = stop_weight s
+
+-- A task whose ask is refused gives up two rounds later, as at a checkpoint, where it has a turn in each of them: so many rounds it skips.
+abbrev pub rounds_skipped : ℕ → Option Stopped → ℕ
+rounds_skipped t None = 0
+rounds_skipped t (Some (giving_up since)) = since - t
+rounds_skipped t (Some to_begin) = 0
+rounds_skipped t (Some _) = 0
 
 abbrev pub weight_of_begun : List Begun → ℕ
 weight_of_begun [] = 0
@@ -227,8 +235,8 @@ pub record Turned (c : TurnContext) (o : Move) : Type 0 where
   pub clocks : AllBy c.here.clock o.begun
   -- how the task stopped
   pub stops : StopsAt c.here.clock c.now.at (cancelled_from_after c.cancelled_from o.made) o.stopped o.places
-  -- the weight of what is left, the children's included, is less than the bound
-  pub weight : weight_of_stop o.stopped + frames_weight o.frames + weight_of_begun o.begun < c.bound
+  -- the weight of what is left, the children's included, is less than the bound, by one more for a round that is skipped
+  pub weight : weight_of_stop o.stopped + frames_weight o.frames + weight_of_begun o.begun + rounds_skipped c.now.at o.stopped < c.bound
 
 -- the promise of steps of a task that is in the middle of a turn
 abbrev pub Goes : Now → Here → Table → Midway → Move → Type 0
