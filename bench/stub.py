@@ -58,7 +58,9 @@ def without_bodies(lines):
             continue
         returns = any("->" in it for it in kept if not re.match(r"^\s*(requires|ensures)", it))
         body = ["{", "    crate::stub_c::stub_false();"] + (["    unreachable!()"] if returns else []) + ["}"]
-        out += [it for it in head if "///" in it or "#[" in it] + kept + [indent + it for it in body]
+        # what an attribute says of the proof, or of a cycle of calls, is not so of a stub
+        out += [it for it in head if "///" in it or ("#[" in it and not re.match(r"^\s*#\[(tactic|cycle)\b", it))]
+        out += kept + [indent + it for it in body]
     return out
 
 

@@ -9,7 +9,8 @@ use Rattle.input_lines.specs.Lines.{Span}
 use Rattle.exceptions.specs.Exceptions.{Label, Exc, cancelled, raised}
 use Rattle.exceptions.specs.Split.{Wanted, keep, drop}
 use Rattle.cancel_scopes.specs.Sight.{Tick, Level, is_reached, sight, seen}
-use Rattle.job_meaning.specs.Log.{Log, nil, entry, sign, entered, gives_back, act, task, followed_by, Result, same_label, either, deadline_if, deadline_of}
+use Rattle.job_tree.specs.declared.object.Ask.TheVariants.{Acquire, Send, Receive}
+use Rattle.job_meaning.specs.Log.{Log, nil, entry, sign, entered, gives_back, act, task, followed_by, Result, same_label, either, deadline_if, deadline_of, Entry, was_granted}
 use Rattle.job_meaning.specs.Sharing.{What, a_token, was_sent, a_part, closed_resource, end_of_channel, Granted}
 use Rattle.job_meaning.specs.Moments.{tick_of, a_round_after, wakes_at, gives_up_at, due, Now, only_at}
 use Rattle.job_meaning.specs.declared.clock.Clock.{Clock}
@@ -187,8 +188,8 @@ unfolding cleanup_result
 each_cleaned r go h k = each_followed r.log (go (now_of r)).log h (k (now_of r))
 
 -- what was granted is noted, and what follows has such deadlines
-each_goes_on : (label : Label) (m : ℕ) (go : Now → Result) → ((u : Now) → EachOnTick (go u).log) → EachOnTick (goes_on label m go).log
-each_goes_on label m go h = h (only_at m)
+each_goes_on : (e : Entry) (m : ℕ) (go : Now → Result) → ((u : Now) → EachOnTick (go u).log) → EachOnTick (goes_on e m go).log
+each_goes_on e m go h = h (only_at m)
 
 each_token_back : (label : Label) (r : Result) → EachOnTick r.log → EachOnTick (with_token_back label r).log
 unfolding with_token_back
@@ -198,10 +199,10 @@ each_token_back label r h = each_followed r.log (act label r.end gives_back nil)
 each_granted : (label : Label) (here : Here) → here.clock ≡ by_rounds → (m : ℕ) (what : What) (go : Here → Now → Result) →
     ((inner : Here) → inner.clock ≡ by_rounds → (u : Now) → EachOnTick (go inner u).log) → EachOnTick (granted_result label here m what go).log
 each_granted label here c m a_token go h =
-    each_goes_on label m (λ (u : Now). with_token_back label (go here u)) (λ u. each_token_back label (go here u) (h here c u))
-each_granted label here c m was_sent go h = each_goes_on label m (λ (u : Now). go here u) (λ u. h here c u)
+    each_goes_on (was_granted Acquire label) m (λ (u : Now). with_token_back label (go here u)) (λ u. each_token_back label (go here u) (h here c u))
+each_granted label here c m was_sent go h = each_goes_on (was_granted Send label) m (λ (u : Now). go here u) (λ u. h here c u)
 each_granted label here c m (a_part lent) go h =
-    each_goes_on label m (λ (u : Now). go (record here { part = lent }) u) (λ u. h (record here { part = lent }) c u)
+    each_goes_on (was_granted Receive label) m (λ (u : Now). go (record here { part = lent }) u) (λ u. h (record here { part = lent }) c u)
 each_granted label here c m closed_resource go h = tt
 each_granted label here c m end_of_channel go h = tt
 

@@ -8,7 +8,8 @@ use Rattle.input_lines.specs.Lines.{Span}
 use Rattle.exceptions.specs.Exceptions.{Label, Exc, cancelled, raised}
 use Rattle.exceptions.specs.Split.{Wanted, keep, drop}
 use Rattle.cancel_scopes.specs.Sight.{Tick, Level, is_reached, sight, seen}
-use Rattle.job_meaning.specs.Log.{Log, nil, entry, sign, entered, Act, gives_back, closes, act, task, followed_by, Member, Result}
+use Rattle.job_tree.specs.declared.object.Ask.TheVariants.{Acquire, Send, Receive}
+use Rattle.job_meaning.specs.Log.{Log, nil, entry, sign, entered, Act, gives_back, closes, act, task, followed_by, Member, Result, Entry, was_granted}
 use Rattle.job_meaning.specs.Sharing.{What, a_token, was_sent, a_part, closed_resource, end_of_channel, Granted}
 use Rattle.job_meaning.specs.Moments.{tick_of, a_round_after, wakes_at, gives_up_at, Now, only_at}
 use Rattle.job_meaning.specs.declared.clock.Clock.{Clock}
@@ -256,11 +257,11 @@ ends_cleaned body r go h k l =
     record { inside = both.inside; closed = both.closed }
 
 -- what was granted is noted, and what follows ends likewise
-ends_goes_on : (body : Bool) (label : Label) (m : ℕ) (go : Now → Result) → ((u : Now) → Ends body (go u)) → ((u : Now) → Late u.at (go u)) →
-    Ends body (goes_on label m go)
-ends_goes_on body label m go h l = ends_joined body (noted_at label m) (go (only_at m)) noted (h (only_at m)) (l (only_at m)).ends
+ends_goes_on : (body : Bool) (e : Entry) (m : ℕ) (go : Now → Result) → ((u : Now) → Ends body (go u)) → ((u : Now) → Late u.at (go u)) →
+    Ends body (goes_on e m go)
+ends_goes_on body e m go h l = ends_joined body (noted_at e m) (go (only_at m)) noted (h (only_at m)) (l (only_at m)).ends
   where
-    noted : Ends body (noted_at label m)
+    noted : Ends body (noted_at e m)
     noted = record { inside = tt; closed = λ e. refl }
 
 -- so does a block whose token comes back
@@ -276,10 +277,10 @@ ends_granted : (body : Bool) (label : Label) (here : Here) (m : ℕ) (what : Wha
     ((inner : Here) (u : Now) → Ends body (go inner u)) → ((inner : Here) (u : Now) → Late u.at (go inner u)) →
     Ends body (granted_result label here m what go)
 ends_granted body label here m a_token go h l =
-    ends_goes_on body label m _ (λ u. ends_token_back body label _ (h here u)) (λ u. late_token_back u.at label _ (l here u))
-ends_granted body label here m was_sent go h l = ends_goes_on body label m _ (λ u. h here u) (λ u. l here u)
+    ends_goes_on body (was_granted Acquire label) m _ (λ u. ends_token_back body label _ (h here u)) (λ u. late_token_back u.at label _ (l here u))
+ends_granted body label here m was_sent go h l = ends_goes_on body (was_granted Send label) m _ (λ u. h here u) (λ u. l here u)
 ends_granted body label here m (a_part lent) go h l =
-    ends_goes_on body label m _ (λ u. h (record here { part = lent }) u) (λ u. l (record here { part = lent }) u)
+    ends_goes_on body (was_granted Receive label) m _ (λ u. h (record here { part = lent }) u) (λ u. l (record here { part = lent }) u)
 ends_granted body label here m closed_resource go h l = ends_raised body _ (only_at m)
 ends_granted body label here m end_of_channel go h l = ends_raised body _ (only_at m)
 

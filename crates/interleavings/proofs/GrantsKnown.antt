@@ -389,13 +389,13 @@ module _ (k : Tables) (f : Table) (whole : Result) (qs : List Started) (o : RunI
 
 -- ---- the law
 
--- what is granted up to the present moment is known
+-- what is granted up to a moment is known, before which nothing happens that was not done
 pub grants_are_known : GrantsAreKnown
-grants_are_known k job input names nurseries settled f t m qs r taken order object asker since =
-    ap (λ (g : Option Granted). granted_before (suc t) g) (settled.granted object asker since)
-    ∙ (served_before t job object asker since (acts_in object (root_log job (follow k.cancelled_from k.granted job input)))
-    ∙ (ap (λ (xs : List Done). granted_before (suc t) (find_given asker since (serve_acts unopened (by_moment xs)))) same_acts
-    ∙ sym (served_before t job object asker since (acts_of_all object taken))))
+grants_are_known k job input names nurseries settled f t m qs r v from taken order object asker since =
+    ap (λ (g : Option Granted). granted_before (suc v) g) (settled.granted object asker since)
+    ∙ (served_before v job object asker since (acts_in object (root_log job (follow k.cancelled_from k.granted job input)))
+    ∙ (ap (λ (xs : List Done). granted_before (suc v) (find_given asker since (serve_acts unopened (by_moment xs)))) same_acts
+    ∙ sym (served_before v job object asker since (acts_of_all object taken))))
   where
     whole : Result
     whole = root_result k job input
@@ -403,11 +403,8 @@ grants_are_known k job input names nurseries settled f t m qs r taken order obje
     interleaving : RunInvariant k f whole qs
     interleaving = (runs_keep_invariant k job input settled names nurseries f t m qs r).0
 
-    from : AllFrom k qs t
-    from = (runs_keep_invariant k job input settled names nurseries f t m qs r).1
-
-    same_acts : cut t (acts_in object (root_log job (follow k.cancelled_from k.granted job input))) ≡ cut t (acts_of_all object taken)
+    same_acts : cut v (acts_in object (root_log job (follow k.cancelled_from k.granted job input))) ≡ cut v (acts_of_all object taken)
     same_acts =
-        whole_acts k f whole qs interleaving t from (one_serial k job input f t m qs r)
+        whole_acts k f whole qs interleaving v from (one_serial k job input f t m qs r)
         (kids_named k job input names nurseries settled f t m qs r) object (root_label job.name)
         (root_named k job input f t m qs r interleaving.root.root interleaving.root.among interleaving.root.first) taken order

@@ -103,14 +103,15 @@ RunsKeepInvariant =
     (f : Table) (t m : ℕ) (qs : List Started) → Reached k job input f t m qs →
     RunInvariant k f (root_result k job input) qs × AllFrom k qs t × ((q : Started) → IsAmong q qs → AgreesOn t k.cancelled_from f q.places)
 
--- What limiters and channels grant up to the present moment is what they grant by what was done to them in the moments before, in the
--- order of records. So a program that serves what is done in each round grants what any settled tables say.
+-- What limiters and channels grant up to a moment before which nothing happens that was not done yet is what they grant by what was done
+-- to them in the moments before it, in the order of records. So a program that serves what is done in each round grants what any settled
+-- tables say.
 abbrev pub GrantsAreKnown : Type 0
 GrantsAreKnown =
     (k : Tables) (job : Tree) (input : List ℕ) → GivesNamesOnce job → StartsInNurseries job → IsSettledBy k job input →
-    (f : Table) (t m : ℕ) (qs : List Started) → Reached k job input f t m qs → (taken : List Started) → InOrder qs (0 ∷ []) taken →
-    (object asker : Label) (since : ℕ) →
-    granted_before (suc t) (k.granted object asker since) ≡ granted_before (suc t) (granted_so_far taken object asker since)
+    (f : Table) (t m : ℕ) (qs : List Started) → Reached k job input f t m qs → (v : ℕ) → AllFrom k qs v →
+    (taken : List Started) → InOrder qs (0 ∷ []) taken → (object asker : Label) (since : ℕ) →
+    granted_before (suc v) (k.granted object asker since) ≡ granted_before (suc v) (granted_so_far taken object asker since)
 
 -- a run in which all tasks have ended has what the job means: its records, its moments of cancellation and its end
 abbrev pub RunsAreTheMeaning : Type 0

@@ -33,9 +33,9 @@ pub fn law_runs()
     ensures room { RoundsStayInTicks }
 {}
 
-/// What limiters and channels grant up to the present moment is what they grant by what the tasks of the run did to them in the
-/// moments before, in the order of records (`specs/Acts.antt`): what each task has made known, and what it asked, if it is still
-/// in a queue. So a program that serves in each round what was done in the rounds before grants what any settled tables say.
+/// What limiters and channels grant up to a moment before which nothing happens that was not done yet is what they grant by what the
+/// tasks of the run did to them before it, in the order of records (`specs/Acts.antt`): what each task has made known, and what it
+/// asked, if it is still in a queue. So a program that serves in each round what was done in it grants what any settled tables say.
 pub fn law_grants()
     ensures { GrantsAreKnown }
 {}

@@ -6,7 +6,8 @@ use Rattle.std.proofs.lemmas.Bool.Decides.{nat_tests}
 use Rattle.job_tree.specs.declared.object.Ask.{Ask}
 use Rattle.exceptions.specs.Exceptions.{Label, cancelled, raised}
 use Rattle.cancel_scopes.specs.Sight.{Tick, is_reached, sight, seen}
-use Rattle.job_meaning.specs.Log.{Act, asks, gives_back, Log, nil, act, Result}
+use Rattle.job_tree.specs.declared.object.Ask.TheVariants.{Acquire, Send, Receive}
+use Rattle.job_meaning.specs.Log.{Act, asks, gives_back, Log, nil, act, Result, Entry, was_granted}
 use Rattle.job_meaning.specs.Sharing.{What, a_token, was_sent, a_part, closed_resource, end_of_channel, Granted, granted_if, granted_before}
 use Rattle.job_meaning.specs.Moments.{tick_of, gives_up_at, Now, only_at}
 use Rattle.job_meaning.specs.Walk.{Stack, Mode, two_walks, by_table, grants_in, Here, done_at, raised_at, stack_for, with_act, with_token_back, last_grant, leaves_queue, in_time, left_result, goes_on, granted_result, asked_result, asks_in, ask_result}
@@ -24,10 +25,10 @@ grants_near c (two_walks grants) (by_table table other) near = absurd near
 grants_near c (by_table table grants) (two_walks other) near = absurd near
 
 -- what was granted agrees, where what follows agrees
-agree_goes_on : (c : ℕ) (label : Label) (m : ℕ) (go go' : Now → Result) → ((u : Now) → Agree c (go u) (go' u)) → ((u : Now) → Late u.at (go u)) →
-    ((u : Now) → Late u.at (go' u)) → Agree c (goes_on label m go) (goes_on label m go')
-agree_goes_on c label m go go' h k k' =
-    agree_joined c (noted_at label m) (noted_at label m) (go (only_at m)) (go' (only_at m)) (agree_same c (noted_at label m)) (h (only_at m))
+agree_goes_on : (c : ℕ) (e : Entry) (m : ℕ) (go go' : Now → Result) → ((u : Now) → Agree c (go u) (go' u)) → ((u : Now) → Late u.at (go u)) →
+    ((u : Now) → Late u.at (go' u)) → Agree c (goes_on e m go) (goes_on e m go')
+agree_goes_on c e m go go' h k k' =
+    agree_joined c (noted_at e m) (noted_at e m) (go (only_at m)) (go' (only_at m)) (agree_same c (noted_at e m)) (h (only_at m))
     (k (only_at m)).ends (k' (only_at m)).ends
 
 -- so do blocks with a token, which comes back
@@ -43,11 +44,11 @@ agree_granted : (c : ℕ) (label : Label) (here : Here) (m : ℕ) (what : What) 
     ((inner : Here) (u : Now) → Agree c (go inner u) (go' inner u)) → ((inner : Here) (u : Now) → Late u.at (go inner u)) →
     ((inner : Here) (u : Now) → Late u.at (go' inner u)) → Agree c (granted_result label here m what go) (granted_result label here m what go')
 agree_granted c label here m a_token go go' h k k' =
-    agree_goes_on c label m _ _ (λ u. agree_token_back c label _ _ (h here u)) (λ u. late_token_back u.at label _ (k here u))
+    agree_goes_on c (was_granted Acquire label) m _ _ (λ u. agree_token_back c label _ _ (h here u)) (λ u. late_token_back u.at label _ (k here u))
     (λ u. late_token_back u.at label _ (k' here u))
-agree_granted c label here m was_sent go go' h k k' = agree_goes_on c label m _ _ (λ u. h here u) (λ u. k here u) (λ u. k' here u)
+agree_granted c label here m was_sent go go' h k k' = agree_goes_on c (was_granted Send label) m _ _ (λ u. h here u) (λ u. k here u) (λ u. k' here u)
 agree_granted c label here m (a_part lent) go go' h k k' =
-    agree_goes_on c label m _ _ (λ u. h (record here { part = lent }) u) (λ u. k (record here { part = lent }) u)
+    agree_goes_on c (was_granted Receive label) m _ _ (λ u. h (record here { part = lent }) u) (λ u. k (record here { part = lent }) u)
     (λ u. k' (record here { part = lent }) u)
 agree_granted c label here m closed_resource go go' h k k' = agree_same c _
 agree_granted c label here m end_of_channel go go' h k k' = agree_same c _

@@ -18,7 +18,8 @@ use Rattle.input_lines.specs.Kernels.{count_in}
 use Rattle.exceptions.specs.Exceptions.{Label, Exc, cancelled, raised}
 use Rattle.exceptions.specs.Split.{Wanted, keep, drop}
 use Rattle.cancel_scopes.specs.Sight.{Tick, Level, is_reached, sight, seen}
-use Rattle.job_meaning.specs.Log.{Log, nil, entry, sign, entered, Act, act, task, followed_by, Member, Result}
+use Rattle.job_tree.specs.declared.object.Ask.TheVariants.{Acquire, Send, Receive}
+use Rattle.job_meaning.specs.Log.{Log, nil, entry, sign, entered, Act, act, task, followed_by, Member, Result, Entry, was_granted}
 use Rattle.job_meaning.specs.Sharing.{What, a_token, was_sent, a_part, closed_resource, end_of_channel, Granted, granted_if}
 use Rattle.job_meaning.specs.Moments.{clock_of, tick_of, a_round_after, wakes_at, gives_up_at, Now, only_at, far}
 use Rattle.job_meaning.specs.declared.clock.Clock.{Clock}
@@ -267,15 +268,15 @@ by_left here from left b le = by_sight (is_reached from left)
     by_sight true = by_raised _ b (only_at left) le
     by_sight false = by_raised _ b (only_at left) le
 
-by_goes_on : (label : Label) (b m : ℕ) (go : Now → Result) → EndsBy b (go (only_at m)) → EndsBy b (goes_on label m go)
-by_goes_on label b m go h = by_joined b (noted_at label m) (go (only_at m)) tt tt h
+by_goes_on : (e : Entry) (b m : ℕ) (go : Now → Result) → EndsBy b (go (only_at m)) → EndsBy b (goes_on e m go)
+by_goes_on e b m go h = by_joined b (noted_at e m) (go (only_at m)) tt tt h
 
 -- what a task does with what it is granted
 by_granted : (label : Label) (here : Here) (b m : ℕ) (what : What) (go : Here → Now → Result) → m ≤ b →
     ((lent : Range) → EndsBy b (go (record here { part = lent }) (only_at m))) → EndsBy b (granted_result label here m what go)
-by_granted label here b m a_token go le h = by_goes_on label b m (λ u. with_token_back label (go here u)) (by_token_back label b _ (h here.part))
-by_granted label here b m was_sent go le h = by_goes_on label b m (λ u. go here u) (h here.part)
-by_granted label here b m (a_part lent) go le h = by_goes_on label b m (λ u. go (record here { part = lent }) u) (h lent)
+by_granted label here b m a_token go le h = by_goes_on (was_granted Acquire label) b m (λ u. with_token_back label (go here u)) (by_token_back label b _ (h here.part))
+by_granted label here b m was_sent go le h = by_goes_on (was_granted Send label) b m (λ u. go here u) (h here.part)
+by_granted label here b m (a_part lent) go le h = by_goes_on (was_granted Receive label) b m (λ u. go (record here { part = lent }) u) (h lent)
 by_granted label here b m closed_resource go le h = by_raised _ b (only_at m) le
 by_granted label here b m end_of_channel go le h = by_raised _ b (only_at m) le
 

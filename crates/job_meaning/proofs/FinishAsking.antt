@@ -1,11 +1,12 @@
 -- What comes of a task that asks a limiter or channel, with the frames that it has left.
 use Rattle.std.proofs.Common.{◌≡◌, ℕ, Bool, true, false, Option, Some, None, List, ◌∷◌, refl, ap, sym, ◌∙◌, if◌then◌else◌}
 use Rattle.job_tree.specs.declared.object.Ask.{Ask}
+use Rattle.job_tree.specs.declared.object.Ask.TheVariants.{Acquire, Send, Receive}
 use Rattle.job_tree.specs.Tree.{ask_for, close_channel, Steps, step}
 use Rattle.input_lines.specs.Lines.{Range}
 use Rattle.exceptions.specs.Exceptions.{Label, cancelled}
 use Rattle.cancel_scopes.specs.Sight.{sight, seen}
-use Rattle.job_meaning.specs.Log.{nil, entry, waited, asks, gives_back, closes, act, Result}
+use Rattle.job_meaning.specs.Log.{nil, entry, was_granted, asks, gives_back, closes, act, Result}
 use Rattle.job_meaning.specs.Sharing.{a_token, was_sent, a_part, Granted}
 use Rattle.job_meaning.specs.Moments.{gives_up_at, Now, only_at}
 use Rattle.job_meaning.specs.Walk.{Stack, Mode, grants_in, Here, walk, and_then, done_at, raised_at, close_result, with_token_back, last_grant, leaves_queue, in_time, left_result, granted_result, asked_result, asks_in, ask_result, ask_on, close_on, stack_for, label_on}
@@ -107,27 +108,27 @@ finish_left fs m outcomes name ask since body here st t label e granted =
 -- with a token it runs the block of the step
 pub finish_with_token : (fs : List Frame) (m : Mode) (outcomes : ChildOutcomes) (body : Steps) (here : Here) (st : Stack) (label : Label) (t : ℕ) →
     finish m outcomes fs here st (granted_result label (inside fs here) t a_token (λ inner u. walk m body inner st u))
-    ≡ after (entry t (waited label) nil) (finish m outcomes (steps_left body ∷ with_token label ∷ fs) here st (done_at (only_at t)))
+    ≡ after (entry t (was_granted Acquire label) nil) (finish m outcomes (steps_left body ∷ with_token label ∷ fs) here st (done_at (only_at t)))
 unfolding finish and_then
 finish_with_token fs m outcomes body here st label t =
-    finish_after fs (entry t (waited label) nil) m outcomes here st (with_token_back label (walk m body (inside fs here) st (only_at t)))
+    finish_after fs (entry t (was_granted Acquire label) nil) m outcomes here st (with_token_back label (walk m body (inside fs here) st (only_at t)))
 
 -- what was sent was sent, and the block of the step runs
 pub finish_sent : (fs : List Frame) (m : Mode) (outcomes : ChildOutcomes) (body : Steps) (here : Here) (st : Stack) (label : Label) (t : ℕ) →
     finish m outcomes fs here st (granted_result label (inside fs here) t was_sent (λ inner u. walk m body inner st u))
-    ≡ after (entry t (waited label) nil) (finish m outcomes (steps_left body ∷ fs) here st (done_at (only_at t)))
+    ≡ after (entry t (was_granted Send label) nil) (finish m outcomes (steps_left body ∷ fs) here st (done_at (only_at t)))
 unfolding finish and_then
 finish_sent fs m outcomes body here st label t =
-    finish_after fs (entry t (waited label) nil) m outcomes here st (walk m body (inside fs here) st (only_at t))
+    finish_after fs (entry t (was_granted Send label) nil) m outcomes here st (walk m body (inside fs here) st (only_at t))
 
 -- with a part it runs the block of the step on that part
 pub finish_with_part : (fs : List Frame) (m : Mode) (outcomes : ChildOutcomes) (body : Steps) (here : Here) (st : Stack) (label : Label) (t : ℕ)
     (lent : Range) →
     finish m outcomes fs here st (granted_result label (inside fs here) t (a_part lent) (λ inner u. walk m body inner st u))
-    ≡ after (entry t (waited label) nil) (finish m outcomes (steps_left body ∷ with_part lent ∷ fs) here st (done_at (only_at t)))
+    ≡ after (entry t (was_granted Receive label) nil) (finish m outcomes (steps_left body ∷ with_part lent ∷ fs) here st (done_at (only_at t)))
 unfolding finish and_then
 finish_with_part fs m outcomes body here st label t lent =
-    finish_after fs (entry t (waited label) nil) m outcomes here st (walk m body (inside (with_part lent ∷ fs) here) st (only_at t))
+    finish_after fs (entry t (was_granted Receive label) nil) m outcomes here st (walk m body (inside (with_part lent ∷ fs) here) st (only_at t))
 
 -- a block with a token has ended: the token comes back, whatever it ended with
 pub finish_token_back : (fs : List Frame) (m : Mode) (outcomes : ChildOutcomes) (label : Label) (here : Here) (st : Stack) (r : Result) →

@@ -8,7 +8,8 @@ use Rattle.input_lines.specs.Cuts.{cut_of}
 use Rattle.exceptions.specs.Exceptions.{Label, Exc, cancelled}
 use Rattle.exceptions.specs.Split.{Wanted, keep, drop}
 use Rattle.cancel_scopes.specs.Sight.{Tick, sight, seen, catches}
-use Rattle.job_meaning.specs.Log.{Act, opens, asks, gives_back, Log, nil, entry, act, followed_by, Result, least_sign, deadline_of, deadline_if, either, same_label, from_by, Table, table_of, entered_from}
+use Rattle.job_tree.specs.declared.object.Ask.TheVariants.{Acquire, Send, Receive}
+use Rattle.job_meaning.specs.Log.{Act, opens, asks, gives_back, Log, nil, entry, act, followed_by, Result, least_sign, deadline_of, deadline_if, either, same_label, from_by, Table, table_of, entered_from, Entry, was_granted}
 use Rattle.job_meaning.specs.Sharing.{What, a_token, was_sent, a_part, closed_resource, end_of_channel, Granted, Grants}
 use Rattle.job_meaning.specs.Moments.{a_round_after, gives_up_at, Now, only_at}
 use Rattle.job_meaning.specs.declared.clock.Clock.{Clock}
@@ -275,10 +276,10 @@ fits_token_back table label r f = fits_first table r.log (act label r.end gives_
     apart : Apart r.log (act label r.end gives_back nil)
     apart = record { unsigned_after = λ l i j. j; entered_once = λ l i j. j; unsigned_before = λ l i j. i }
 
-settled_goes_on : (table : Table) (label : Label) (m : ℕ) (go go' : Now → Result) → ((u : Now) → Fits table (go u).log → go' u ≡ go u) →
-    Fits table (goes_on label m go).log → goes_on label m go' ≡ goes_on label m go
-settled_goes_on table label m go go' same f =
-    ap (λ (x : Result). in_sequence (noted_at label m) x) (same (only_at m) (record { each_label = f.each_label }))
+settled_goes_on : (table : Table) (e : Entry) (m : ℕ) (go go' : Now → Result) → ((u : Now) → Fits table (go u).log → go' u ≡ go u) →
+    Fits table (goes_on e m go).log → goes_on e m go' ≡ goes_on e m go
+settled_goes_on table e m go go' same f =
+    ap (λ (x : Result). in_sequence (noted_at e m) x) (same (only_at m) (record { each_label = f.each_label }))
 
 -- what a task does with what it is granted is the same, where the block of the step is
 settled_granted : (table : Table) (label : Label) (here : Here) (m : ℕ) (what : What) (go go' : Here → Now → Result) →
@@ -286,12 +287,12 @@ settled_granted : (table : Table) (label : Label) (here : Here) (m : ℕ) (what 
     go' (record here { part = lent }) u ≡ go (record here { part = lent }) u) →
     Fits table (granted_result label here m what go).log → granted_result label here m what go' ≡ granted_result label here m what go
 settled_granted table label here m a_token go go' same f =
-    settled_goes_on table label m (λ u. with_token_back label (go here u)) (λ u. with_token_back label (go' here u))
+    settled_goes_on table (was_granted Acquire label) m (λ u. with_token_back label (go here u)) (λ u. with_token_back label (go' here u))
     (λ u g. ap (λ (x : Result). with_token_back label x) (same here.part u (fits_token_back table label (go here u) g))) f
 settled_granted table label here m was_sent go go' same f =
-    settled_goes_on table label m (λ u. go here u) (λ u. go' here u) (λ u g. same here.part u g) f
+    settled_goes_on table (was_granted Send label) m (λ u. go here u) (λ u. go' here u) (λ u g. same here.part u g) f
 settled_granted table label here m (a_part lent) go go' same f =
-    settled_goes_on table label m (λ u. go (record here { part = lent }) u) (λ u. go' (record here { part = lent }) u) (λ u g. same lent u g) f
+    settled_goes_on table (was_granted Receive label) m (λ u. go (record here { part = lent }) u) (λ u. go' (record here { part = lent }) u) (λ u g. same lent u g) f
 settled_granted table label here m closed_resource go go' same f = refl
 settled_granted table label here m end_of_channel go go' same f = refl
 

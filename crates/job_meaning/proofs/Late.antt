@@ -8,7 +8,8 @@ use Rattle.input_lines.specs.Lines.{Span}
 use Rattle.exceptions.specs.Exceptions.{Label, Exc, cancelled, raised}
 use Rattle.exceptions.specs.Split.{Wanted, keep, drop}
 use Rattle.cancel_scopes.specs.Sight.{Tick, Level, earlier, is_reached, sight, seen}
-use Rattle.job_meaning.specs.Log.{Log, nil, entry, waited, sign, entered, Act, act, task, followed_by, Member, Result}
+use Rattle.job_tree.specs.declared.object.Ask.TheVariants.{Acquire, Send, Receive}
+use Rattle.job_meaning.specs.Log.{Log, nil, entry, waited, sign, entered, Act, act, task, followed_by, Member, Result, Entry, was_granted}
 use Rattle.job_meaning.specs.Sharing.{What, a_token, was_sent, a_part, closed_resource, end_of_channel, Granted, granted_if}
 use Rattle.job_meaning.specs.Moments.{tick_of, a_round_after, far, wakes_at, gives_up_at, Now, only_at}
 use Rattle.job_meaning.specs.declared.clock.Clock.{Clock}
@@ -348,23 +349,23 @@ late_leaving here from left t le = by_sight (is_reached from left)
     by_sight false = late_raised _ t (only_at left) le
 
 -- the line of a wait for a limiter or channel that ended well
-abbrev pub noted_at : Label → ℕ → Result
-noted_at label m = record { end = m; own = []; exc = None; members = []; log = entry m (waited label) nil }
+abbrev pub noted_at : Entry → ℕ → Result
+noted_at noted m = record { end = m; own = []; exc = None; members = []; log = entry m noted nil }
 
 -- what is granted is noted, and what follows is late
-pub late_goes_on : (label : Label) (m : ℕ) (go : Now → Result) → ((u : Now) → Late u.at (go u)) → Late m (goes_on label m go)
-late_goes_on label m go h = late_joined m (noted_at label m) (go (only_at m)) noted (h (only_at m))
+pub late_goes_on : (e : Entry) (m : ℕ) (go : Now → Result) → ((u : Now) → Late u.at (go u)) → Late m (goes_on e m go)
+late_goes_on e m go h = late_joined m (noted_at e m) (go (only_at m)) noted (h (only_at m))
   where
-    noted : Late m (noted_at label m)
+    noted : Late m (noted_at e m)
     noted = record { ends = omega arith; timed = (omega arith, tt) }
 
 -- what a task does with what it is granted is late
 pub late_granted : (label : Label) (here : Here) (m : ℕ) (what : What) (go : Here → Now → Result) →
     ((inner : Here) (u : Now) → Late u.at (go inner u)) →
     Late m (granted_result label here m what go)
-late_granted label here m a_token go h = late_goes_on label m _ (λ u. late_token_back u.at label _ (h here u))
-late_granted label here m was_sent go h = late_goes_on label m _ (λ u. h here u)
-late_granted label here m (a_part lent) go h = late_goes_on label m _ (λ u. h (record here { part = lent }) u)
+late_granted label here m a_token go h = late_goes_on (was_granted Acquire label) m _ (λ u. late_token_back u.at label _ (h here u))
+late_granted label here m was_sent go h = late_goes_on (was_granted Send label) m _ (λ u. h here u)
+late_granted label here m (a_part lent) go h = late_goes_on (was_granted Receive label) m _ (λ u. h (record here { part = lent }) u)
 late_granted label here m closed_resource go h = late_raised _ m (only_at m) (omega arith)
 late_granted label here m end_of_channel go h = late_raised _ m (only_at m) (omega arith)
 

@@ -10,7 +10,8 @@ use Rattle.input_lines.specs.Cuts.{cut_of}
 use Rattle.exceptions.specs.Exceptions.{Label, Exc, cancelled, raised}
 use Rattle.exceptions.specs.Split.{Wanted, keep, drop}
 use Rattle.cancel_scopes.specs.Sight.{Tick, Level, is_reached, sight, seen}
-use Rattle.job_meaning.specs.Log.{Log, nil, entry, sign, entered, Act, act, task, followed_by, Result, same_label, times_entered, times_given}
+use Rattle.job_tree.specs.declared.object.Ask.TheVariants.{Acquire, Send, Receive}
+use Rattle.job_meaning.specs.Log.{Log, nil, entry, sign, entered, Act, act, task, followed_by, Result, same_label, times_entered, times_given, Entry, was_granted}
 use Rattle.job_meaning.specs.Sharing.{What, a_token, was_sent, a_part, closed_resource, end_of_channel, Granted}
 use Rattle.job_meaning.specs.Moments.{tick_of, a_round_after, gives_up_at, Now, only_at}
 use Rattle.job_meaning.specs.declared.clock.Clock.{Clock}
@@ -195,14 +196,14 @@ unique_left here from left = by_sight (is_reached from left)
     by_sight true = record { once = tt }
     by_sight false = record { once = tt }
 
-unique_goes_on : (label : Label) (m : ℕ) (go : Now → Result) → ((u : Now) → Unique (go u)) → Unique (goes_on label m go)
-unique_goes_on label m go h = unique_joined (noted_at label m) (go (only_at m)) (record { once = tt }) (h (only_at m)) (λ l i j. i)
+unique_goes_on : (e : Entry) (m : ℕ) (go : Now → Result) → ((u : Now) → Unique (go u)) → Unique (goes_on e m go)
+unique_goes_on e m go h = unique_joined (noted_at e m) (go (only_at m)) (record { once = tt }) (h (only_at m)) (λ l i j. i)
 
 unique_granted : (label : Label) (here : Here) (m : ℕ) (what : What) (go : Here → Now → Result) →
     ((lent : Range) (u : Now) → Unique (go (record here { part = lent }) u)) → Unique (granted_result label here m what go)
-unique_granted label here m a_token go h = unique_goes_on label m _ (λ u. unique_token_back label _ (h here.part u))
-unique_granted label here m was_sent go h = unique_goes_on label m _ (λ u. h here.part u)
-unique_granted label here m (a_part lent) go h = unique_goes_on label m _ (λ u. h lent u)
+unique_granted label here m a_token go h = unique_goes_on (was_granted Acquire label) m _ (λ u. unique_token_back label _ (h here.part u))
+unique_granted label here m was_sent go h = unique_goes_on (was_granted Send label) m _ (λ u. h here.part u)
+unique_granted label here m (a_part lent) go h = unique_goes_on (was_granted Receive label) m _ (λ u. h lent u)
 unique_granted label here m closed_resource go h = record { once = tt }
 unique_granted label here m end_of_channel go h = record { once = tt }
 

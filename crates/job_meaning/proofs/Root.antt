@@ -9,7 +9,8 @@ use Rattle.input_lines.specs.Lines.{Range, Span}
 use Rattle.exceptions.specs.Exceptions.{Label, Exc, cancelled, raised, hold_cancelled, parts_of, holds_cancelled, by_nursery}
 use Rattle.exceptions.specs.Split.{Wanted, keep, drop}
 use Rattle.cancel_scopes.specs.Sight.{Tick, Level, sight, seen, is_reached, catches}
-use Rattle.job_meaning.specs.Log.{Act, Member, Result}
+use Rattle.job_tree.specs.declared.object.Ask.TheVariants.{Acquire, Send, Receive}
+use Rattle.job_meaning.specs.Log.{Act, Member, Result, Entry, was_granted}
 use Rattle.job_meaning.specs.Sharing.{What, a_token, was_sent, a_part, closed_resource, end_of_channel, Granted}
 use Rattle.job_meaning.specs.Moments.{a_round_after, wakes_at, gives_up_at, tick_of, Now, only_at}
 use Rattle.job_meaning.specs.declared.clock.Clock.{Clock}
@@ -224,15 +225,15 @@ root_left st here left = by_sight (is_reached (sight st.scopes) left) refl
     by_sight true e = record { own = refl; exc = λ h. e; members = tt }
     by_sight false e = record { own = refl; exc = λ h. absurd (false≢true h); members = tt }
 
-root_goes_on : (st : Stack) (label : Label) (m : ℕ) (go : Now → Result) → ((u : Now) → u.own ≡ [] → Rooted st (go u)) → Rooted st (goes_on label m go)
-root_goes_on st label m go h =
-    root_joined st (noted_at label m) (go (only_at m)) (record { own = refl; exc = λ k. absurd (false≢true k); members = tt }) (h (only_at m) refl)
+root_goes_on : (st : Stack) (e : Entry) (m : ℕ) (go : Now → Result) → ((u : Now) → u.own ≡ [] → Rooted st (go u)) → Rooted st (goes_on e m go)
+root_goes_on st e m go h =
+    root_joined st (noted_at e m) (go (only_at m)) (record { own = refl; exc = λ k. absurd (false≢true k); members = tt }) (h (only_at m) refl)
 
 root_granted : (st : Stack) (label : Label) (here : Here) (m : ℕ) (what : What) (go : Here → Now → Result) →
     ((lent : Range) (u : Now) → u.own ≡ [] → Rooted st (go (record here { part = lent }) u)) → Rooted st (granted_result label here m what go)
-root_granted st label here m a_token go h = root_goes_on st label m _ (λ u own. root_token_back st label _ (h here.part u own))
-root_granted st label here m was_sent go h = root_goes_on st label m _ (λ u own. h here.part u own)
-root_granted st label here m (a_part lent) go h = root_goes_on st label m _ (λ u own. h lent u own)
+root_granted st label here m a_token go h = root_goes_on st (was_granted Acquire label) m _ (λ u own. root_token_back st label _ (h here.part u own))
+root_granted st label here m was_sent go h = root_goes_on st (was_granted Send label) m _ (λ u own. h here.part u own)
+root_granted st label here m (a_part lent) go h = root_goes_on st (was_granted Receive label) m _ (λ u own. h lent u own)
 root_granted st label here m closed_resource go h = record { own = refl; exc = λ k. absurd (false≢true k); members = tt }
 root_granted st label here m end_of_channel go h = record { own = refl; exc = λ k. absurd (false≢true k); members = tt }
 

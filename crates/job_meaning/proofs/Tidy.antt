@@ -11,7 +11,8 @@ use Rattle.input_lines.specs.Lines.{Range, Span}
 use Rattle.exceptions.specs.Exceptions.{Label, Exc, cancelled, raised}
 use Rattle.exceptions.specs.Split.{Wanted, keep, drop}
 use Rattle.cancel_scopes.specs.Sight.{Tick, Level, is_reached, sight, seen, catches}
-use Rattle.job_meaning.specs.Log.{Log, nil, entry, Act, act, gives_back, followed_by, Result}
+use Rattle.job_tree.specs.declared.object.Ask.TheVariants.{Acquire, Send, Receive}
+use Rattle.job_meaning.specs.Log.{Log, nil, entry, Act, act, gives_back, followed_by, Result, Entry, was_granted}
 use Rattle.job_meaning.specs.Sharing.{What, a_token, was_sent, a_part, closed_resource, end_of_channel, Granted}
 use Rattle.job_meaning.specs.Moments.{tick_of, a_round_after, gives_up_at, Now, only_at}
 use Rattle.job_meaning.specs.declared.clock.Clock.{Clock}
@@ -299,16 +300,16 @@ tidy_left st P here from left = by_sight (is_reached from left)
     by_sight true = tidy_raised st P _ (only_at left)
     by_sight false = tidy_raised st P _ (only_at left)
 
-tidy_goes_on : (st : Stack) (P : Label → Type 0) (label : Label) (m : ℕ) (go : Now → Result) → ((u : Now) → Tidy st P (go u)) →
-    Tidy st P (goes_on label m go)
-tidy_goes_on st P label m go h =
-    tidy_joined st P (noted_at label m) (go (only_at m)) (record { gives = λ l e. absurd e; signs = λ l e. absurd e }) (h (only_at m))
+tidy_goes_on : (st : Stack) (P : Label → Type 0) (e : Entry) (m : ℕ) (go : Now → Result) → ((u : Now) → Tidy st P (go u)) →
+    Tidy st P (goes_on e m go)
+tidy_goes_on st P e m go h =
+    tidy_joined st P (noted_at e m) (go (only_at m)) (record { gives = λ l i. absurd i; signs = λ l i. absurd i }) (h (only_at m))
 
 tidy_granted : (st : Stack) (P : Label → Type 0) (label : Label) (here : Here) (m : ℕ) (what : What) (go : Here → Now → Result) →
     ((lent : Range) (u : Now) → Tidy st P (go (record here { part = lent }) u)) → Tidy st P (granted_result label here m what go)
-tidy_granted st P label here m a_token go h = tidy_goes_on st P label m _ (λ u. tidy_token_back st P label _ (h here.part u))
-tidy_granted st P label here m was_sent go h = tidy_goes_on st P label m _ (λ u. h here.part u)
-tidy_granted st P label here m (a_part lent) go h = tidy_goes_on st P label m _ (λ u. h lent u)
+tidy_granted st P label here m a_token go h = tidy_goes_on st P (was_granted Acquire label) m _ (λ u. tidy_token_back st P label _ (h here.part u))
+tidy_granted st P label here m was_sent go h = tidy_goes_on st P (was_granted Send label) m _ (λ u. h here.part u)
+tidy_granted st P label here m (a_part lent) go h = tidy_goes_on st P (was_granted Receive label) m _ (λ u. h lent u)
 tidy_granted st P label here m closed_resource go h = tidy_raised st P _ (only_at m)
 tidy_granted st P label here m end_of_channel go h = tidy_raised st P _ (only_at m)
 

@@ -4,7 +4,8 @@ use Rattle.job_tree.specs.declared.deadline.Deadline.TheVariants.{Never, After, 
 use Rattle.job_tree.specs.declared.format.Format.TheVariants.{Two}
 use Rattle.job_tree.specs.Tree.{Step, scope, nursery, event, start, repeat, attempt, Steps, stop, step, unhandled, except, uncleaned, finally, Tree}
 use Rattle.exceptions.specs.Exceptions.{Label, by_nursery, by_handler, Exc, raised, group, parts_of}
-use Rattle.job_meaning.specs.Log.{line, waited, scope_left, nursery_left}
+use Rattle.job_tree.specs.declared.object.Ask.{Ask}
+use Rattle.job_meaning.specs.Log.{line, waited, was_granted, scope_left, nursery_left}
 use Rattle.job_meaning.specs.Walk.{walk, and_then, sleep_result, pace_result, lines_result, raise_result, need_result, cancel_result, set_result, event_wait, block, event_block, with_sign, nursery_result, child, handler_result, cleanup_result}
 use Rattle.job_meaning.specs.Meaning.{Noted, Record, meaning, meaning_records, meaning_end, meaning_grants, meaning_table}
 use Rattle.job_meaning.specs.Follow.{follow}
@@ -106,6 +107,10 @@ nursery_passed name tick = record { tick = tick; entry = nursery_left (label_nam
 -- an event for which a task waited, and one of a pass or of a copy
 abbrev pub waited_for : List ℕ → ℕ → Noted
 waited_for name tick = record { tick = tick; entry = waited (label_named name) }
+
+-- what a limiter or channel granted
+abbrev pub got : Ask → List ℕ → ℕ → Noted
+got ask name tick = record { tick = tick; entry = was_granted ask (label_named name) }
 
 -- the record of a task: its start, its end, its exception and its entries
 abbrev pub record_of : Label → ℕ → ℕ → Option Exc → List Noted → Record

@@ -10,7 +10,7 @@ use Rattle.job_meaning.specs.Moments.{tick_of, only_at}
 use Rattle.job_meaning.specs.declared.clock.Clock.TheVariants.{ByRounds as by_rounds}
 use Rattle.job_meaning.specs.Walk.{two_walks, no_stack, walk, and_then, sleep_result, pace_result, lines_result, raise_result, need_result, cancel_result, set_result, event_wait, close_result, with_token_back, ask_result, block, event_block, with_sign, nursery_result, child, handler_result, cleanup_result}
 use Rattle.job_meaning.specs.Meaning.{Record, records_of}
-use Rattle.job_meaning.specs.Examples.{block_of, scope_of, timed_scope, scope_at, timed_shield, nursery_of, start_of, try_except, label_named, raised_by, group_by, scope_caught, scope_passed, nursery_caught, nursery_passed, waited_for, record_of, main_ran}
+use Rattle.job_meaning.specs.Examples.{block_of, scope_of, timed_scope, scope_at, timed_shield, nursery_of, start_of, try_except, label_named, raised_by, group_by, scope_caught, scope_passed, nursery_caught, nursery_passed, got, record_of, main_ran}
 
 -- limiter NAME N { .. }, channel NAME N { .. }
 abbrev pub limiter_of : List ℕ → ℕ → List Step → Step
@@ -59,7 +59,7 @@ its_own_cancel_and_a_token = refl
 -- limiter l 1 { acquire l { sleep 1; } acquire l { } }
 pub a_token_comes_back :
     records_after 2 (limiter_of (codes "l") 1 (acquire_of (codes "l") (sleep 1 ∷ []) ∷ acquire_of (codes "l") [] ∷ []) ∷ [])
-    ≡ main_ran 0 1 None (waited_for (codes "l") 0 ∷ waited_for (codes "l") 1 ∷ []) ∷ []
+    ≡ main_ran 0 1 None (got Acquire (codes "l") 0 ∷ got Acquire (codes "l") 1 ∷ []) ∷ []
 unfolding records_after
 a_token_comes_back = refl
 
@@ -74,8 +74,8 @@ pub cancelled_holder_gives_its_token_back :
     ∷ [])
     ∷ [])
     ≡ main_ran 0 3 None (nursery_passed (codes "n") 3 ∷ [])
-    ∷ record_of (label_named (codes "a")) 0 2 None (waited_for (codes "l") 0 ∷ scope_caught (codes "s") 2 ∷ [])
-    ∷ record_of (label_named (codes "b")) 0 3 None (waited_for (codes "l") 2 ∷ [])
+    ∷ record_of (label_named (codes "a")) 0 2 None (got Acquire (codes "l") 0 ∷ scope_caught (codes "s") 2 ∷ [])
+    ∷ record_of (label_named (codes "b")) 0 3 None (got Acquire (codes "l") 2 ∷ [])
     ∷ []
 unfolding records_after
 cancelled_holder_gives_its_token_back = refl
@@ -88,8 +88,8 @@ pub rendezvous :
     (start_of (codes "s") (send_to (codes "q") ∷ sleep 1 ∷ []) ∷ start_of (codes "r") (sleep 5 ∷ receive_from (codes "q") [] ∷ []) ∷ []) ∷ [])
     ∷ [])
     ≡ main_ran 0 6 None (nursery_passed (codes "n") 6 ∷ [])
-    ∷ record_of (label_named (codes "s")) 0 6 None (waited_for (codes "q") 5 ∷ [])
-    ∷ record_of (label_named (codes "r")) 0 5 None (waited_for (codes "q") 5 ∷ [])
+    ∷ record_of (label_named (codes "s")) 0 6 None (got Send (codes "q") 5 ∷ [])
+    ∷ record_of (label_named (codes "r")) 0 5 None (got Receive (codes "q") 5 ∷ [])
     ∷ []
 unfolding records_after
 rendezvous = refl

@@ -8,10 +8,11 @@ pub use Rattle.exceptions.specs.Labels.{same_label}
 use Rattle.cancel_scopes.specs.Sight.{Tick, earlier, next}
 
 -- what a task notes: a line that it borrowed, the scopes and nurseries that it left, with whether they caught, and the events
--- for which it waited until they were set, and the limiters and channels of which it was granted something
+-- for which it waited until they were set, and what it asked of limiters and channels and was granted
 pub data Entry : Type 0 where
   line : (at : Span) → Entry
   waited : (label : Label) → Entry
+  was_granted : (ask : Ask) → (label : Label) → Entry
   scope_left : (label : Label) → (caught : Bool) → Entry
   nursery_left : (label : Label) → (caught : Bool) → Entry
 

@@ -7,6 +7,7 @@ use Rattle.job_tree.specs.declared.object.ObjectKind.TheVariants as kinds
 use Rattle.input_lines.specs.Lines.{Range}
 use Rattle.exceptions.specs.Exceptions.{Label}
 use Rattle.cancel_scopes.specs.Sight.{Tick, is_reached}
+pub use Rattle.objects.specs.Whats.{What, a_token, was_sent, a_part, closed_resource, end_of_channel}
 use Rattle.objects.specs.Limiters as limiters
 use Rattle.objects.specs.Limiters.{Limiter, LimiterAct, LimiterServed, new_limiter}
 use Rattle.objects.specs.Channels as channels
@@ -55,14 +56,6 @@ pub record Asker : Type 0 where
   pub task : Label
   pub at : ℕ
   pub left : Tick
-
--- what is granted to a task that asked in a moment
-pub data What : Type 0 where
-  a_token : What
-  was_sent : What
-  a_part : (part : Range) → What
-  closed_resource : What
-  end_of_channel : What
 
 -- the moment of a grant, and what it is
 pub record Granted : Type 0 where

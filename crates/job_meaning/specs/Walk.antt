@@ -3,6 +3,7 @@ use Rattle.std.specs.Prelude.{ℕ, zero, suc, ◌+◌, ◌-◌, ◌/◌, Bool, t
 use Rattle.std.specs.Str.{bytes_eq}
 use Rattle.job_tree.specs.Tree.{Step, sleep, checkpoint, forever, pace, find, head, longest, need, raise, cancel, set_event, wait_for, ask_for, close_channel, scope, nursery, event, object, start, repeat, attempt, Steps, stop, step, Handled, unhandled, except, Cleaned, uncleaned, finally}
 use Rattle.job_tree.specs.declared.object.Ask.{Ask}
+use Rattle.job_tree.specs.declared.object.Ask.TheVariants.{Acquire, Send, Receive}
 use Rattle.job_tree.specs.declared.object.ObjectKind.{ObjectKind}
 use Rattle.input_lines.specs.Lines.{Range, Span}
 use Rattle.input_lines.specs.Cuts.{cut_of}
@@ -10,7 +11,7 @@ use Rattle.input_lines.specs.Kernels.{found_in, head_of, longest_in, needed_in, 
 use Rattle.exceptions.specs.Exceptions.{Label, by_nursery, by_handler, Exc, cancelled, raised, too_slow, group, no_parts, part, parts_of, group_of, holds_cancelled}
 use Rattle.exceptions.specs.Split.{Wanted, named, is_cancelled, keep, drop}
 use Rattle.cancel_scopes.specs.Sight.{Tick, Level, earlier, is_reached, sight, seen, catches}
-use Rattle.job_meaning.specs.Log.{Entry, line, waited, scope_left, nursery_left, Act, opens, asks, gives_back, closes, Log, nil, entry, sign, entered, act, task, followed_by, Member, Result, same_label, least_sign, from_by, Table}
+use Rattle.job_meaning.specs.Log.{Entry, line, waited, scope_left, nursery_left, Act, opens, asks, gives_back, closes, Log, nil, entry, sign, entered, act, task, followed_by, Member, Result, same_label, least_sign, from_by, Table, was_granted}
 use Rattle.job_meaning.specs.Sharing.{What, a_token, was_sent, a_part, closed_resource, end_of_channel, Granted, granted_if, Grants}
 use Rattle.job_meaning.specs.Moments.{tick_of, a_round_after, wakes_at, gives_up_at, due, far, Now, only_at}
 use Rattle.job_meaning.specs.declared.clock.Clock.{Clock}
@@ -318,15 +319,15 @@ left_result here from left =
     else raised_at (raised (codes "Deadlock") here.task (tick_of here.clock left)) (only_at left)
 
 -- what was granted is noted, and the block of the step follows
-abbrev pub goes_on : Label → ℕ → (Now → Result) → Result
-goes_on label m go = in_sequence (record { end = m; own = []; exc = None; members = []; log = entry m (waited label) nil }) (go (only_at m))
+abbrev pub goes_on : Entry → ℕ → (Now → Result) → Result
+goes_on noted m go = in_sequence (record { end = m; own = []; exc = None; members = []; log = entry m noted nil }) (go (only_at m))
 
 -- What a task does with what it is granted: with a token it runs the block of the step, and gives it back; with a part, that is its part
 -- there; a closed channel raises.
 abbrev pub granted_result : Label → Here → ℕ → What → (Here → Now → Result) → Result
-granted_result label here m a_token go = goes_on label m (λ now. with_token_back label (go here now))
-granted_result label here m was_sent go = goes_on label m (λ now. go here now)
-granted_result label here m (a_part lent) go = goes_on label m (λ now. go (record here { part = lent }) now)
+granted_result label here m a_token go = goes_on (was_granted Acquire label) m (λ now. with_token_back label (go here now))
+granted_result label here m was_sent go = goes_on (was_granted Send label) m (λ now. go here now)
+granted_result label here m (a_part lent) go = goes_on (was_granted Receive label) m (λ now. go (record here { part = lent }) now)
 granted_result label here m closed_resource go =
     raised_at (raised (codes "ClosedResource") here.task (tick_of here.clock m)) (only_at m)
 granted_result label here m end_of_channel go =

@@ -1,3 +1,5 @@
 pub mod Limiters
 pub mod Channels
+pub mod Whats
 pub mod Laws
+pub mod Held

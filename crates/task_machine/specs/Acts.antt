@@ -5,7 +5,7 @@ use Rattle.exceptions.specs.Exceptions.{Label, Exc}
 use Rattle.cancel_scopes.specs.Sight.{Tick, Level, before, earlier, next, sight}
 use Rattle.cancel_scopes.specs.Tree.{Stack, Tree, stack_of, outer_of, own_from, after_cancel, is_changed, OthersKeep, SameMarks, OtherMarksKeep, IsInnermost, IsOpen}
 use Rattle.job_meaning.specs.Log as log
-use Rattle.job_meaning.specs.Rest.{Event, noted, signs, enters, starts}
+use Rattle.job_meaning.specs.Rest.{Event, noted, signs, enters, acts, starts}
 use Rattle.task_machine.specs.declared.entry.ScopeFrom.{ScopeFrom}
 use Rattle.task_machine.specs.declared.task.Own.{Own}
 use Rattle.task_machine.specs.declared.task.Task.{Task}
@@ -130,6 +130,7 @@ pub record Leaves (old new : Scoping) : Type 0 where
 pub data Acts (tick : ℕ) : Scoping → List Event → Scoping → Type 0 where
   no_act : (s : Scoping) → Acts tick s [] s
   act_noted : (s u : Scoping) (t : ℕ) (e : log.Entry) (es : List Event) → Acts tick s es u → Acts tick s (noted t e ∷ es) u
+  act_shared : (s u : Scoping) (l : Label) (t : ℕ) (a : log.Act) (es : List Event) → Acts tick s es u → Acts tick s (acts l t a ∷ es) u
   act_starts : (s u : Scoping) (i : ℕ) (l : Label) (t : ℕ) (es : List Event) → Acts tick s es u → Acts tick s (starts i l t ∷ es) u
   act_signs : (s m u : Scoping) (l : Label) (es : List Event) → Signs tick l s m → Acts tick m es u → Acts tick s (signs l tick ∷ es) u
   act_sets : (s m u : Scoping) (l : Label) (es : List Event) → Sets tick l s m → Acts tick m es u → Acts tick s (signs l tick ∷ es) u

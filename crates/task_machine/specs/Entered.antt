@@ -1,5 +1,5 @@
 -- A task that enters a scope, a nursery or an event, and one that cancels a scope or sets an event.
-use Rattle.std.specs.Prelude.{◌≡◌, ℕ, Bool, true, false, Option, Some, None, List, [], ◌∷◌, ◌++◌}
+use Rattle.std.specs.Prelude.{◌≡◌, ℕ, Bool, true, false, Option, Some, None, List, [], ◌∷◌, ◌++◌, map}
 use Rattle.turn_semantics.specs.Lists.{IsAmong}
 use Rattle.job_tree.specs.Tree.{Steps}
 use Rattle.job_tree.specs.Blocks.{steps_of}
@@ -8,16 +8,17 @@ use Rattle.nursery_book.specs.Book.{nursery_at}
 use Rattle.nursery_book.specs.Book as book
 use Rattle.exceptions.specs.Exceptions.{Label}
 use Rattle.cancel_scopes.specs.Sight.{Tick}
-use Rattle.job_meaning.specs.Log.{Table}
+use Rattle.job_meaning.specs.Log.{Table, closes}
 use Rattle.job_meaning.specs.Walk.{with_own}
 use Rattle.turn_semantics.specs.Midway.{Place, label_among}
 use Rattle.turn_semantics.specs.Names.{names_at, OwnNames}
-use Rattle.turn_semantics.specs.Steps.{cancelled_from_after_entry, signs_to, cancelled_from_after}
+use Rattle.turn_semantics.specs.Steps.{cancelled_from_after_entry, signs_to, acts_on, cancelled_from_after}
 use Rattle.task_machine.specs.declared.frame.Frame.{Frame}
 use Rattle.task_machine.specs.declared.frame.Frame.TheVariants as frame
 use Rattle.task_machine.specs.declared.task.Task.{Task}
 use Rattle.task_machine.specs.Labels.{scope_named}
 use Rattle.task_machine.specs.Acts.{Signed, SetsKey}
+use Rattle.task_machine.specs.Serving.{acted_of, acts_to_serve}
 use Rattle.task_machine.specs.Stacked.{AreAt}
 use Rattle.task_machine.specs.States.{State, scope_at, stack_in}
 use Rattle.task_machine.specs.Tasks.{path_of}
@@ -69,6 +70,12 @@ CancelsAt before after name =
     × ((cancelled_from : Table) (ps : List Place) → OwnNames (names_at ps) → AreAt before.labels before.events cancelled_from (stack_in before) ps →
     AreAt after.labels after.events (cancelled_from_after cancelled_from (signs_to (label_among false name ps) before.tick)) (stack_in after) ps
     × (after.cancelled ≡ with_own before.clock (label_among false name ps) before.cancelled))
+
+-- The innermost channel of this name is closed, if there is one, which is noted to be served at the end of the round.
+abbrev pub ClosesAt : State → State → List ℕ → Type 0
+ClosesAt before after name =
+    (cancelled_from : Table) (ps : List Place) → AreAt before.labels before.events cancelled_from (stack_in before) ps →
+    map acted_of after.acts ≡ map acted_of before.acts ++ acts_to_serve (acts_on (label_among true name ps) before.tick closes)
 
 -- the event with this key is set, or none is
 abbrev pub SetAt : State → State → Option ℕ → Type 0

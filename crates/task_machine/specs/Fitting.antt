@@ -16,9 +16,9 @@ use Rattle.nursery_book.specs.declared.book.NurseryBook.{NurseryBook}
 use Rattle.job_meaning.specs.Rest as rest
 use Rattle.job_meaning.specs.declared.limits.TheConstants.{MAX_INPUT}
 use Rattle.task_machine.specs.declared.frame.Frame.{Frame}
-use Rattle.task_machine.specs.declared.frame.Frame.TheVariants.{Steps, Scope, Event, Nursery, Repeat, Try, Handler, Cleanup}
+use Rattle.task_machine.specs.declared.frame.Frame.TheVariants.{Steps, Scope, Event, Token, Received, Nursery, Repeat, Try, Handler, Cleanup}
 use Rattle.task_machine.specs.declared.stop.TaskState.{TaskState}
-use Rattle.task_machine.specs.declared.stop.TaskState.TheVariants.{ToBegin, Asked, Asleep, Waiting, GivingUp, Awaits, Over}
+use Rattle.task_machine.specs.declared.stop.TaskState.TheVariants.{ToBegin, Asked, Asleep, Waiting, Queued, GivingUp, Awaits, Over}
 use Rattle.task_machine.specs.declared.task.Home.{Home}
 use Rattle.task_machine.specs.declared.task.Own.{Own}
 use Rattle.task_machine.specs.Frames.{frames_of}
@@ -38,6 +38,8 @@ AreInRangeFrames [] = Unit {0}
 AreInRangeFrames (rest.steps_left ss ∷ fs) = AreInRange ss × AreInRangeFrames fs
 AreInRangeFrames (rest.in_scope fail ∷ fs) = AreInRangeFrames fs
 AreInRangeFrames (rest.in_event ∷ fs) = AreInRangeFrames fs
+AreInRangeFrames (rest.with_token limiter ∷ fs) = AreInRangeFrames fs
+AreInRangeFrames (rest.with_part received ∷ fs) = AreInRangeFrames fs
 AreInRangeFrames (rest.in_nursery children ∷ fs) = AreInRangeFrames fs
 AreInRangeFrames (rest.in_repeat pass left cuts body ∷ fs) =
     AreInRange body × (pass + left ≤ MAX_PASSES) × AreInRangeCuts (pass + left) cuts × AreInRangeFrames fs
@@ -50,12 +52,38 @@ abbrev pub HasCut : Frame → Type 0
 HasCut (Repeat pass left (Some k) body) = (pass < k) × (k ≤ MAX_COPIES)
 HasCut _ = Unit {0}
 
+-- the inputs of which these frames hold parts that were received, outermost first
+abbrev pub received_in : List Frame → List (List ℕ)
+received_in [] = []
+received_in (Steps steps ∷ fs) = received_in fs
+received_in (Scope fail ∷ fs) = received_in fs
+received_in (Event ∷ fs) = received_in fs
+received_in (Token limiter ∷ fs) = received_in fs
+received_in (Received received ∷ fs) = buffer_of received ∷ received_in fs
+received_in (Nursery id ∷ fs) = received_in fs
+received_in (Repeat pass left cuts body ∷ fs) = received_in fs
+received_in (Try handler cleanup ∷ fs) = received_in fs
+received_in (Handler others cleanup ∷ fs) = received_in fs
+received_in (Cleanup outcome ∷ fs) = received_in fs
+
+-- each of these inputs is this one
+abbrev pub AreOf : List ℕ → List (List ℕ) → Type 0
+AreOf input [] = Unit {0}
+AreOf input (other ∷ others) = (other ≡ input) × AreOf input others
+
+-- and with one more frame inside them
+abbrev pub received_inside : Frame → List (List ℕ) → List (List ℕ)
+received_inside (Received received) inputs = inputs ++ buffer_of received ∷ []
+received_inside _ inputs = inputs
+
 -- each `start` that is left is directly in a nursery, or in a `repeat` there
 abbrev pub StartsFit : List rest.Frame → Type 0
 StartsFit [] = Unit {0}
 StartsFit (rest.steps_left ss ∷ fs) = StartsIn (in_body fs) ss × StartsFit fs
 StartsFit (rest.in_scope fail ∷ fs) = StartsFit fs
 StartsFit (rest.in_event ∷ fs) = StartsFit fs
+StartsFit (rest.with_token limiter ∷ fs) = StartsFit fs
+StartsFit (rest.with_part received ∷ fs) = StartsFit fs
 StartsFit (rest.in_nursery children ∷ fs) = StartsFit fs
 StartsFit (rest.in_repeat pass left cuts body ∷ fs) = StartsIn (starts_in_pass (is_some cuts) (in_body fs)) body × StartsFit fs
 StartsFit (rest.in_try handler cleanup ∷ fs) = HandlerStarts handler × CleanupStarts cleanup × StartsFit fs
@@ -67,12 +95,13 @@ abbrev pub HasBody : tree.Step → Type 0
 HasBody (tree.scope name deadline shield fail body) = Unit {0}
 HasBody (tree.nursery name deadline shield body) = Unit {0}
 HasBody (tree.event name body) = Unit {0}
+HasBody (tree.object name kind body) = Unit {0}
 HasBody (tree.start name over body) = Unit {0}
 HasBody (tree.repeat count over body) = Unit {0}
 HasBody (tree.attempt body handler cleanup) = Unit {0}
 HasBody _ = ⊥
 
--- a block with a scope of its own: a scope or an event, or a nursery with its key
+-- a block with a scope of its own: a scope, or an event, limiter or channel, or a nursery with its key
 pub data Block : Type 0 where
   a_scope : Block
   a_nursery : (id : ℕ) → Block
@@ -83,6 +112,8 @@ blocks_of [] = []
 blocks_of (Steps steps ∷ fs) = blocks_of fs
 blocks_of (Scope fail ∷ fs) = a_scope ∷ blocks_of fs
 blocks_of (Event ∷ fs) = a_scope ∷ blocks_of fs
+blocks_of (Token limiter ∷ fs) = blocks_of fs
+blocks_of (Received received ∷ fs) = blocks_of fs
 blocks_of (Nursery id ∷ fs) = a_nursery id ∷ blocks_of fs
 blocks_of (Repeat pass left cuts body ∷ fs) = blocks_of fs
 blocks_of (Try handler cleanup ∷ fs) = blocks_of fs
@@ -108,6 +139,8 @@ abbrev pub block_in : Frame → List Block → List Block
 block_in (Steps steps) bs = bs
 block_in (Scope fail) bs = bs ++ a_scope ∷ []
 block_in Event bs = bs ++ a_scope ∷ []
+block_in (Token limiter) bs = bs
+block_in (Received received) bs = bs
 block_in (Nursery id) bs = bs ++ a_nursery id ∷ []
 block_in (Repeat pass left cuts body) bs = bs
 block_in (Try handler cleanup) bs = bs
@@ -164,6 +197,7 @@ waits_of (ToBegin at) = None
 waits_of (Asked kernel purpose) = None
 waits_of (Asleep paced ticks since) = None
 waits_of (Waiting event since) = None
+waits_of (Queued object ask since body) = None
 waits_of (GivingUp since) = None
 waits_of (Awaits id since) = Some id
 waits_of Over = None
@@ -180,12 +214,14 @@ abbrev pub SameKeys : Tree → Tree → Type 0
 SameKeys old new = (key : ℕ) → option_map keys_of (stack_of new key) ≡ option_map keys_of (stack_of old key)
 
 -- A task that has these frames, and opened these scopes inside its home's, can run what it has left, and its scopes and nurseries are
--- open in a world with these scopes, labels and nurseries. It entered the given number of scopes, and waits for a nursery, or not.
+-- open in a world with these scopes, labels and nurseries. What it received is of this input. It entered the given number of scopes, and
+-- waits for a nursery, or not.
 pub record CanRun
-    (frames : List Frame) (within : Option ℕ) (own : List Own) (entered : ℕ) (tree : Tree) (labels : Labels) (book : NurseryBook)
+    (input : List ℕ) (frames : List Frame) (within : Option ℕ) (own : List Own) (entered : ℕ) (tree : Tree) (labels : Labels) (book : NurseryBook)
     (waits : Option ℕ) : Type 0
   where
     pub in_range : AreInRangeFrames (frames_of (λ id. []) frames)
+    pub lent : AreOf input (received_in frames)
     pub starts : StartsFit (frames_of (λ id. []) frames)
     pub home : ForSome within (IsOpen tree)
     pub scope : ForSome (last_or within (map (λ (o : Own). o.id) own)) (IsOpen tree)
@@ -199,7 +235,7 @@ pub record FitsIn
     (frames : List Frame) (part : Part) (within : Option ℕ) (own : List Own) (entered : ℕ) (tree : Tree) (labels : Labels)
     (book : NurseryBook) (waits : Option ℕ) : Type 0
   where
-    pub runs : CanRun frames within own entered tree labels book waits
+    pub runs : CanRun (buffer_of part) frames within own entered tree labels book waits
     pub small : length (buffer_of part) ≤ MAX_INPUT
     pub others : OthersRun tree book (blocks_of frames) own waits
 

@@ -11,7 +11,7 @@ use Rattle.input_lines.specs.declared.part.Part.{Part}
 use Rattle.job_meaning.specs.Walk.{part_in_pass}
 use Rattle.job_meaning.specs.Rest as rest
 use Rattle.task_machine.specs.declared.frame.Frame.{Frame}
-use Rattle.task_machine.specs.declared.frame.Frame.TheVariants.{Steps, Scope, Event, Nursery, Repeat, Try, Handler, Cleanup}
+use Rattle.task_machine.specs.declared.frame.Frame.TheVariants.{Steps, Scope, Event, Token, Received, Nursery, Repeat, Try, Handler, Cleanup}
 
 -- the exception in an optional box
 abbrev pub unboxed_exc : Option (Box held.Exc) → Option held.Exc
@@ -23,6 +23,8 @@ abbrev pub frame_of : (ℕ → List ℕ) → Frame → rest.Frame
 frame_of children (Steps steps) = rest.steps_left (steps_of steps.now)
 frame_of children (Scope fail) = rest.in_scope fail
 frame_of children Event = rest.in_event
+frame_of children (Token limiter) = rest.with_token limiter.value
+frame_of children (Received lent) = rest.with_part (range_of lent)
 frame_of children (Nursery id) = rest.in_nursery (children id)
 frame_of children (Repeat pass left cuts body) = rest.in_repeat pass left cuts body.now
 frame_of children (Try handler cleanup) = rest.in_try (handled_of (option_copied handler)) (cleaned_of cleanup.now)
@@ -42,12 +44,15 @@ pub record Lent : Type 0 where
   pub input : List ℕ
   pub range : Range
 
--- the range of the part inside these frames, outermost first: each pass of a `repeat over` has its cut
+-- the range of the part inside these frames, outermost first: each pass of a `repeat over` has its cut, and the block of a `receive`
+-- what was received
 abbrev pub cuts_onto : List ℕ → List Frame → Range → Range
 cuts_onto input [] lent = lent
 cuts_onto input (Steps steps ∷ fs) lent = cuts_onto input fs lent
 cuts_onto input (Scope fail ∷ fs) lent = cuts_onto input fs lent
 cuts_onto input (Event ∷ fs) lent = cuts_onto input fs lent
+cuts_onto input (Token limiter ∷ fs) lent = cuts_onto input fs lent
+cuts_onto input (Received received ∷ fs) lent = cuts_onto input fs (range_of received)
 cuts_onto input (Nursery id ∷ fs) lent = cuts_onto input fs lent
 cuts_onto input (Repeat pass left cuts body ∷ fs) lent = cuts_onto input fs (part_in_pass input cuts pass lent)
 cuts_onto input (Try handler cleanup ∷ fs) lent = cuts_onto input fs lent
@@ -64,6 +69,8 @@ passes_onto [] path = path
 passes_onto (Steps steps ∷ fs) path = passes_onto fs path
 passes_onto (Scope fail ∷ fs) path = passes_onto fs path
 passes_onto (Event ∷ fs) path = passes_onto fs path
+passes_onto (Token limiter ∷ fs) path = passes_onto fs path
+passes_onto (Received received ∷ fs) path = passes_onto fs path
 passes_onto (Nursery id ∷ fs) path = passes_onto fs path
 passes_onto (Repeat pass left cuts body ∷ fs) path = passes_onto fs (path ++ pass ∷ [])
 passes_onto (Try handler cleanup ∷ fs) path = passes_onto fs path

@@ -4,6 +4,7 @@ pub mod Handling
 pub mod Tasks
 pub mod Worlds
 pub mod Events
+pub mod Serving
 pub mod States
 pub mod Waiters
 pub mod Lending

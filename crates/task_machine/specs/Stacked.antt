@@ -5,10 +5,10 @@ use Rattle.exceptions.specs.Exceptions.{Label}
 use Rattle.cancel_scopes.specs.Sight.{Tick, Level}
 use Rattle.cancel_scopes.specs.Tree as scopes
 use Rattle.job_meaning.specs.Log.{Table}
-use Rattle.job_meaning.specs.Rest.{Stopped, waiting_for}
+use Rattle.job_meaning.specs.Rest.{Stopped, waiting_for, queued}
 use Rattle.turn_semantics.specs.Midway.{Place, label_among}
 use Rattle.task_machine.specs.declared.stop.TaskState.{TaskState}
-use Rattle.task_machine.specs.declared.stop.TaskState.TheVariants.{Waiting}
+use Rattle.task_machine.specs.declared.stop.TaskState.TheVariants.{Waiting, Queued}
 use Rattle.task_machine.specs.Labels.{Labels, Events}
 
 -- A level is cancelled from the moment that the table has for the label of a place, which is no event; or it is an event, which is set
@@ -46,14 +46,17 @@ abbrev pub FoundAs : Labels → Option ℕ → Option Label → Type 0
 FoundAs labels None found = found ≡ None
 FoundAs labels (Some key) found = (labels key ≡ found) × ((label : Label) × (found ≡ Some label))
 
--- the event for which a task waits, if it waits for one, is one of the stack, and has the label that the name finds among the places
+-- the event for which a task waits, or the limiter or channel that it asked, if there is one, is one of the stack, and has the label
+-- that the name finds among the places
 abbrev pub IsEventNamed : Labels → scopes.Stack → TaskState → List ℕ → List Place → Type 0
 IsEventNamed labels st (Waiting key since) name ps = IsKey key st × (labels key ≡ label_among true name ps)
+IsEventNamed labels st (Queued key ask since body) name ps = IsKey key st × (labels key ≡ label_among true name ps)
 IsEventNamed labels st _ name ps = Unit {0}
 
--- the event for which a task stopped to wait, if it did, is one of the stack, and has the label that its name finds among the
--- places
+-- the event for which a task stopped to wait, or the limiter or channel that it asked, if it did, is one of the stack, and has the label
+-- that its name finds among the places
 abbrev pub AwaitsEvent : Labels → scopes.Stack → Option Stopped → TaskState → List Place → Type 0
 AwaitsEvent labels st None task_state ps = Unit {0}
 AwaitsEvent labels st (Some (waiting_for name u)) task_state ps = IsEventNamed labels st task_state name ps
+AwaitsEvent labels st (Some (queued name ask u body)) task_state ps = IsEventNamed labels st task_state name ps
 AwaitsEvent labels st (Some _) task_state ps = Unit {0}

@@ -1,5 +1,5 @@
 -- The state of a task between two moves, and what a move of the code does to it.
-use Rattle.std.specs.Prelude.{◌≡◌, ◌≤◌, ◌⊎◌, ℕ, List, [], ◌∷◌, ◌++◌, Option, Some, None, All, length, slice_get}
+use Rattle.std.specs.Prelude.{◌≡◌, ◌≤◌, ◌⊎◌, ℕ, List, [], ◌∷◌, ◌++◌, Option, Some, None, All, length, map, slice_get}
 use Rattle.std.specs.Borrow.{Bor}
 use Rattle.input_lines.specs.Part.{buffer_of, range_of}
 use Rattle.cancel_scopes.specs.Tree.{Tree, IsOpen}
@@ -26,18 +26,19 @@ use Rattle.turn_semantics.specs.Wakes.{wake_of, turn_from}
 use Rattle.task_machine.specs.declared.frame.Frame.{Frame}
 use Rattle.task_machine.specs.declared.frame.Frame.TheVariants as code
 use Rattle.task_machine.specs.declared.stop.TaskState.{TaskState}
-use Rattle.task_machine.specs.declared.stop.TaskState.TheVariants.{ToBegin, Asked, Asleep, Waiting, GivingUp, Awaits, Over}
+use Rattle.task_machine.specs.declared.stop.TaskState.TheVariants.{ToBegin, Asked, Asleep, Waiting, Queued, GivingUp, Awaits, Over}
 use Rattle.task_machine.specs.declared.stop.Moved.TheVariants.{On, Stops}
 use Rattle.task_machine.specs.declared.stop.Moved.{Moved}
 use Rattle.task_machine.specs.declared.stop.Stop.{Stop}
 use Rattle.task_machine.specs.declared.stop.Wake.{Wake}
-use Rattle.task_machine.specs.declared.stop.Wake.TheVariants.{Begin, Due, Seen, Answer, Settled}
+use Rattle.task_machine.specs.declared.stop.Wake.TheVariants.{Begin, Due, Seen, Answer, Granted, Settled}
 use Rattle.task_machine.specs.declared.task.Home.{Home}
 use Rattle.task_machine.specs.declared.task.Own.{Own}
 use Rattle.task_machine.specs.declared.task.Task.{Task}
 use Rattle.task_machine.specs.Acts.{Acts, scoping_in}
 use Rattle.task_machine.specs.Fitting.{Block, a_scope, a_nursery, blocks_of, waits_of, AreOthers}
 use Rattle.task_machine.specs.Frames.{frames_of}
+use Rattle.task_machine.specs.Serving.{acted_of, acts_to_serve}
 use Rattle.task_machine.specs.Stacked.{AreAt, AwaitsEvent}
 use Rattle.task_machine.specs.Stops.{Numbers, IsTaskState, MovesAs, OwnAfter}
 use Rattle.task_machine.specs.States.{State, here_at, lent_at, now_at, stack_in}
@@ -150,6 +151,7 @@ BodyEnds (ToBegin at) book = Unit {0}
 BodyEnds (Asked kernel purpose) book = Unit {0}
 BodyEnds (Asleep paced ticks since) book = Unit {0}
 BodyEnds (Waiting event since) book = Unit {0}
+BodyEnds (Queued object ask since body) book = Unit {0}
 BodyEnds (GivingUp since) book = Unit {0}
 BodyEnds (Awaits id since) book = HasNursery book id (λ n. n.last ≡ since)
 BodyEnds Over book = Unit {0}
@@ -211,6 +213,8 @@ pub record Took (before after : State) (moved : Moved) (cancelled_from : Table) 
   pub last : EndsLast moved after.task_state after.book
   pub nurseries : ChangesNurseries before after (waits_by moved after.task_state) numbers numbers_after tasks o.begun
   pub acts : Acts before.tick (scoping_in before) o.made (scoping_in after)
+  -- what it did to limiters and channels is noted in the world, to be served at the end of the round
+  pub served : map acted_of after.acts ≡ map acted_of before.acts ++ acts_to_serve o.made
   pub own : OwnAfter before.clock before.cancelled after.cancelled o.made o.stopped
 
 -- the move of the code is this move of the definitions for each table of moments of cancellation, each numbering, and any places
@@ -290,6 +294,7 @@ now_for (Answer answer) s = now_at s
 now_for Begin s = only_at s.tick
 now_for Due s = only_at s.tick
 now_for Seen s = only_at s.tick
+now_for (Granted grant) s = only_at s.tick
 now_for Settled s = only_at s.tick
 
 -- the state in which the wake begins: what the task cancelled itself before counts only if it has an answer

@@ -13,6 +13,7 @@ use Rattle.nursery_book.specs.declared.book.NurseryBook.{NurseryBook}
 use Rattle.task_machine.specs.declared.entry.Entry.{Entry}
 use Rattle.task_machine.specs.declared.entry.ScopeFrom.{ScopeFrom}
 use Rattle.task_machine.specs.declared.frame.Frame.{Frame}
+use Rattle.task_machine.specs.declared.serving.ObjectAct.{ObjectAct}
 use Rattle.task_machine.specs.declared.stop.TaskState.{TaskState}
 use Rattle.task_machine.specs.declared.task.Home.{Home}
 use Rattle.task_machine.specs.declared.task.Own.{Own}
@@ -24,8 +25,8 @@ use Rattle.task_machine.specs.Worlds.{label_at, event_at}
 
 -- Of the task: its label and part, where it was started, its unfinished blocks and the scopes that it opened (the innermost
 -- last), why it is blocked, what it noted, and what it has cancelled itself in this moment. Of the world: the clock, the moment, the open
--- scopes with their labels and which of them are events, the events that were set and not taken yet, the nurseries, and the started
--- tasks that were not taken yet.
+-- scopes with their labels and which of them are events, the events that were set and not taken yet, what was done to limiters and
+-- channels and not taken yet, the nurseries, and the started tasks that were not taken yet.
 pub record State : Type 0 where
   pub label : Label
   pub part : Part
@@ -42,6 +43,7 @@ pub record State : Type 0 where
   pub labels : Labels
   pub events : Events
   pub set : List ℕ
+  pub acts : List ObjectAct
   pub book : NurseryBook
   pub started : List Task
 
@@ -63,6 +65,7 @@ state_of task world =
       labels = label_at world;
       events = event_at world;
       set = world.set.items;
+      acts = world.acts.items;
       book = world.book;
       started = world.started.items;
     }

@@ -10,15 +10,15 @@ use Rattle.nursery_book.specs.Book.{HasNursery}
 use Rattle.job_meaning.specs.Moments.{wakes_at}
 use Rattle.job_meaning.specs.declared.clock.Clock.{Clock}
 use Rattle.job_meaning.specs.Asking as ask
-use Rattle.job_meaning.specs.Rest.{Stopped, to_begin, asking, asleep, waiting_for, giving_up, awaiting, at_end}
+use Rattle.job_meaning.specs.Rest.{Stopped, to_begin, asking, asleep, waiting_for, queued, giving_up, awaiting, at_end}
 use Rattle.exceptions.specs.Exceptions.{Label}
 use Rattle.job_meaning.specs.Rest.{Event}
 use Rattle.turn_semantics.specs.Midway.{Move, own_after}
 use Rattle.task_machine.specs.Frames.{Lent}
 use Rattle.task_machine.specs.declared.stop.Stop.{Stop}
-use Rattle.task_machine.specs.declared.stop.Stop.TheVariants.{Ask, Sleep, WaitFor, GiveUp, Wait, Ended}
+use Rattle.task_machine.specs.declared.stop.Stop.TheVariants.{Ask, Sleep, WaitFor, Queue, GiveUp, Wait, Ended}
 use Rattle.task_machine.specs.declared.stop.TaskState.{TaskState}
-use Rattle.task_machine.specs.declared.stop.TaskState.TheVariants.{ToBegin, Asked, Asleep, Waiting, GivingUp, Awaits, Over}
+use Rattle.task_machine.specs.declared.stop.TaskState.TheVariants.{ToBegin, Asked, Asleep, Waiting, Queued, GivingUp, Awaits, Over}
 use Rattle.task_machine.specs.declared.stop.Purpose.{Purpose}
 use Rattle.task_machine.specs.declared.stop.Purpose.TheVariants.{Shows, Needs, Paces}
 use Rattle.task_machine.specs.declared.stop.Moved.{Moved}
@@ -47,6 +47,7 @@ IsTaskState numbers book (ToBegin at) to_begin = Unit {0}
 IsTaskState numbers book (Asked kernel purpose) (asking k p) = (kernel_in kernel ≡ k) × (purpose_in purpose ≡ p)
 IsTaskState numbers book (Asleep paced ticks since) (asleep p n u) = (paced ≡ p) × (ticks ≡ n) × (since ≡ u)
 IsTaskState numbers book (Waiting event since) (waiting_for name u) = since ≡ u
+IsTaskState numbers book (Queued object ask since body) (queued name a u steps) = (ask ≡ a) × (since ≡ u) × (body.now ≡ steps)
 IsTaskState numbers book (GivingUp since) (giving_up u) = since ≡ u
 IsTaskState numbers book (Awaits nursery since) (awaiting children u exc) =
     (numbers nursery ≡ children) × (since ≡ u) × HasNursery book nursery (λ n. n.body ≡ Some exc)
@@ -59,6 +60,8 @@ IsReturned clock lent (Ask request) (Asked kernel purpose) stopped =
     (request.kernel ≡ kernel) × (buffer_of request.part ≡ lent.input) × (range_of request.part ≡ lent.range)
 IsReturned clock lent (Sleep due) (Asleep paced ticks since) stopped = due ≡ wakes_at clock ticks since
 IsReturned clock lent (WaitFor event) (Waiting key since) stopped = event ≡ key
+IsReturned clock lent (Queue request) (Queued key ask since body) stopped =
+    (request.object ≡ key) × (request.ask ≡ ask) × (buffer_of request.part ≡ lent.input) × (range_of request.part ≡ lent.range)
 IsReturned clock lent (GiveUp due) (GivingUp since) stopped = due ≡ suc since
 IsReturned clock lent (Wait id) (Awaits nursery since) stopped = id ≡ nursery
 IsReturned clock lent (Ended exc) Over (at_end u e) = option_map exc_of exc ≡ e

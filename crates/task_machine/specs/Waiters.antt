@@ -41,6 +41,7 @@ pub record KeepsRest (me : ℕ) (before after : Task) (old new : World) : Type 0
         labels = new.labels;
         events = new.events;
         set = new.set;
+        acts = new.acts;
         book = new.book;
         started = new.started;
       }

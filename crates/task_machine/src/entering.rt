@@ -1,4 +1,4 @@
-ghost use Rattle.std.specs.Prelude.{◌≡◌, ◌<◌, ◌≤◌, ◌^◌, true, false, None, Some, IfOk, OnOk};
+ghost use Rattle.std.specs.Prelude.{◌≡◌, ◌<◌, ◌≤◌, ◌^◌, ◌++◌, [], ◌∷◌, true, false, None, Some, IfOk, OnOk};
 ghost use Rattle.std.specs.Option.{ForSome};
 ghost use Rattle.cancel_scopes.specs.Tree.{IsOpen};
 ghost use Rattle.task_machine.specs.Tasks.{scope_of};
@@ -6,17 +6,19 @@ ghost use Rattle.task_machine.specs.Acts.{Enters, scoping_of};
 ghost use Rattle.task_machine.specs.Entered.{EntersAt, EntersBlock, EntersNursery, a_scope_at, an_event_at, label_in};
 ghost use Rattle.task_machine.specs.States.{state_of};
 ghost use Rattle.task_machine.specs.declared.frame.Frame.TheVariants.{Event, Scope};
+ghost use Rattle.task_machine.specs.declared.serving.Act.TheVariants.{Opens};
 ghost use Rattle.job_tree.specs.InRange.{IsInRangeDeadline};
 ghost use Rattle.job_meaning.specs.Clocks.{due};
 
 use crate::entry::ScopeFrom;
 use crate::frame::Frame;
+use crate::serving::Act;
 use crate::task::{Own, Task};
 use crate::world::World;
 use cancel_scopes::{ScopeId, stacks_are_chains};
 use clock::TaskId;
 use exceptions::Label;
-use job_tree::{Body, Deadline, Name};
+use job_tree::{Body, Deadline, Name, ObjectKind};
 use std::alloc::AllocError;
 
 impl<'a> Task<'a> {
@@ -111,6 +113,32 @@ impl<'a> Task<'a> {
         self.push(Frame::Event)?;
         self.push(Frame::Steps(body.as_slice()))?;
         Ok(())
+    }
+
+    // Opens and enters a limiter or channel, and begins its body. After an error the task and the world can only be dropped.
+    pub(crate) fn enter_object(
+        &mut self,
+        name: Name,
+        kind: ObjectKind,
+        body: &'a Body,
+        world: &mut World<'a>,
+    ) -> Result<(), AllocError>
+        requires scope { ForSome (scope_of self.old) (IsOpen world.old.scopes) }
+        ensures stays { OnOk result (self.new
+            ≡ record self.old { frames = self.new.frames; own = self.new.own; cancelled_from = self.new.cancelled_from }) }
+        ensures frames { OnOk result (EntersBlock self.old.frames.items self.new.frames.items Event body.now) }
+        ensures own { OnOk result (Enters (scope_of self.old) (label_in self.old name) true None
+            (scoping_of self.old world.old) (scoping_of self.new world.new)) }
+        ensures opened { OnOk result (world.new.acts.items
+            ≡ world.old.acts.items ++ record { object = label_in self.old name; act = Opens kind } ∷ []) }
+        ensures world { OnOk result (world.new ≡ record world.old
+            { scopes = world.new.scopes; labels = world.new.labels; events = world.new.events; acts = world.new.acts }) }
+        ensures at { OnOk result (EntersAt (state_of self.old world.old) (state_of self.new world.new)
+            (an_event_at (label_in self.old name)) None) }
+    {
+        let label = self.label_here(name)?;
+        world.note_act(label, Act::Opens(kind))?;
+        self.enter_event(name, body, world)
     }
 
     // Enters a nursery, which is added to the book, and begins its body. After an error the task and the world can

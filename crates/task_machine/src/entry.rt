@@ -1,6 +1,7 @@
 //! What tasks leave: what a task noted, and from which moment a scope was cancelled.
 use exceptions::Label;
 use input_lines::Line;
+use job_tree::Ask;
 
 /// What a task noted for the report. Entries are in the order in which it noted them.
 #[derive(Drop)]
@@ -28,6 +29,15 @@ pub enum Entry<'a> {
     /// An event for which the task waited until it was set.
     Wait {
         /// The event's label, boxed as a scope's is.
+        label: Box<Label>,
+        /// The tick in which the task went on.
+        tick: u64,
+    },
+    /// What the task asked of a limiter or channel, and was granted.
+    Granted {
+        /// What it asked for.
+        ask: Ask,
+        /// The label of the limiter or channel, boxed as a scope's is.
         label: Box<Label>,
         /// The tick in which the task went on.
         tick: u64,

@@ -1,4 +1,5 @@
-use exceptions::Exc;
+use exceptions::{Exc, Label};
+use input_lines::Part;
 use job_tree::{Body, Handler, Step};
 use nursery_book::NurseryId;
 
@@ -12,8 +13,18 @@ pub(crate) enum Frame<'a> {
         /// Whether it raises `TooSlow` if it caught a cancellation and nothing else is left.
         fail: bool,
     },
-    /// An event.
+    /// An event, a limiter or a channel.
     Event,
+    /// The block of an `acquire`, which has a token.
+    Token {
+        /// The label of the limiter, boxed so that other frames take no space for one.
+        limiter: Box<Label>,
+    },
+    /// The block of a `receive`.
+    Received {
+        /// The part that was received.
+        part: Part<'a>,
+    },
     /// The body of a nursery.
     Nursery {
         /// The nursery.

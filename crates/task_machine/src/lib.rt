@@ -1,8 +1,9 @@
 //! Tasks and what they share, and a task's turn.
 //!
 //! A `Task` holds its unfinished blocks, the cancel scopes and events that it opened, innermost last, and what it noted. A
-//! `World` holds the clock, the moment, the cancel scopes with their labels, the events, the nurseries, and the started tasks
-//! that were not taken yet. A task that is woken (`Wake`) has a turn: it runs until it blocks or ends (`Stop`).
+//! `World` holds the clock, the moment, the cancel scopes with their labels, the events, the nurseries, and what was not taken yet:
+//! the started tasks, the events that were set, and what was done to limiters and channels. A task that is woken (`Wake`) has a
+//! turn: it runs until it blocks or ends (`Stop`).
 //!
 //! The layer promises that a label belongs to the scope or event that was entered with it until that is left, that a name finds
 //! the innermost scope, or event, of that name, that a call of the world changes only the parts that it names, and that a turn
@@ -16,6 +17,7 @@ mod cancelling;
 mod entering;
 mod entry;
 mod events;
+mod exception_names;
 mod exiting;
 mod frame;
 mod labels;
@@ -24,6 +26,8 @@ mod leaving;
 mod pausing;
 mod repeating;
 mod running;
+mod serving;
+mod sharing;
 mod starting;
 mod stop;
 mod task;
@@ -36,6 +40,7 @@ mod world;
 pub use boxing::{box_exc, unbox_exc};
 pub use entry::{Entry, ScopeFrom};
 pub use laws::law_places;
-pub use stop::{Stop, Wake};
+pub use serving::{Act, ObjectAct};
+pub use stop::{ObjectRequest, Stop, Wake};
 pub use task::Task;
 pub use world::World;

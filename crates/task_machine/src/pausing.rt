@@ -8,7 +8,8 @@ ghost use Rattle.job_meaning.specs.Rest.{Frame as Left, asking};
 ghost use Rattle.turn_semantics.specs.Midway.{Place};
 ghost use Rattle.turn_semantics.specs.Steps.{sleeps, onward, blocks_on};
 ghost use Rattle.task_machine.specs.Standing.{waits_by};
-ghost use Rattle.task_machine.specs.Fitting.{HasCut};
+ghost use Rattle.input_lines.specs.Part.{buffer_of};
+ghost use Rattle.task_machine.specs.Fitting.{HasCut, AreOf, received_in};
 ghost use Rattle.task_machine.specs.Tasks.{scope_of, lent_of};
 ghost use Rattle.task_machine.specs.Waking.{IsInRangeTaskState, IsInRangePurpose};
 ghost use Rattle.task_machine.specs.Worlds.{label_at, event_at};
@@ -92,6 +93,7 @@ impl<'a> Task<'a> {
     // Asks a kernel for an answer on the part that the task has here.
     pub(crate) fn ask(&mut self, kernel: Kernel<'a>, purpose: Purpose) -> Moved<'a>
         requires cuts { All HasCut self.old.frames.items }
+        requires lent { AreOf (buffer_of self.old.part) (received_in self.old.frames.items) }
         ensures stays { self.new ≡ record self.old { task_state = self.new.task_state } }
         ensures task_state { IsInRangePurpose purpose → IsInRangeTaskState self.new.task_state }
         ensures waits { waits_by result self.new.task_state ≡ None }

@@ -7,7 +7,7 @@ ghost use Rattle.job_meaning.specs.Walk.{cuts_over};
 ghost use Rattle.turn_semantics.specs.Steps.{onward, begins_passes, step_pass};
 ghost use Rattle.task_machine.specs.Entered.{label_in};
 ghost use Rattle.input_lines.specs.Part.{buffer_of, range_of};
-ghost use Rattle.task_machine.specs.Fitting.{HasCut, blocks_of};
+ghost use Rattle.task_machine.specs.Fitting.{HasCut, AreOf, blocks_of, received_in};
 ghost use Rattle.task_machine.specs.Tasks.{lent_of};
 ghost use Rattle.task_machine.specs.Frames.{cuts_onto, frames_of, passes_onto};
 ghost use Rattle.task_machine.specs.Stops.{Numbers};
@@ -29,6 +29,7 @@ impl<'a> Task<'a> {
     ) -> Result<(), AllocError>
         ensures stays { OnOk result (self.new ≡ record self.old { frames = self.new.frames }) }
         ensures blocks { OnOk result (blocks_of self.new.frames.items ≡ blocks_of self.old.frames.items) }
+        ensures received { OnOk result (received_in self.new.frames.items ≡ received_in self.old.frames.items) }
         ensures step { OnOk result ((numbers : Numbers) (ps : List Place) →
             begins_passes count over body.now (frames_of numbers self.old.frames.items) ps
             ≡ onward (frames_of numbers self.new.frames.items) ps None) }
@@ -59,6 +60,7 @@ impl<'a> Task<'a> {
         requires { pass + left ≤ MAX_PASSES }
         ensures stays { OnOk result (self.new ≡ record self.old { frames = self.new.frames }) }
         ensures blocks { OnOk result (blocks_of self.new.frames.items ≡ blocks_of self.old.frames.items) }
+        ensures received { OnOk result (received_in self.new.frames.items ≡ received_in self.old.frames.items) }
         ensures step { IfOk result (λ after. (numbers : Numbers) (ps : List Place) →
             step_pass pass left cuts body.now (frames_of numbers self.old.frames.items) ps (option_map exc_of exc)
             ≡ onward (frames_of numbers self.new.frames.items) ps (option_map exc_of after)) }
@@ -88,9 +90,11 @@ impl<'a> Task<'a> {
         label_inside(label, self.frames.as_slice())
     }
 
-    // The part of the input at this point of the task: its own, or the cut of the pass of each `repeat over` that it is in.
+    // The part of the input at this point of the task: its own, the cut of the pass of each `repeat over` that it is in, or what was
+    // received.
     pub(crate) fn part_here(&self) -> Part<'a>
-        requires { All HasCut self.now.frames.items }
+        requires cuts { All HasCut self.now.frames.items }
+        requires lent { AreOf (buffer_of self.now.part) (received_in self.now.frames.items) }
         ensures buffer { buffer_of result ≡ (lent_of self.now).input }
         ensures range { range_of result ≡ (lent_of self.now).range }
     {
@@ -106,8 +110,9 @@ fn cuts_over(over: bool, count: u64) -> Option<u64>
 }
 
 // The part inside frames, outermost first.
-fn part_inside<'a>(part: Part<'a>, frames: &[Frame]) -> Part<'a>
-    requires { All HasCut frames.now }
+fn part_inside<'a>(part: Part<'a>, frames: &[Frame<'a>]) -> Part<'a>
+    requires cuts { All HasCut frames.now }
+    requires lent { AreOf (buffer_of part.entry) (received_in frames.now) }
     ensures buffer { buffer_of result ≡ buffer_of part.entry }
     ensures range { range_of result ≡ cuts_onto (buffer_of part.entry) frames.now (range_of part.entry) }
 {
@@ -118,9 +123,10 @@ fn part_inside<'a>(part: Part<'a>, frames: &[Frame]) -> Part<'a>
     inner
 }
 
-// The cut for the pass, if the frame is that of a `repeat over`.
-fn part_in_frame<'a>(part: Part<'a>, frame: &Frame) -> Part<'a>
-    requires { HasCut frame.now }
+// The cut for the pass, if the frame is that of a `repeat over`, or what was received.
+fn part_in_frame<'a>(part: Part<'a>, frame: &Frame<'a>) -> Part<'a>
+    requires cut { HasCut frame.now }
+    requires lent { AreOf (buffer_of part.entry) (received_in (frame.now ∷ [])) }
     ensures buffer { buffer_of result ≡ buffer_of part.entry }
     ensures range { range_of result ≡ cuts_onto (buffer_of part.entry) (frame.now ∷ []) (range_of part.entry) }
 {
@@ -130,6 +136,7 @@ fn part_in_frame<'a>(part: Part<'a>, frame: &Frame) -> Part<'a>
             cuts: Some(cuts),
             ..
         } => part.cut(*cuts as usize, *pass as usize),
+        Frame::Received { part } => *part,
         _ => part,
     }
 }

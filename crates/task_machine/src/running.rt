@@ -66,6 +66,11 @@ impl<'a> Task<'a> {
                 Ok(Moved::On(None))
             }
             Step::Wait(name) => Ok(self.wait_for(*name, world)),
+            Step::Ask { name, ask, body } => Ok(self.ask_of(*name, *ask, body, world)),
+            Step::Close(name) => {
+                self.close(*name, world)?;
+                Ok(Moved::On(None))
+            }
             _ => {
                 let moved = self.run_block(me, step, world)?;
                 Ok(moved)
@@ -116,6 +121,10 @@ impl<'a> Task<'a> {
             }
             Step::Event { name, body } => {
                 self.enter_event(*name, body, world)?;
+                Ok(Moved::On(None))
+            }
+            Step::Object { name, kind, body } => {
+                self.enter_object(*name, *kind, body, world)?;
                 Ok(Moved::On(None))
             }
             Step::Start { name, over, body } => {

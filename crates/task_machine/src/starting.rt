@@ -6,7 +6,7 @@ ghost use Rattle.nursery_book.specs.Book.{HasNursery};
 ghost use Rattle.task_machine.specs.declared.stop.TaskState.TheVariants.{ToBegin};
 ghost use Rattle.job_tree.specs.InRange.{IsInRangeOver};
 ghost use Rattle.turn_semantics.specs.Placed.{in_body};
-ghost use Rattle.task_machine.specs.Fitting.{Fits, HasCut, InBody};
+ghost use Rattle.task_machine.specs.Fitting.{Fits, HasCut, AreOf, InBody, received_in};
 ghost use Rattle.task_machine.specs.Frames.{frames_of};
 ghost use Rattle.task_machine.specs.Stops.{Numbers};
 ghost use Rattle.task_machine.specs.Started.{StartsOne, StartsOver, StartsChildren};
@@ -98,6 +98,7 @@ impl<'a> Task<'a> {
         world: &mut World<'a>,
     ) -> Result<(), AllocError>
         requires cuts { All HasCut self.now.frames.items }
+        requires lent { AreOf (buffer_of self.now.part) (received_in self.now.frames.items) }
         requires some { 1 ≤ copies }
         requires few { copies ≤ 64 }
         requires nursery { HasNursery world.old.book nursery (λ n. n.body ≡ None) }

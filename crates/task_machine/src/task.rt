@@ -3,7 +3,7 @@ ghost use Rattle.input_lines.specs.Lines.{bytes_of};
 ghost use Rattle.input_lines.specs.Part.{buffer_of, range_of};
 ghost use Rattle.job_meaning.specs.declared.limits.TheConstants.{MAX_INPUT};
 ghost use Rattle.job_meaning.specs.Rest.{steps_left};
-ghost use Rattle.task_machine.specs.Fitting.{blocks_of, block_in};
+ghost use Rattle.task_machine.specs.Fitting.{blocks_of, block_in, received_in, received_inside};
 ghost use Rattle.task_machine.specs.Frames.{frame_of, frames_of};
 ghost use Rattle.task_machine.specs.Tasks.{scope_of, home_of, home_scope};
 ghost use Rattle.task_machine.specs.declared.stop.TaskState.TheVariants.{ToBegin};
@@ -170,6 +170,7 @@ impl<'a> Task<'a> {
         ensures frames { OnOk result ((children : ℕ → List ℕ) → frames_of children self.new.frames.items
             ≡ frame_of children frame.entry ∷ frames_of children self.old.frames.items) }
         ensures blocks { OnOk result (blocks_of self.new.frames.items ≡ block_in frame.entry (blocks_of self.old.frames.items)) }
+        ensures received { OnOk result (received_in self.new.frames.items ≡ received_inside frame.entry (received_in self.old.frames.items)) }
     {
         self.frames.push(frame)?;
         Ok(())

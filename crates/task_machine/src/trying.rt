@@ -9,7 +9,7 @@ ghost use Rattle.turn_semantics.specs.Midway.{Place};
 ghost use Rattle.turn_semantics.specs.Steps.{onward, step_try};
 ghost use Rattle.exceptions.specs.Split.{keep, drop, named};
 ghost use Rattle.task_machine.specs.Handling.{rest_of, rest_if};
-ghost use Rattle.task_machine.specs.Fitting.{blocks_of};
+ghost use Rattle.task_machine.specs.Fitting.{blocks_of, received_in};
 ghost use Rattle.task_machine.specs.Frames.{frames_of, unboxed_exc};
 ghost use Rattle.task_machine.specs.Stops.{Numbers};
 
@@ -31,6 +31,7 @@ impl<'a> Task<'a> {
     ) -> Result<(), AllocError>
         ensures stays { OnOk result (self.new ≡ record self.old { frames = self.new.frames }) }
         ensures blocks { OnOk result (blocks_of self.new.frames.items ≡ blocks_of self.old.frames.items) }
+        ensures received { OnOk result (received_in self.new.frames.items ≡ received_in self.old.frames.items) }
         ensures frames { OnOk result ((numbers : Numbers) → frames_of numbers self.new.frames.items
             ≡ steps_left body.now ∷ in_try (handled_of handler.now) (cleaned_of cleanup.now) ∷ frames_of numbers self.old.frames.items) }
     {
@@ -51,6 +52,7 @@ impl<'a> Task<'a> {
     ) -> Result<Option<Exc>, AllocError>
         ensures stays { OnOk result (self.new ≡ record self.old { frames = self.new.frames }) }
         ensures blocks { OnOk result (blocks_of self.new.frames.items ≡ blocks_of self.old.frames.items) }
+        ensures received { OnOk result (received_in self.new.frames.items ≡ received_in self.old.frames.items) }
         ensures step { IfOk result (λ after. (numbers : Numbers) (ps : List Place) →
             step_try (handled_of (option_copied handler.entry)) (cleaned_of cleanup.now) (frames_of numbers self.old.frames.items) ps
             (option_map exc_of exc)
@@ -82,6 +84,7 @@ impl<'a> Task<'a> {
     ) -> Result<Option<Exc>, AllocError>
         ensures stays { OnOk result (self.new ≡ record self.old { frames = self.new.frames }) }
         ensures blocks { OnOk result (blocks_of self.new.frames.items ≡ blocks_of self.old.frames.items) }
+        ensures received { OnOk result (received_in self.new.frames.items ≡ received_in self.old.frames.items) }
         ensures frames { OnOk result ((numbers : Numbers) → frames_of numbers self.new.frames.items
             ≡ in_try unhandled (cleaned_of cleanup.now) ∷ frames_of numbers self.old.frames.items) }
         ensures exc { IfOk result (λ after. option_map exc_of after ≡ raised_in_handler (option_map exc_of exc) (option_map exc_of (unboxed_exc rest))) }
@@ -94,6 +97,7 @@ impl<'a> Task<'a> {
     fn without_handler(&mut self, cleanup: &'a Option<Body>) -> Result<(), AllocError>
         ensures stays { OnOk result (self.new ≡ record self.old { frames = self.new.frames }) }
         ensures blocks { OnOk result (blocks_of self.new.frames.items ≡ blocks_of self.old.frames.items) }
+        ensures received { OnOk result (received_in self.new.frames.items ≡ received_in self.old.frames.items) }
         ensures frames { OnOk result ((numbers : Numbers) → frames_of numbers self.new.frames.items
             ≡ in_try unhandled (cleaned_of cleanup.now) ∷ frames_of numbers self.old.frames.items) }
     {
@@ -111,6 +115,7 @@ impl<'a> Task<'a> {
     ) -> Result<Option<Exc>, AllocError>
         ensures stays { OnOk result (self.new ≡ record self.old { frames = self.new.frames }) }
         ensures blocks { OnOk result (blocks_of self.new.frames.items ≡ blocks_of self.old.frames.items) }
+        ensures received { OnOk result (received_in self.new.frames.items ≡ received_in self.old.frames.items) }
         ensures step { IfOk result (λ after. (numbers : Numbers) (ps : List Place) →
             step_try unhandled (cleaned_of cleanup.now) (frames_of numbers self.old.frames.items) ps (option_map exc_of exc)
             ≡ onward (frames_of numbers self.new.frames.items) ps (option_map exc_of after)) }

@@ -14,6 +14,7 @@ ghost use Rattle.task_machine.specs.Tasks.{lent_of};
 
 use crate::boxing::unbox_exc;
 use crate::frame::Frame;
+use crate::sharing::give_back;
 use crate::stop::{Moved, Stop, Wake};
 use crate::task::Task;
 use crate::world::World;
@@ -30,10 +31,11 @@ impl<'a> Task<'a> {
     /// (`take_started`).
     ///
     /// The caller must ensure that the wake fits the last stop: `Begin` for the first turn, `Due` or `Seen` after `Sleep` and
-    /// `WaitFor`, `Due` after `GiveUp`, the answer to the request after `Ask`, and `Settled` after `Wait` once that nursery is
-    /// settled (`Due` may stand for `Begin` and `Settled`); that there is no turn after `Ended`; that the scopes and nurseries of
-    /// the task are open in the world; and that the moment is at most 2 to the 62. The only error is that memory runs out, after
-    /// which the task and the world can only be dropped.
+    /// `WaitFor`, these or `Granted` after `Queue`, with a part of the task's input if one is received, `Due` after `GiveUp`, the
+    /// answer to the request after `Ask`, and `Settled` after `Wait` once that nursery is settled (`Due` may stand for `Begin` and
+    /// `Settled`); that there is no turn after `Ended`; that the scopes and nurseries of the task are open in the world; and that
+    /// the moment is at most 2 to the 62. The only error is that memory runs out, after which the task and the world can only be
+    /// dropped.
     pub fn turn(
         &mut self,
         me: TaskId,
@@ -68,6 +70,7 @@ impl<'a> Task<'a> {
             Wake::Due => self.cancelled.clear(),
             Wake::Seen => self.cancelled.clear(),
             Wake::Answer(_) => {}
+            Wake::Granted(_) => self.cancelled.clear(),
             Wake::Settled => self.cancelled.clear(),
         }
     }
@@ -130,6 +133,11 @@ impl<'a> Task<'a> {
                 self.leave(world);
                 Ok(Moved::On(exc))
             }
+            Frame::Token { limiter } => {
+                let exc = give_back(limiter, exc, world)?;
+                Ok(Moved::On(exc))
+            }
+            Frame::Received { .. } => Ok(Moved::On(exc)),
             Frame::Nursery { id } => Ok(self.end_body(id, exc, world)),
             Frame::Repeat {
                 pass,

@@ -17,6 +17,7 @@ ghost use Rattle.task_machine.specs.Waiters.{SameWaiters};
 ghost use Rattle.task_machine.specs.Waking.{WakesFrom, wake_in, answer_in, settled_exc, IsInRangeTaskState, IsInRangePurpose};
 
 use crate::entry::Entry;
+use crate::exception_names::deadlock;
 use crate::stop::{Moved, Purpose, Stop, TaskState, Wake};
 use crate::task::Task;
 use crate::world::World;
@@ -38,7 +39,8 @@ impl<'a> Task<'a> {
         requires task_state { IsInRangeTaskState self.old.task_state }
         requires wake { WakesFrom self.old.task_state (lent_of self.old) world.old.book wake }
         ensures stays { OnOk result (self.new
-            ≡ record self.old { own = self.new.own; task_state = self.new.task_state; entries = self.new.entries; cancelled_from = self.new.cancelled_from }) }
+            ≡ record self.old { frames = self.new.frames; own = self.new.own; task_state = self.new.task_state; entries = self.new.entries;
+                cancelled_from = self.new.cancelled_from }) }
         ensures world { OnOk result (world.new
             ≡ record world.old { scopes = world.new.scopes; labels = world.new.labels; events = world.new.events; book = world.new.book }) }
         ensures task_state { OnOk result (IsInRangeTaskState self.new.task_state) }
@@ -56,6 +58,10 @@ impl<'a> Task<'a> {
             Wake::Seen => Ok(self.see(world)),
             Wake::Answer(answer) => {
                 let moved = self.take_answer(answer, world)?;
+                Ok(moved)
+            }
+            Wake::Granted(grant) => {
+                let moved = self.take_grant(grant, world)?;
                 Ok(moved)
             }
             Wake::Settled => {
@@ -85,6 +91,10 @@ impl<'a> Task<'a> {
                 let event = *event;
                 self.note_wait(event, world)?;
                 Ok(Moved::On(None))
+            }
+            TaskState::Queued { .. } => {
+                let moved = self.raise(deadlock(), world)?;
+                Ok(moved)
             }
             TaskState::GivingUp { .. } => Ok(Moved::On(Some(Exc::Cancelled))),
             TaskState::Awaits { .. } => {

@@ -1,4 +1,4 @@
-ghost use Rattle.std.specs.Prelude.{◌≡◌, ℕ, ◌+◌, ◌<◌, ◌≤◌, ◌^◌, ◌||◌, ◌&&◌, true, false, [], ◌∷◌, Some, None, IsSome, IfOk, OnOk};
+ghost use Rattle.std.specs.Prelude.{◌≡◌, ℕ, ◌+◌, ◌<◌, ◌≤◌, ◌^◌, ◌||◌, ◌&&◌, ◌++◌, true, false, [], ◌∷◌, Some, None, IsSome, IfOk, OnOk};
 ghost use Rattle.std.specs.Option.{ForSome, option_map};
 ghost use Rattle.std.specs.Borrow.{sem};
 ghost use Rattle.cancel_scopes.specs.Sight.{before, is_reached, seen, sight};
@@ -10,6 +10,7 @@ ghost use Rattle.task_machine.specs.Labels.{Updates};
 
 use crate::events::{EventState, event_of, lower_event, put_event, take_event};
 use crate::labels::{put_label, take_label};
+use crate::serving::{Act, ObjectAct};
 use crate::task::Task;
 use cancel_scopes::{ScopeId, ScopeTree, stacks_are_chains};
 use exceptions::Label;
@@ -19,11 +20,11 @@ use nursery_book::NurseryBook;
 use std::alloc::{AllocError, Global};
 use std::collections::VecDeque;
 
-/// What all tasks of a run share: the clock, the moment, the cancel scopes, each with its label, the events, the nurseries, and
-/// the started tasks that were not taken yet.
+/// What all tasks of a run share: the clock, the moment, the cancel scopes, each with its label, the events, what was done to
+/// limiters and channels and not taken yet, the nurseries, and the started tasks that were not taken yet.
 ///
 /// An event is an open scope of the tree too, which is never cancelled and is no shield: so names are found, and blocks are left,
-/// as those of scopes are.
+/// as those of scopes are. A limiter or channel stands among the events, and is never set.
 ///
 /// Moments are at most 4,611,686,018,427,387,904 (2 to the 62).
 #[derive(Drop)]
@@ -38,6 +39,8 @@ pub struct World<'a> {
     pub(crate) events: Vec<Option<EventState>>,
     // The events that were set and not taken yet.
     pub(crate) set: VecDeque<ScopeId>,
+    // What was done to limiters and channels and not taken yet.
+    pub(crate) acts: VecDeque<ObjectAct>,
     pub(crate) book: NurseryBook,
     pub(crate) started: VecDeque<Task<'a>>,
 }
@@ -57,6 +60,7 @@ impl<'a> World<'a> {
         ensures labels { (key : ℕ) → label_at result key ≡ None }
         ensures events { (key : ℕ) → event_at result key ≡ None }
         ensures set { result.set.items ≡ [] }
+        ensures acts { result.acts.items ≡ [] }
         ensures book { (key : ℕ) → nursery_at result.book key ≡ None }
         ensures unchanged { (key : ℕ) → is_changed result.scopes key ≡ false }
         ensures started { result.started.items ≡ [] }
@@ -68,6 +72,7 @@ impl<'a> World<'a> {
             labels: Vec::new(alloc),
             events: Vec::new(alloc),
             set: VecDeque::new(alloc),
+            acts: VecDeque::new(alloc),
             book: NurseryBook::new(alloc),
             started: VecDeque::new(alloc),
         }
@@ -149,6 +154,31 @@ impl<'a> World<'a> {
         ensures rest { self.new ≡ record self.old { set = self.new.set } }
     {
         self.set.pop_front()
+    }
+
+    /// Takes the first of what was done to limiters and channels and not taken yet, in the order in which it was done. Returns `None`
+    /// exactly if there is nothing.
+    pub fn take_act(&mut self) -> Option<ObjectAct>
+        ensures act { TakesFirst self.old.acts.items result self.new.acts.items }
+        ensures rest { self.new ≡ record self.old { acts = self.new.acts } }
+    {
+        self.acts.pop_front()
+    }
+
+    /// Returns the label of an open scope, event, limiter or channel, or `None` for what is not open.
+    pub fn label_of(&self, id: ScopeId) -> Option<&Label>
+        ensures { option_map (λ label. label.now) result ≡ label_at self.now id }
+    {
+        self.labels.get(id.key())?.as_ref()
+    }
+
+    // Notes what is done to the limiter or channel of that label, to be served at the end of the round.
+    pub(crate) fn note_act(&mut self, object: Label, act: Act) -> Result<(), AllocError>
+        ensures noted { OnOk result (self.new.acts.items ≡ self.old.acts.items ++ record { object = object; act = act } ∷ []) }
+        ensures rest { OnOk result (self.new ≡ record self.old { acts = self.new.acts }) }
+    {
+        self.acts.push_back(ObjectAct { object, act })?;
+        Ok(())
     }
 
     /// Returns the moment from which an open event is set, or `None` while nothing has set it, and for a scope that is no event.
@@ -362,11 +392,16 @@ impl<'a> World<'a> {
         }
     }
 
-    // The label of the scope with this key, if it has one.
-    pub(crate) fn label_of(&self, id: ScopeId) -> Option<&Label>
-        ensures { option_map (λ label. label.now) result ≡ label_at self.now id }
+    // Whether a task in that scope, or in none, that has itself cancelled some labels in this moment, sees a cancellation now.
+    pub(crate) fn sees_own(&self, scope: Option<ScopeId>, cancelled: &VecDeque<Label>) -> bool
+        requires { ForSome scope (IsOpen self.now.scopes) }
+        ensures { result
+            ≡ seen (seen_levels (label_at self.now) (event_at self.now) cancelled.now.items self.now.tick (outer_of self.now.scopes scope)) self.now.tick }
     {
-        self.labels.get(id.key())?.as_ref()
+        if cancelled.front().is_none() {
+            return self.sees(scope);
+        }
+        self.sees_with(scope, cancelled)
     }
 
     // Whether the scope catches a cancellation that leaves it now, for a task that has itself cancelled some labels in this

@@ -4,11 +4,12 @@ use Rattle.std.proofs.Common.{◌≡◌, ℕ, suc, ◌+◌, Bool, true, false, i
 use Rattle.std.specs.Prelude.{codes}
 use Rattle.job_tree.specs.Tree.{close_channel, ask_for, object, Steps, step}
 use Rattle.job_tree.specs.declared.object.Ask.{Ask}
+use Rattle.job_tree.specs.declared.object.Ask.TheVariants.{Acquire, Send, Receive}
 use Rattle.job_tree.specs.declared.object.ObjectKind.{ObjectKind}
 use Rattle.input_lines.specs.Lines.{Range}
 use Rattle.exceptions.specs.Exceptions.{Label, Exc, cancelled, raised}
 use Rattle.cancel_scopes.specs.Sight.{sight, seen}
-use Rattle.job_meaning.specs.Log.{Act, asks, gives_back, closes, nil, entry, act, waited, Result, Table}
+use Rattle.job_meaning.specs.Log.{Entry, was_granted, Act, asks, gives_back, closes, nil, entry, act, Result, Table}
 use Rattle.job_meaning.specs.Sharing.{What, a_token, was_sent, a_part, closed_resource, end_of_channel, Granted}
 use Rattle.job_meaning.specs.Moments.{tick_of, gives_up_at, Now, only_at}
 use Rattle.job_meaning.specs.declared.clock.Clock.{Clock}
@@ -148,13 +149,13 @@ module _ (table : Tables) (outcomes : ChildOutcomes) (now : Now) (here : Here) w
       ∙ ap (λ (v : Now). after (act l since a nil) (left_with_result fs ps (raised_at e v))) (nothing_own own)
 
   -- the block of a step comes after an act and a note
-  acted_on : (l : Label) (since : ℕ) (a : Act) (gs fs : List Frame) (ps : List Place) (go : Now → Result) → now.own ≡ [] →
+  acted_on : (e : Entry) (l : Label) (since : ℕ) (a : Act) (gs fs : List Frame) (ps : List Place) (go : Now → Result) → now.own ≡ [] →
       ((v : Now) → left_with_result gs ps (done_at v) ≡ left_with_result fs ps (go v)) →
-      left_with_result fs ps (with_act l since a (goes_on l now.at go))
-      ≡ after (act l since a (entry now.at (waited l) nil)) (left_with_result gs ps (done_at now))
-  acted_on l since a gs fs ps go own same =
-      finish_after fs (act l since a (entry now.at (waited l) nil)) (by_tables table) outcomes here (stack_at table.cancelled_from ps) (go (only_at now.at))
-      ∙ ap (λ (r : Result). after (act l since a (entry now.at (waited l) nil)) r)
+      left_with_result fs ps (with_act l since a (goes_on e now.at go))
+      ≡ after (act l since a (entry now.at e nil)) (left_with_result gs ps (done_at now))
+  acted_on e l since a gs fs ps go own same =
+      finish_after fs (act l since a (entry now.at e nil)) (by_tables table) outcomes here (stack_at table.cancelled_from ps) (go (only_at now.at))
+      ∙ ap (λ (r : Result). after (act l since a (entry now.at e nil)) r)
       (sym (same (only_at now.at)) ∙ ap (λ (v : Now). left_with_result gs ps (done_at v)) (nothing_own own))
 
   -- a block, in the frames in which it runs
@@ -183,11 +184,11 @@ module _ (table : Tables) (outcomes : ChildOutcomes) (now : Now) (here : Here) w
       (λ inner later. walk (by_tables table) body inner (stack_at table.cancelled_from ps) later))))
       (granted_move l (inside fs here) ask since now.at body what fs ps)
   granted_keeps a_token l ask since body fs ps own =
-      acted_on l since (asks ask (inside fs here).part None) (steps_left body ∷ with_token l ∷ fs) fs ps _ own (token_block l body fs ps)
+      acted_on (was_granted Acquire l) l since (asks ask (inside fs here).part None) (steps_left body ∷ with_token l ∷ fs) fs ps _ own (token_block l body fs ps)
   granted_keeps was_sent l ask since body fs ps own =
-      acted_on l since (asks ask (inside fs here).part None) (steps_left body ∷ fs) fs ps _ own (sent_block body fs ps)
+      acted_on (was_granted Send l) l since (asks ask (inside fs here).part None) (steps_left body ∷ fs) fs ps _ own (sent_block body fs ps)
   granted_keeps (a_part received) l ask since body fs ps own =
-      acted_on l since (asks ask (inside fs here).part None) (steps_left body ∷ with_part received ∷ fs) fs ps _ own (part_block received body fs ps)
+      acted_on (was_granted Receive l) l since (asks ask (inside fs here).part None) (steps_left body ∷ with_part received ∷ fs) fs ps _ own (part_block received body fs ps)
   granted_keeps closed_resource l ask since body fs ps own = acted_raised l since (asks ask (inside fs here).part None) _ fs ps own
   granted_keeps end_of_channel l ask since body fs ps own = acted_raised l since (asks ask (inside fs here).part None) _ fs ps own
 

@@ -5,10 +5,11 @@ use Rattle.job_tree.specs.Tree.{Steps}
 use Rattle.job_tree.specs.Names.{size_of}
 use Rattle.job_tree.specs.Starting.{StartsIn}
 use Rattle.job_tree.specs.declared.object.Ask.{Ask}
+use Rattle.job_tree.specs.declared.object.Ask.TheVariants.{Acquire, Send, Receive}
 use Rattle.input_lines.specs.Lines.{Span}
 use Rattle.exceptions.specs.Exceptions.{Label, Exc, cancelled, raised, by_nursery, parts_of, group_of}
 use Rattle.cancel_scopes.specs.Sight.{Level, seen}
-use Rattle.job_meaning.specs.Log.{Log, nil, entry, followed_by, line, waited, Result, Table}
+use Rattle.job_meaning.specs.Log.{Entry, Log, nil, entry, followed_by, line, waited, was_granted, Result, Table}
 use Rattle.job_meaning.specs.Sharing.{What, a_token, was_sent, a_part, closed_resource, end_of_channel}
 use Rattle.job_meaning.specs.Moments.{a_round_after, wakes_at, tick_of, Now, only_at}
 use Rattle.job_meaning.specs.declared.clock.Clock.{Clock}
@@ -323,10 +324,10 @@ leaving_case clock t cancelled_from (Some l) at ask since e w fs ps count p le =
     }
 
 -- one that goes on in the block of its step
-going_case : (clock : Clock) (t : ℕ) (cancelled_from : Table) (l : Label) (at : Here) (ask : Ask) (since w : ℕ) (home : List Place) (fs : List Frame)
+going_case : (clock : Clock) (t : ℕ) (cancelled_from : Table) (e : Entry) (l : Label) (at : Here) (ask : Ask) (since w : ℕ) (home : List Place) (fs : List Frame)
     (ps : List Place) (count : ℕ) → Placed fs ps → home_places fs ps ≡ home → frames_weight fs ≤ w →
-    Case clock t cancelled_from w home ps count (goes_on_granted l at ask since t fs ps)
-going_case clock t cancelled_from l at ask since w home fs ps count p h le =
+    Case clock t cancelled_from w home ps count (goes_on_granted e l at ask since t fs ps)
+going_case clock t cancelled_from e l at ask since w home fs ps count p h le =
     record {
       placed = p;
       at_home = h;
@@ -363,11 +364,11 @@ granted_case : (clock : Clock) (t : ℕ) (cancelled_from : Table) (what : What) 
 granted_case clock t cancelled_from what None at ask since body w fs ps count s p le =
     onward_case clock t cancelled_from w _ fs ps _ count p refl (omega arith)
 granted_case clock t cancelled_from a_token (Some l) at ask since body w fs ps count s p le =
-    going_case clock t cancelled_from l at ask since w _ (steps_left body ∷ with_token l ∷ fs) ps count (s, p) refl (omega arith)
+    going_case clock t cancelled_from (was_granted Acquire l) l at ask since w _ (steps_left body ∷ with_token l ∷ fs) ps count (s, p) refl (omega arith)
 granted_case clock t cancelled_from was_sent (Some l) at ask since body w fs ps count s p le =
-    going_case clock t cancelled_from l at ask since w _ (steps_left body ∷ fs) ps count (starts_anywhere body (in_body fs) s, p) refl (omega arith)
+    going_case clock t cancelled_from (was_granted Send l) l at ask since w _ (steps_left body ∷ fs) ps count (starts_anywhere body (in_body fs) s, p) refl (omega arith)
 granted_case clock t cancelled_from (a_part received) (Some l) at ask since body w fs ps count s p le =
-    going_case clock t cancelled_from l at ask since w _ (steps_left body ∷ with_part received ∷ fs) ps count (s, p) refl (omega arith)
+    going_case clock t cancelled_from (was_granted Receive l) l at ask since w _ (steps_left body ∷ with_part received ∷ fs) ps count (s, p) refl (omega arith)
 granted_case clock t cancelled_from closed_resource (Some l) at ask since body w fs ps count s p le =
     raising_case clock t cancelled_from l at ask since _ w fs ps count p (omega arith)
 granted_case clock t cancelled_from end_of_channel (Some l) at ask since body w fs ps count s p le =

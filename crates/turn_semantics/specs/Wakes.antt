@@ -1,11 +1,12 @@
 -- How a task that stopped continues: what wakes it, what it does first, and when it wakes so according to a table.
 use Rattle.std.specs.Prelude.{◌≡◌, ◌⊎◌, ℕ, zero, suc, ◌+◌, ◌<◌, ◌≤◌, Bool, true, false, Option, Some, None, List, [], ◌∷◌, length, nat_le, codes}
 use Rattle.job_tree.specs.declared.object.Ask.{Ask}
+use Rattle.job_tree.specs.declared.object.Ask.TheVariants.{Acquire, Send, Receive}
 use Rattle.job_tree.specs.Tree.{Steps}
 use Rattle.input_lines.specs.Lines.{Span}
 use Rattle.exceptions.specs.Exceptions.{Label, Exc, cancelled, raised, by_nursery, parts_of, group_of}
 use Rattle.cancel_scopes.specs.Sight.{Tick, Level, sight, seen}
-use Rattle.job_meaning.specs.Log.{asks, Member, Table, line, waited}
+use Rattle.job_meaning.specs.Log.{asks, Member, Table, line, waited, Entry, was_granted}
 use Rattle.job_meaning.specs.Sharing.{What, a_token, was_sent, a_part, closed_resource, end_of_channel, Granted}
 use Rattle.job_meaning.specs.Moments.{a_round_after, wakes_at, tick_of, Now}
 use Rattle.job_meaning.specs.declared.clock.Clock.{Clock}
@@ -84,8 +85,8 @@ leaves_the_queue (Some l) here ask since t e fs ps =
     record { frames = fs; places = ps; exc = Some e; made = acts l since (asks ask here.part (Some t)) ∷ []; begun = []; stopped = None }
 
 -- a task goes on with a token or a part, or since its part was sent: the block of its step comes first
-abbrev pub goes_on_granted : Label → Here → Ask → (since t : ℕ) → List Frame → List Place → Move
-goes_on_granted l here ask since t fs ps = makes (acts l since (asks ask here.part None) ∷ noted t (waited l) ∷ []) fs ps
+abbrev pub goes_on_granted : Entry → Label → Here → Ask → (since t : ℕ) → List Frame → List Place → Move
+goes_on_granted e l here ask since t fs ps = makes (acts l since (asks ask here.part None) ∷ noted t e ∷ []) fs ps
 
 abbrev pub raises_granted : Label → Here → Ask → (since t : ℕ) → List ℕ → List Frame → List Place → Move
 raises_granted l here ask since t name fs ps =
@@ -100,9 +101,9 @@ raises_granted l here ask since t name fs ps =
 
 -- what a task does first with what it was granted
 abbrev pub granted_move : Label → Here → Ask → (since t : ℕ) → Steps → What → List Frame → List Place → Move
-granted_move l here ask since t body a_token fs ps = goes_on_granted l here ask since t (steps_left body ∷ with_token l ∷ fs) ps
-granted_move l here ask since t body was_sent fs ps = goes_on_granted l here ask since t (steps_left body ∷ fs) ps
-granted_move l here ask since t body (a_part received) fs ps = goes_on_granted l here ask since t (steps_left body ∷ with_part received ∷ fs) ps
+granted_move l here ask since t body a_token fs ps = goes_on_granted (was_granted Acquire l) l here ask since t (steps_left body ∷ with_token l ∷ fs) ps
+granted_move l here ask since t body was_sent fs ps = goes_on_granted (was_granted Send l) l here ask since t (steps_left body ∷ fs) ps
+granted_move l here ask since t body (a_part received) fs ps = goes_on_granted (was_granted Receive l) l here ask since t (steps_left body ∷ with_part received ∷ fs) ps
 granted_move l here ask since t body closed_resource fs ps = raises_granted l here ask since t (codes "ClosedResource") fs ps
 granted_move l here ask since t body end_of_channel fs ps = raises_granted l here ask since t (codes "EndOfChannel") fs ps
 

@@ -4,7 +4,7 @@ use Rattle.job_tree.specs.Tree.{Step, sleep, checkpoint, find, raise, cancel, se
 use Rattle.job_tree.specs.declared.object.Ask.TheVariants.{Acquire, Receive}
 use Rattle.job_tree.specs.declared.object.ObjectKind.TheVariants.{Limiter}
 use Rattle.exceptions.specs.Exceptions.{cancelled}
-use Rattle.job_meaning.specs.Log.{Result, opens, asks, gives_back, nil, entry, sign, entered, Table, line, waited, scope_left, nursery_left}
+use Rattle.job_meaning.specs.Log.{Result, opens, asks, gives_back, nil, entry, sign, entered, Table, line, waited, scope_left, nursery_left, was_granted}
 use Rattle.job_meaning.specs.Sharing.{a_token, a_part, no_grants}
 use Rattle.job_meaning.specs.Moments.{only_at}
 use Rattle.job_meaning.specs.declared.clock.Clock.TheVariants.{ByTicks as by_ticks, ByRounds as by_rounds}
@@ -209,7 +209,7 @@ pub token_comes_back :
       exc = None;
       made =
           acts (label_named (codes "l")) 0 (asks Acquire (record { from = 0; to = 0 }) None)
-          ∷ noted 2 (waited (label_named (codes "l")))
+          ∷ noted 2 (was_granted Acquire (label_named (codes "l")))
           ∷ acts (label_named (codes "l")) 2 gives_back
           ∷ [];
       begun = [];
@@ -241,7 +241,7 @@ pub received_part_is_asked :
       places = event_place (codes "c") ∷ [];
       exc = None;
       made =
-          acts (label_named (codes "c")) 0 (asks Receive (record { from = 0; to = 2 }) None) ∷ noted 2 (waited (label_named (codes "c"))) ∷ [];
+          acts (label_named (codes "c")) 0 (asks Receive (record { from = 0; to = 2 }) None) ∷ noted 2 (was_granted Receive (label_named (codes "c"))) ∷ [];
       begun = [];
       stopped = Some (asking (ask.find (codes "b")) shows);
     }
