@@ -42,6 +42,12 @@ def without_bodies(lines):
     """The lines of a file, where each function that others can call has a stub for a body, and the others are gone."""
     out, at, of_trait = [], 0, False
     while at < len(lines):
+        if re.match(r"^(pub )?trait ", lines[at]):
+            # a trait has no bodies
+            end = lines.index("}", at) + 1
+            out += lines[at:end]
+            at = end
+            continue
         found = FUNCTION.match(lines[at])
         if not found:
             if lines[at].startswith("impl"):

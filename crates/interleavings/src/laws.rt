@@ -5,6 +5,7 @@ ghost use Rattle.interleavings.specs.Laws.{
   GrantsAreKnown,
   LastToLeave,
   LimitsAreExact,
+  OrdersExist,
   RoundsAreFew,
   RoundsStayInTicks,
   RunsAreTheMeaning,
@@ -36,6 +37,8 @@ pub fn law_runs()
 /// What limiters and channels grant up to a moment before which nothing happens that was not done yet is what they grant by what the
 /// tasks of the run did to them before it, in the order of records (`specs/Acts.antt`): what each task has made known, and what it
 /// asked, if it is still in a queue. So a program that serves in each round what was done in it grants what any settled tables say.
+/// The tasks of a run have such an order.
 pub fn law_grants()
-    ensures { GrantsAreKnown }
+    ensures grants { GrantsAreKnown }
+    ensures order { OrdersExist }
 {}

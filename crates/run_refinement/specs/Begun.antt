@@ -3,6 +3,7 @@ use Rattle.std.specs.Prelude.{◌≡◌, ℕ, suc, List, [], ◌∷◌, Some, No
 use Rattle.input_lines.specs.Part.{buffer_of, range_of}
 use Rattle.cancel_scopes.specs.Tree.{stack_of}
 use Rattle.job_tree.specs.Tree.{Tree as Job}
+use Rattle.exceptions.specs.Exceptions.{Label}
 use Rattle.job_meaning.specs.Moments.{clock_of}
 use Rattle.job_meaning.specs.Meaning.{root_label}
 use Rattle.job_meaning.specs.Rest.{steps_left}
@@ -22,6 +23,7 @@ pub record IsNewWorld (job : Job) (world : World) : Type 0 where
   pub labels : (key : ℕ) → label_at world key ≡ None
   pub events : (key : ℕ) → event_at world key ≡ None
   pub set : world.set.items ≡ []
+  pub acts : world.acts.items ≡ []
   pub book : (key : ℕ) → nursery_at world.book key ≡ None
   pub started : world.started.items ≡ []
 
@@ -49,3 +51,8 @@ pub record IsNewRunState (job : Job) (input : List ℕ) (state : RunState) : Typ
   pub start : state.start 0 ≡ 0
   pub children : state.children 0 ≡ []
   pub turns : state.turns ≡ 0
+  pub path : state.path 0 ≡ 0 ∷ []
+  pub through : state.through ≡ 0
+  pub object : (l : Label) → state.object l ≡ None
+  pub round : state.round ≡ []
+  pub granted : (p : ℕ) → state.granted p ≡ None

@@ -10,6 +10,7 @@ use Rattle.task_machine.specs.declared.task.Home.{Home}
 use Rattle.task_machine.specs.declared.task.Task.{Task}
 use Rattle.interleavings.specs.Interleaving.{Started}
 use Rattle.run_refinement.specs.RunState.{RunState}
+use Rattle.run_refinement.specs.Moved.{SameObjects}
 
 -- the child's index in its nursery has its end, in this moment; the root has no nursery
 abbrev pub EndIsRecorded : ℕ → NurseryBook → NurseryBook → Option Home → Option Exc → Type 0
@@ -36,3 +37,5 @@ pub record Leaving (t s : ℕ) (old new : RunState) (q : Started) (task : Task) 
   pub others : (p : ℕ) → p ≢ s → (new.task p ≡ old.task p) × (new.ended_task p ≡ old.ended_task p)
   pub start : (p : ℕ) → new.start p ≡ old.start p
   pub children : (p : ℕ) → new.children p ≡ old.children p
+  pub path : (p : ℕ) → new.path p ≡ old.path p
+  pub objects : SameObjects old new

@@ -1,3 +1,4 @@
+pub mod Sharing
 pub mod RunState
 pub mod Turn
 pub mod Leaving

@@ -1,5 +1,7 @@
 -- The tasks of the program as the code holds them, and their relation to a run of the definitions.
-use Rattle.std.specs.Prelude.{◌≡◌, ◌≢◌, ◌⊎◌, true, ℕ, suc, ◌<◌, ◌≤◌, Option, Some, None, List, [], ◌∷◌, All, map, length, slice_get}
+use Rattle.std.specs.Prelude.{◌≡◌, ◌≢◌, ◌⊎◌, true, ℕ, suc, ◌<◌, ◌≤◌, Option, Some, None, List, [], ◌∷◌, ◌++◌, All, map, length, slice_get}
+use Rattle.std.specs.Option.{option_map}
+use Rattle.input_lines.specs.Part.{buffer_of}
 use Rattle.turn_semantics.specs.Lists.{IsAmong}
 use Rattle.exceptions.specs.Exceptions.{Label, Exc}
 use Rattle.cancel_scopes.specs.Sight.{Tick}
@@ -32,9 +34,16 @@ use Rattle.task_machine.specs.Stops.{Numbers, IsTaskState}
 use Rattle.task_machine.specs.Tasks.{home_of, home_scope}
 use Rattle.task_machine.specs.Waking.{IsInRangeTaskState}
 use Rattle.task_machine.specs.Worlds.{label_at, event_at}
+use Rattle.turn_semantics.specs.Midway.{Tables, label_among}
+use Rattle.job_meaning.specs.Sharing.{by_moment, unopened, granted_before}
+use Rattle.objects.specs.Held.{object_in}
+use Rattle.objects.specs.declared.object.Object.{Object}
+use Rattle.objects.specs.Whats.{What}
 use Rattle.interleavings.specs.Interleaving.{Started, live}
+use Rattle.interleavings.specs.Acts.{acts_of, acts_of_all, InOrder, granted_so_far}
 use Rattle.interleavings.specs.Rows.{entered_made, children_made}
 use Rattle.interleavings.specs.Runs.{Reached, turns_taken}
+use Rattle.run_refinement.specs.Sharing.{RoundAct, done_by, done_before, done_from, object_after, waits_in, SameObject}
 
 -- ---- a run of the definitions, and its tasks by their serial numbers
 
@@ -45,7 +54,7 @@ AreApart (q ∷ qs) = ((x : Started) → IsAmong x qs → x.serial ≢ q.serial)
 
 -- A run reaches these moments of cancellation and this moment with m tasks, whose serial numbers are those below m. The task at a
 -- number that no task has has done nothing.
-pub record Interleaving (k : Table) (job : Job) (input : List ℕ) (t m : ℕ) : Type 0 where
+pub record Interleaving (k : Tables) (job : Job) (input : List ℕ) (t m : ℕ) : Type 0 where
   pub cancelled_from : Table
   pub tasks : List Started
   pub reached : Reached k job input cancelled_from t m tasks
@@ -65,8 +74,9 @@ pub record EndedTask : Type 0 where
   pub entries : List Entry
   pub cancelled_from : List ScopeFrom
 
--- the world of a run, how many turns its tasks had, and by its serial number each task that has not ended, and what is kept of
--- each that has, with the tick in which each was started, and the serial numbers of its children in order
+-- The world of a run, how many turns its tasks had, and by its serial number each task that has not ended, and what is kept of
+-- each that has, with the tick in which each was started, the serial numbers of its children in order, and those from the root to it. Of
+-- limiters and channels: the moment up to which they have served what was done to them; each of them by its label; what was done to them since, in the order of turns; and what was granted to each task that goes on in that moment.
 pub record RunState : Type 0 where
   pub world : World
   pub turns : ℕ
@@ -74,6 +84,11 @@ pub record RunState : Type 0 where
   pub ended_task : ℕ → Option EndedTask
   pub start : ℕ → ℕ
   pub children : ℕ → List ℕ
+  pub path : ℕ → List ℕ
+  pub through : ℕ
+  pub object : Label → Option Object
+  pub round : List RoundAct
+  pub granted : ℕ → Option What
 
 -- ---- one task
 
@@ -109,7 +124,7 @@ pub record Tracks (known : Label → Type 0) (f : Table) (s : Scoping) (entered 
 -- except for the scopes of other tasks (`Fits`).
 abbrev pub CanGoOn : Task → World → Type 0
 CanGoOn task world =
-    CanRun task.frames.items (home_scope task) task.own.items (length task.cancelled_from.items) world.scopes (label_at world) world.book
+    CanRun (buffer_of task.part) task.frames.items (home_scope task) task.own.items (length task.cancelled_from.items) world.scopes (label_at world) world.book
     (waits_of task.task_state)
 
 -- The home of a task that was started by another, which has not ended: one of the other's nurseries, in which this task runs at
@@ -210,6 +225,7 @@ AreStarted clock start at child [] = Unit {0}
 AreStarted clock start at child (rest.noted t e ∷ es) = AreStarted clock start at child es
 AreStarted clock start at child (rest.signs l t ∷ es) = AreStarted clock start at child es
 AreStarted clock start at child (rest.enters l t d ∷ es) = AreStarted clock start at child es
+AreStarted clock start at child (rest.acts l t a ∷ es) = AreStarted clock start at child es
 AreStarted clock start at child (rest.starts i l t ∷ es) =
     ((at (child i)).here.task ≡ l) × (start (child i) ≡ tick_of clock t) × AreStarted clock start at child es
 
@@ -222,9 +238,28 @@ pub record OpenedBy (state : RunState) (key s : ℕ) : Type 0 where
   pub own : slice_get task.own.items index ≡ Some scope
   pub is : scope.id ≡ key
 
+-- What is granted to a task in a moment, by what these tasks did, in the order of records: nothing, if it is in no queue, or has asked in
+-- this moment.
+abbrev pub GrantedAt : RunState → List Started → ℕ → Started → rest.Stopped → Type 0
+GrantedAt state taken s q (rest.queued object ask since body) =
+    (since < state.through → (l : Label) → label_among true object q.places ≡ Some l →
+    granted_before (suc state.through) (granted_so_far taken l q.here.task since)
+    ≡ option_map (λ (w : What). record { at = state.through; what = w }) (state.granted s))
+    × (state.through ≤ since → state.granted s ≡ None)
+GrantedAt state taken s q _ = state.granted s ≡ None
+
+-- Limiters and channels of the code, without those who wait no more, are those of the definitions after what was done to them before a moment, in the order of records; what
+-- was done since is kept for each task; and what they grant in that moment is known.
+pub record Shares (state : RunState) (tasks : List Started) (at : ℕ → Started) (m : ℕ) : Type 0 where
+  pub round : (s : ℕ) → s < m → (l : Label) →
+      done_from state.through (acts_of l (at s)) ≡ done_by s l state.world.tick (at s).here.task state.round
+  pub served : (taken : List Started) → InOrder tasks (0 ∷ []) taken → (l : Label) →
+      SameObject at state.through (option_map (object_in (waits_in state.task)) (state.object l)) (object_after unopened (by_moment (done_before state.through (acts_of_all l taken))))
+  pub granted : (taken : List Started) → InOrder tasks (0 ∷ []) taken → (s : ℕ) → s < m → GrantedAt state taken s (at s) (at s).rest.stopped
+
 -- The tasks of the program are a run of the definitions in this moment with m tasks, where a table is followed. One task may have
 -- ended whose end is not recorded yet.
-pub record Refines (k : Table) (job : Job) (input : List ℕ) (t m : ℕ) (leaving : Option ℕ) (state : RunState) : Type 0 where
+pub record Refines (k : Tables) (job : Job) (input : List ℕ) (t m : ℕ) (leaving : Option ℕ) (state : RunState) : Type 0 where
   pub interleaving : Interleaving k job input t m
   pub numbers : ℕ → Numbers
   pub counted : turns_taken interleaving.reached ≡ state.turns
@@ -249,3 +284,8 @@ pub record Refines (k : Table) (job : Job) (input : List ℕ) (t m : ℕ) (leavi
   pub started : (s : ℕ) → s < m → AreStarted state.world.clock state.start interleaving.at (interleaving.at s).child
       (interleaving.at s).made
   pub children : (s : ℕ) → s < m → state.children s ≡ children_made (interleaving.at s).child (interleaving.at s).made
+  -- limiters and channels have served what was done before this moment, or in it too
+  pub through : (state.through ≡ t) ⊎ (state.through ≡ suc t)
+  pub path_of_root : state.path 0 ≡ 0 ∷ []
+  pub path_of_child : (s c : ℕ) → s < m → IsAmong c (state.children s) → state.path c ≡ state.path s ++ c ∷ []
+  pub shares : Shares state interleaving.tasks interleaving.at m

@@ -3,12 +3,11 @@ use Rattle.std.specs.Prelude.{◌≡◌, ◌⊎◌, ℕ, zero, suc, ◌+◌, ◌
 use Rattle.turn_semantics.specs.Lists.{IsAmong}
 use Rattle.exceptions.specs.Exceptions.{Label}
 use Rattle.cancel_scopes.specs.Tree.{Tree, IsOwn, IsChain, IsApart}
-use Rattle.job_meaning.specs.Log.{Table}
 use Rattle.job_meaning.specs.Moments.{only_at}
 use Rattle.job_meaning.specs.Rest as rest
-use Rattle.turn_semantics.specs.Midway.{Begun, no_outcomes, begun_comes_to}
+use Rattle.turn_semantics.specs.Midway.{Tables, Begun, no_outcomes, begun_comes_to}
 use Rattle.task_machine.specs.declared.stop.Stop.{Stop}
-use Rattle.task_machine.specs.declared.stop.Stop.TheVariants.{Ask, Sleep, WaitFor, GiveUp, Wait, Ended}
+use Rattle.task_machine.specs.declared.stop.Stop.TheVariants.{Ask, Sleep, WaitFor, Queue, GiveUp, Wait, Ended}
 use Rattle.task_machine.specs.Stops.{Numbers}
 use Rattle.interleavings.specs.Interleaving.{Started}
 use Rattle.interleavings.specs.Rows.{entered_made}
@@ -29,10 +28,11 @@ AreNew known [] = Unit {0}
 AreNew known (rest.noted t e ∷ es) = AreNew known es
 AreNew known (rest.signs l t ∷ es) = AreNew known es
 AreNew known (rest.enters l t d ∷ es) = (known l → ⊥) × AreNew (λ m. (m ≡ l) ⊎ known m) es
+AreNew known (rest.acts l t a ∷ es) = AreNew known es
 AreNew known (rest.starts i l t ∷ es) = AreNew known es
 
 -- a child that begins in a moment, as a task with this serial number
-abbrev pub child_at : Table → ℕ → ℕ → Begun → Started
+abbrev pub child_at : Tables → ℕ → ℕ → Begun → Started
 child_at k t s b =
     record {
       serial = s;
@@ -67,6 +67,7 @@ abbrev pub leaving_by : Stop → ℕ → Option ℕ
 leaving_by (Ask request) s = None
 leaving_by (Sleep due) s = None
 leaving_by (WaitFor event) s = None
+leaving_by (Queue request) s = None
 leaving_by (GiveUp due) s = None
 leaving_by (Wait id) s = None
 leaving_by (Ended exc) s = Some s

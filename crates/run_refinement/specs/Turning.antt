@@ -3,11 +3,10 @@ use Rattle.std.specs.Prelude.{◌≡◌, ◌≢◌, true, ℕ, ◌+◌, ◌<◌,
 use Rattle.nursery_book.specs.Nursery.{is_settled}
 use Rattle.nursery_book.specs.Book.{HasNursery}
 use Rattle.job_tree.specs.Tree.{Tree as Job}
-use Rattle.job_meaning.specs.Log.{Table}
 use Rattle.exceptions.specs.Exceptions.{Label}
 use Rattle.job_meaning.specs.Moments.{tick_of, a_round_after}
 use Rattle.job_meaning.specs.Rest as rest
-use Rattle.turn_semantics.specs.Midway.{Begun, Move}
+use Rattle.turn_semantics.specs.Midway.{Tables, Begun, Move}
 use Rattle.turn_semantics.specs.Names.{StaysNew}
 use Rattle.turn_semantics.specs.Steps.{cancelled_from_after}
 use Rattle.turn_semantics.specs.Turned.{TurnsOver}
@@ -28,7 +27,7 @@ use Rattle.run_refinement.specs.Turn.{IsEntered, AreNew, child_at, serials_from}
 -- A turn of the task with this serial number, one of m, in the code, is one turn of the definitions, after which the run is that of the
 -- definitions again. The children that it began have the next serial numbers.
 pub record Turning
-    (k : Table) (job : Job) (input : List ℕ) (t m s : ℕ) (old new : RunState) (numbers : ℕ → Numbers) (before after : Task) (stop : Stop)
+    (k : Tables) (job : Job) (input : List ℕ) (t m s : ℕ) (old new : RunState) (numbers : ℕ → Numbers) (before after : Task) (stop : Stop)
     (was : Interleaving k job input t m) : Type 0
   where
     -- in the code
