@@ -18,3 +18,4 @@ pub mod Deadlines
 pub mod Rounds
 pub mod Naming
 pub mod GrantsKnown
+pub mod Ordering

@@ -116,8 +116,8 @@ GrantsAreKnown =
 -- The tasks of a run have an order, that of the records.
 abbrev pub OrdersExist : Type 0
 OrdersExist =
-    (k : Tables) (job : Tree) (input : List ℕ) (f : Table) (t m : ℕ) (qs : List Started) → Reached k job input f t m qs →
-    (taken : List Started) × InOrder qs (0 ∷ []) taken
+    (k : Tables) (job : Tree) (input : List ℕ) → GivesNamesOnce job → StartsInNurseries job → IsSettledBy k job input →
+    (f : Table) (t m : ℕ) (qs : List Started) → Reached k job input f t m qs → (taken : List Started) × InOrder qs (0 ∷ []) taken
 
 -- a run in which all tasks have ended has what the job means: its records, its moments of cancellation and its end
 abbrev pub RunsAreTheMeaning : Type 0

@@ -1,5 +1,6 @@
 use Rattle.interleavings.proofs.laws.law_grants.Goals as goal
 use Rattle.interleavings.proofs.GrantsKnown.{grants_are_known}
+use Rattle.interleavings.proofs.Ordering.{orders_exist}
 
 pub returns : goal.returns
-returns c = grants_are_known
+returns c = record { grants = grants_are_known; order = orders_exist }
