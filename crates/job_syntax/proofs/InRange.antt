@@ -21,7 +21,7 @@ use Rattle.job_syntax.specs.declared.keyword.Keyword.{Keyword}
 use Rattle.job_syntax.specs.declared.keyword.Keyword.TheVariants as word
 use Rattle.job_syntax.specs.Keywords.{is_kept, keyword_of}
 use Rattle.job_syntax.specs.Pieces.{Piece, shapes_in, keyword, number, opens, deadline_pieces, flag_pieces, over_pieces, passes_pieces, steps_pieces, step_pieces, handler_pieces, cleanup_pieces, job_pieces, loop_inside, AreSteps, IsStep, IsHandler, IsCleanup}
-use Rattle.job_syntax.specs.Ranges.{object_named, keyword_in, is_in_range, number_fault}
+use Rattle.job_syntax.specs.Ranges.{object_named, keyword_in, is_in_range, fault_after, number_fault}
 
 -- ---- along the shapes
 
@@ -32,7 +32,7 @@ AllInRange format named before (s ∷ rest) =
     (is_in_range format named before s ≡ true) × AllInRange format (object_named format before s) (keyword_in s) rest
 
 -- if no number out of its range is found, all are in their ranges
-pub all_in_range : (format : Format) (named before : Option Keyword) (tokens : List Token) → number_fault format named before tokens ≡ None →
+pub all_in_range : (format : Format) (named before : Option Keyword) (tokens : List Token) → fault_after format named before tokens ≡ None →
     AllInRange format named before (shapes_of tokens)
 all_in_range format named before [] none = tt
 all_in_range format named before (t ∷ ts) none =
@@ -41,26 +41,25 @@ all_in_range format named before (t ∷ ts) none =
     following : Option Keyword
     following = object_named format before t.shape
 
-    by_test : (number_fault format following (keyword_in t.shape) ts ≡ None → AllInRange format following (keyword_in t.shape) (shapes_of ts)) →
+    by_test : (fault_after format following (keyword_in t.shape) ts ≡ None → AllInRange format following (keyword_in t.shape) (shapes_of ts)) →
         (b : Bool) → is_in_range format named before t.shape ≡ b →
-        cond b (number_fault format following (keyword_in t.shape) ts) (Some t.at) ≡ None
+        cond b (fault_after format following (keyword_in t.shape) ts) (Some t.at) ≡ None
         → (is_in_range format named before t.shape ≡ true) × AllInRange format following (keyword_in t.shape) (shapes_of ts)
     by_test others true is none' = (is, others none')
     by_test others false is none' = absurd cc
 
 -- if all numbers are in their ranges, no fault is found
 pub no_fault : (format : Format) (named before : Option Keyword) (tokens : List Token) → AllInRange format named before (shapes_of tokens) →
-    number_fault format named before tokens ≡ None
+    fault_after format named before tokens ≡ None
 no_fault format named before [] all = refl
 no_fault format named before (t ∷ ts) all =
     rw all.0 (no_fault format (object_named format before t.shape) (keyword_in t.shape) ts all.1)
 
 -- which numbers are out of their ranges depends only on the shapes
-pub numbers_by_shapes : (format : Format) (named before : Option Keyword) (xs ys : List Token) → shapes_of xs ≡ shapes_of ys →
-    number_fault format named before xs ≡ None →
-    number_fault format named before ys ≡ None
-numbers_by_shapes format named before xs ys e none = no_fault format named before ys
-    (subst (AllInRange format named before) e (all_in_range format named before xs none))
+pub numbers_by_shapes : (format : Format) (xs ys : List Token) → shapes_of xs ≡ shapes_of ys → number_fault format xs ≡ None →
+    number_fault format ys ≡ None
+numbers_by_shapes format xs ys e none = no_fault format None None ys
+    (subst (AllInRange format None None) e (all_in_range format None None xs none))
 
 -- ---- one number after its keyword
 
@@ -277,7 +276,7 @@ mutual
 -- if no number of a job's tokens is out of its range, and no name that it gives is reserved, its numbers are in their ranges
 pub in_range_numbers : (job : Tree) (tokens : List Token) → AreSteps job.format false job.steps → AreFree (names_of job.steps) →
     shapes_of tokens ≡ shapes_in (job_pieces job) →
-    number_fault job.format None None tokens ≡ None → AreInRange job.steps
+    number_fault job.format tokens ≡ None → AreInRange job.steps
 in_range_numbers job tokens are free e none =
     let all : AllInRange job.format None None (shapes_in (job_pieces job)) = subst (AllInRange job.format None None) e
     (all_in_range job.format None None tokens none) in

@@ -264,7 +264,7 @@ by_format Three One steps up are named before all = let e : false ≡ true = up 
 
 -- numbers of a job's tokens that are in the ranges of its format are in those of each format that has all of it
 upgraded_numbers : (to : Format) (job : Tree) (tokens : List Token) → IsUpTo job.format to → AreSteps job.format false job.steps →
-    shapes_of tokens ≡ shapes_in (job_pieces job) → number_fault job.format None None tokens ≡ None → number_fault to None None tokens ≡ None
+    shapes_of tokens ≡ shapes_in (job_pieces job) → number_fault job.format tokens ≡ None → number_fault to tokens ≡ None
 upgraded_numbers to job tokens up are e none =
     let all : AllInRange job.format None None (shapes_in (job_pieces job)) =
     subst (AllInRange job.format None None) e (all_in_range job.format None None tokens none) in
@@ -278,6 +278,6 @@ pub newer_steps : (to : Format) (job : Tree) → AreSteps job.format false job.s
 newer_steps to job are = upgraded_steps job.format (newer to job.format) false false job.steps (up_to_newer to job.format) (λ e. e) are
 
 pub newer_numbers : (to : Format) (job : Tree) (tokens : List Token) → AreSteps job.format false job.steps →
-    shapes_of tokens ≡ shapes_in (job_pieces job) → number_fault job.format None None tokens ≡ None →
-    number_fault (newer to job.format) None None tokens ≡ None
+    shapes_of tokens ≡ shapes_in (job_pieces job) → number_fault job.format tokens ≡ None →
+    number_fault (newer to job.format) tokens ≡ None
 newer_numbers to job tokens are e none = upgraded_numbers (newer to job.format) job tokens (up_to_newer to job.format) are e none

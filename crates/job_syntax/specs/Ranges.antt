@@ -72,9 +72,13 @@ is_in_range format named before (shape.Number n) = fits format named before n
 is_in_range format named before (shape.Text text) = true
 is_in_range format named before (shape.Mark mark) = true
 
--- the place of the first number out of its range, where `named` and `before` are what the token before the list names and is
-abbrev pub number_fault : Format → (named before : Option Keyword) → List Token → Option ℕ
-number_fault format named before [] = None
-number_fault format named before (t ∷ ts) =
-    if is_in_range format named before t.shape then number_fault format (object_named format before t.shape) (keyword_in t.shape) ts
+-- the place of the first number out of its range, after a token that names `named` and is `before`
+abbrev pub fault_after : Format → (named before : Option Keyword) → List Token → Option ℕ
+fault_after format named before [] = None
+fault_after format named before (t ∷ ts) =
+    if is_in_range format named before t.shape then fault_after format (object_named format before t.shape) (keyword_in t.shape) ts
     else Some t.at
+
+-- the place of the first number of a text that is out of its range
+abbrev pub number_fault : Format → List Token → Option ℕ
+number_fault format tokens = fault_after format None None tokens

@@ -1,4 +1,4 @@
-ghost use Rattle.std.specs.Prelude.{◌≡◌, None};
+ghost use Rattle.std.specs.Prelude.{◌≡◌};
 ghost use Rattle.job_syntax.specs.Ranges.{if_object, object_of, object_named, most_passes, range_after, range_of, fits, is_in_range, keyword_in, number_fault};
 
 use crate::keyword::{Keyword, is_kept};
@@ -9,7 +9,7 @@ use job_tree::{Format, MAX_COPIES, MAX_NUMBER, MAX_PACE, MAX_PASSES, MAX_PLACES,
 /// there is none. The range depends on the keyword directly before the number, and after the name of a limiter or channel on
 /// the keyword before that name.
 pub fn number_fault(format: Format, tokens: &[Token]) -> Option<usize>
-    ensures { result ≡ number_fault format None None tokens.now }
+    ensures { result ≡ number_fault format tokens.now }
 {
     let mut named = None;
     let mut before = None;
