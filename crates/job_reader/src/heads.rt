@@ -51,7 +51,7 @@ pub fn push_head(shapes: &mut Vec<Shape>, step: &Step) -> Result<(), AllocError>
             ..
         } => push_block_head(shapes, Keyword::Nursery, *name, *deadline, *shield),
         Step::Event { name, .. } => push_named(shapes, Keyword::Event, *name),
-        Step::Object { name, kind, .. } => push_object_head(shapes, *name, *kind),
+        Step::Object { name, kind, .. } => push_object_head(shapes, *name, kind),
         Step::Start { name, over, .. } => push_start_head(shapes, *name, *over),
         Step::Repeat { count, over, .. } => push_repeat_head(shapes, *count, *over),
         Step::Try { .. } => push_keyword(shapes, Keyword::Try),
@@ -72,13 +72,13 @@ fn push_need(shapes: &mut Vec<Shape>, text: Text, name: Name) -> Result<(), Allo
 fn push_object_head(
     shapes: &mut Vec<Shape>,
     name: Name,
-    kind: ObjectKind,
+    kind: &ObjectKind,
 ) -> Result<(), AllocError>
-    ensures { OnOk result (Appends (λ rest. keyword_piece (object_word kind) ∷ name_piece role.Given name ∷ number (count_of kind) ∷ rest)
-        shapes.old.items shapes.new.items) }
+    ensures { OnOk result (Appends (λ rest. keyword_piece (object_word kind.now) ∷ name_piece role.Given name ∷ number (count_of kind.now)
+        ∷ rest) shapes.old.items shapes.new.items) }
 {
-    push_named(shapes, object_word(kind), name)?;
-    shapes.push(Shape::Number(Some(count_of(kind))))?;
+    push_named(shapes, object_word(*kind), name)?;
+    shapes.push(Shape::Number(Some(count_of(*kind))))?;
     Ok(())
 }
 

@@ -22,7 +22,7 @@ use Rattle.job_syntax.specs.Keywords.{spelling_of, keyword_among, keywords, keyw
 use Rattle.job_syntax.specs.Nonterminals.{Rest, next, text_rest, step_rest, cleanup_rest, tail_rest, scope_rest, shield_rest, fail_rest, over_rest, nursery_rest, nursery_shield_rest, outer_block, tail, cleanup, passes, ◌>>=◌}
 use Rattle.job_syntax.specs.declared.role.Role.{Role}
 use Rattle.job_syntax.specs.declared.role.Role.TheVariants as role
-use Rattle.job_syntax.specs.Pieces.{Piece, keyword, name_piece, number, string, opens, ends, deadline_pieces, flag_pieces, over_pieces, passes_pieces, step_pieces, steps_pieces, MayDivide, IsWithGrant, AreSteps, IsStep}
+use Rattle.job_syntax.specs.Pieces.{Piece, keyword, name_piece, number, string, opens, ends, deadline_pieces, flag_pieces, over_pieces, passes_pieces, step_pieces, steps_pieces, MayDivide, MayHaveSteps, AreSteps, IsStep}
 use Rattle.job_syntax.specs.Syntax.{IsBlock, IsTail, IsCleanupAndBlock, IsPasses, Stands, Fits, role_of}
 use Rattle.job_syntax.proofs.Grammar.{Left, plain_head}
 
@@ -187,7 +187,7 @@ object_step format inside kind first ss ps may printed (r, (n, e), (r', (count, 
 
 -- `acquire` and `receive`
 grant_step : (format : Format) (inside : Bool) (ask : Ask) (first : Piece) (ss : List Nonterminal) (ps : List Piece) → has_events format ≡ true
-    → ((body : Steps) → IsWithGrant ask body)
+    → ((body : Steps) → MayHaveSteps ask body)
     → ((n : List ℕ) (body : Steps) (rest : List Piece) →
     step_pieces (ask_for n ask body) rest ≡ first ∷ name_piece role.Target n ∷ opens ∷ steps_pieces body rest) →
     Fits format (nonterminal.Target ∷ nonterminal.Open ∷ nonterminal.Steps ∷ outer_block inside ∷ ss) ps →

@@ -179,12 +179,12 @@ abbrev pub MayDivide : Format → (over : Bool) → Type 0
 MayDivide format false = Unit {0}
 MayDivide format true = has_events format ≡ true
 
--- the steps with what is asked for: a `send` has none
-abbrev pub IsWithGrant : Ask → Steps → Type 0
-IsWithGrant Acquire body = Unit {0}
-IsWithGrant Send stop = Unit {0}
-IsWithGrant Send (step s ss) = ⊥
-IsWithGrant Receive body = Unit {0}
+-- a `send` has no steps
+abbrev pub MayHaveSteps : Ask → Steps → Type 0
+MayHaveSteps Acquire body = Unit {0}
+MayHaveSteps Send stop = Unit {0}
+MayHaveSteps Send (step s ss) = ⊥
+MayHaveSteps Receive body = Unit {0}
 
 abbrev mutual
   -- the grammar of a block: a `start` only directly inside a nursery, and in format 3 in a `repeat` there, but in no `repeat over`;
@@ -206,7 +206,7 @@ abbrev mutual
   IsStep format inside (cancel name) = Unit {0}
   IsStep format inside (set_event name) = has_events format ≡ true
   IsStep format inside (wait_for name) = has_events format ≡ true
-  IsStep format inside (ask_for name ask body) = (has_events format ≡ true) × IsWithGrant ask body × AreSteps format false body
+  IsStep format inside (ask_for name ask body) = (has_events format ≡ true) × MayHaveSteps ask body × AreSteps format false body
   IsStep format inside (close_channel name) = has_events format ≡ true
   IsStep format inside (scope name deadline shield fail body) = AreSteps format false body
   IsStep format inside (nursery name deadline shield body) = IsNurseryHead format deadline shield × AreSteps format true body

@@ -536,12 +536,9 @@ fn send_at(alloc: Global, tokens: &[Token]) -> Option<(Step, &[Token])>
     let Some((name, rest)) = word_at(tokens) else {
         return None;
     };
-    let send = Step::Ask {
-        name,
-        ask: Ask::Send,
-        body: Body::new(Vec::new(alloc)),
-    };
-    step_to_semicolon(send, rest)
+    let ask = Ask::Send;
+    let body = Body::new(Vec::new(alloc));
+    step_to_semicolon(Step::Ask { name, ask, body }, rest)
 }
 
 fn need_at(tokens: &[Token]) -> Option<(Step, &[Token])>
