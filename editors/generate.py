@@ -30,18 +30,18 @@ class Group(NamedTuple):
 
 # Each keyword is in exactly one of these groups.
 GROUPS = [
-    Group("keyword.control.block", "Block", "Structure", "job nursery start scope event repeat".split()),
+    Group("keyword.control.block", "Block", "Structure", "job nursery start scope event limiter channel repeat".split()),
     Group("keyword.control.exception", "Handler", "Exception", "try except finally".split()),
-    Group("keyword.other.wait", "Wait", "Statement", "sleep checkpoint forever pace wait".split()),
+    Group("keyword.other.wait", "Wait", "Statement", "sleep checkpoint forever pace wait acquire send receive".split()),
     Group("keyword.other.lines", "Lines", "Statement", "find head longest need".split()),
-    Group("keyword.other.signal", "Signal", "Statement", "raise cancel set".split()),
+    Group("keyword.other.signal", "Signal", "Statement", "raise cancel set close".split()),
     Group("keyword.other.modifier", "Modifier", "StorageClass", "after at shield fail over".split()),
 ]
 
 # The names in a job text: those that are given, those that are used, and those of exceptions, each with the keywords that they follow.
 NAMES = [
-    Group("entity.name.function", "Name", "Function", "job nursery start scope event".split()),
-    Group("variable.other", "Target", "Identifier", "cancel set wait".split()),
+    Group("entity.name.function", "Name", "Function", "job nursery start scope event limiter channel".split()),
+    Group("variable.other", "Target", "Identifier", "cancel set wait acquire send receive close".split()),
     Group("entity.name.type.exception", "Exception", "Type", "raise except need".split()),
 ]
 
@@ -149,12 +149,12 @@ def string_rule():
 
 
 def head_rule(group, names, words, ends):
-    """The keyword before a name, and what follows it up to a mark or another keyword: the name, comments, and the string of a `need`."""
+    """The keyword before a name, and what follows it up to a mark or another keyword: the name, comments, a string or a number."""
     return {
         "begin": any_of(words),
         "beginCaptures": {"0": {"name": scoped(group.scope)}},
         "end": rf"(?=[{{}};]|^%input$|{any_of(ends)})",
-        "patterns": included("comment", "string") + [rule(names.scope, r"\b[A-Za-z][A-Za-z0-9_]*\b")],
+        "patterns": included("comment", "string", "number") + [rule(names.scope, r"\b[A-Za-z][A-Za-z0-9_]*\b")],
     }
 
 
@@ -238,7 +238,7 @@ def vim_head(number, head, end):
     """The same as `head_rule`."""
     group, names, words = head
     start = f'matchgroup=nursery{group.group} start="{vim_any_of(words)}"'
-    inside = f"nurseryComment,nurseryString,nursery{names.group}"
+    inside = f"nurseryComment,nurseryString,nurseryNumber,nurseryError,nursery{names.group}"
     return f'syntax region nurseryHead{number} {start} matchgroup=NONE end="{end}" contains={inside}\n'
 
 

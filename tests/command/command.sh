@@ -261,6 +261,8 @@ wants 4 '' 'cannot read the job file\na_folder: is a directory\n' fmt a_folder
 helps fmt 'job hedge { nursery both { start fast { sleep 2; cancel both; } start slow { sleep 9; } } }\n'
 printf 'trio-job 3\njob hedge { nursery both { start fast { sleep 2; cancel both; } start slow { sleep 9; } } }\n' > hedge_in_a_line.job
 wants 0 'trio-job 3\njob hedge {\n  nursery both {\n    start fast {\n      sleep 2;\n      cancel both;\n    }\n    start slow { sleep 9; }\n  }\n}\n' '' fmt hedge_in_a_line.job
+printf 'trio-job 3\njob m { channel q 1 { limiter pool 2 { nursery n { start a { acquire pool { send q; } } start b { receive q { # kept\nclose q; } } } } } }\n' > objects.job
+wants 0 'trio-job 3\njob m {\n  channel q 1 {\n    limiter pool 2 {\n      nursery n {\n        start a {\n          acquire pool { send q; }\n        }\n        start b {\n          receive q { # kept\n            close q;\n          }\n        }\n      }\n    }\n  }\n}\n' '' fmt objects.job
 helps fmt 'trio-job 3\njob hedge {\n  nursery both {\n    start fast {\n      sleep 2;\n      cancel both;\n    }\n    start slow { sleep 9; }\n  }\n}\n'
 
 # ---- scale
@@ -511,7 +513,7 @@ refuses 'trio-job 1\njob main { sleep 1s; }\n' 'refused J4 Token at 28' \
 refuses 'trio-job 1\njob main { pace 0; }\n' 'refused J5 Number at 27' \
     '2:17: a number that is out of its range or has a leading zero\njob main { pace 0; }\n                ^\nthe number after `pace` is from 1 to 1000000'
 refuses 'trio-job 1\njob main { scope s { } scope s { } }\n' 'refused J8 Twice at 40' \
-    '2:30: this name was given before: jobs, scopes, nurseries, events and starts need names of their own\njob main { scope s { } scope s { } }\n                             ^\nit was first given at bad.job:2:18'
+    '2:30: this name was given before: jobs, scopes, nurseries, events, limiters, channels and starts need names of their own\njob main { scope s { } scope s { } }\n                             ^\nit was first given at bad.job:2:18'
 refuses 'trio-job 1\njob main { slep 1; }\n' 'refused J6 Syntax at 22' \
     '2:12: expected a step, as `sleep 1;`, or `}` (a `start` only directly inside a nursery or a `repeat` there)\njob main { slep 1; }\n           ^\ndid you mean `sleep`?'
 refuses 'trio-job 1\njob main { repeat 2 { } }\n' 'refused J6 Syntax at 22' \

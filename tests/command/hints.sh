@@ -44,7 +44,7 @@ job_hints 'a block is written between braces, without a colon: `scope work after
 job_hints 'a handler has one name: for another one, put a second `try` around this one' 'try { sleep 1; } except A | B { }'
 job_hints '`except NAME { .. }` is Python'\''s `except*` already: leave out the star' 'try { sleep 1; } except* A { }'
 
-named='each job, scope, nursery, event and start has a name, as in `scope work after 5 { .. }`'
+named='each job, scope, nursery, event, limiter, channel and start has a name, as in `scope work after 5 { .. }`'
 job_hints "$named" 'scope { sleep 1; }'
 job_hints "$named" 'scope after 5 { sleep 1; }'
 job_hints "$named" 'scope shield { sleep 1; }'
@@ -77,6 +77,10 @@ job_hints 'did you mean `sleep`?' 'slepe 1;'
 job_hints 'format 2 has this: begin the job text with the line `trio-job 2`' 'repeat 3 { sleep 1; }'
 job_hints 'format 3 has this: begin the job text with the line `trio-job 3`' 'event ready { set ready; }'
 hints 'format 3 has this: begin the job text with the line `trio-job 3`' 'trio-job 2\njob main { event ready { set ready; } }\n'
+for step in 'limiter pool 2 { sleep 1; }' 'acquire pool { sleep 1; }' 'channel work 0 { sleep 1; }' 'send work;' 'receive work { sleep 1; }' 'close work;'; do
+    job_hints 'format 3 has this: begin the job text with the line `trio-job 3`' "$step"
+    hints 'format 3 has this: begin the job text with the line `trio-job 3`' "trio-job 2\njob main { $step }\n"
+done
 loops='a `start` is directly inside a nursery, in format 3 also in a `repeat` without `over` there: `nursery NAME { repeat 3 { start NAME { .. } } }`'
 hints "$loops" 'trio-job 3\njob main { repeat 3 { start task { sleep 1; } } }\n'
 hints "$loops" 'trio-job 3\njob main { nursery tasks { repeat over 3 { start task { sleep 1; } } } }\n'
@@ -87,6 +91,11 @@ job_hints 'no scope or nursery is around this `cancel`' 'cancel main;'
 hints 'the events around this step: `stop`, `ready`' 'trio-job 3\njob main { event ready { event stop { scope s { set raedy; } } } }\n'
 hints 'no event is around this step' 'trio-job 3\njob main { event ready { sleep 1; } wait ready; }\n'
 hints 'what can be cancelled here: `s`' 'trio-job 3\njob main { event ready { scope s { cancel ready; } } }\n'
+hints 'the limiters around this step: `inner`, `outer`' \
+    'trio-job 3\njob main { limiter outer 1 { channel work 0 { limiter inner 1 { acquire work { sleep 1; } } } } }\n'
+hints 'the channels around this step: `work`' 'trio-job 3\njob main { limiter pool 1 { channel work 0 { send pool; } } }\n'
+hints 'no limiter is around this step' 'trio-job 3\njob main { channel work 0 { acquire work { sleep 1; } } }\n'
+hints 'no channel is around this step' 'trio-job 3\njob main { channel work 0 { sleep 1; } close work; }\n'
 job_hints 'the job has 532609 steps' \
     'nursery a { start b over 64 { nursery c { start d over 64 { nursery e { start f over 64 { sleep 1; } } } } } }'
 hints 'the innermost block that is not closed begins at text.job:2:10' 'trio-job 1\njob main {\n  sleep 1;\n'
@@ -104,10 +113,17 @@ words() {
     done
 }
 
-words 'there are no channels, queues, locks and limiters: where a signal between tasks is enough, format 3 has `event NAME { .. }`' \
-    send receive acquire open_memory_channel CapacityLimiter Semaphore Lock Queue
-job_hints 'there are no channels, queues, locks and limiters: where a signal between tasks is enough, format 3 has `event NAME { .. }`' \
-    'channel.send(1);'
+words 'Trio'\''s `open_memory_channel(N)` is `channel NAME N { .. }` here, around the tasks that use it' open_memory_channel
+words 'Trio'\''s `CapacityLimiter(N)` is `limiter NAME N { .. }` here, around the tasks that use it' CapacityLimiter
+words 'a queue is `channel NAME N { .. }` here, in format 3, with `send NAME;` and `receive NAME { .. }`' Queue
+words 'a lock is `limiter NAME 1 { .. }` here, a semaphore `limiter NAME N { .. }`, in format 3, with `acquire NAME { .. }`' Lock Semaphore
+job_hints 'Trio'\''s `open_memory_channel(N)` is `channel NAME N { .. }` here, around the tasks that use it' 'trio.open_memory_channel(1);'
+job_hints 'Trio'\''s `CapacityLimiter(N)` is `limiter NAME N { .. }` here, around the tasks that use it' 'trio.CapacityLimiter(1);'
+job_hints 'Trio'\''s `await NAME.send(..)` is `send NAME;` here' 'await work.send(1);'
+job_hints 'Trio'\''s `await NAME.receive()` is `receive NAME { .. }` here' 'await work.receive();'
+job_hints 'Trio'\''s `await NAME.acquire()` is `acquire NAME { .. }` here: the token comes back at the end of the block' 'await pool.acquire();'
+job_hints 'Trio'\''s `NAME.close()` is `close NAME;` here' 'work.close();'
+job_hints 'Trio'\''s `NAME.close()` is `close NAME;` here' 'await work.aclose();'
 words 'there are no conditions: only an exception or a cancellation changes the course of a job' if else elif
 words 'a loop is `repeat N { .. }`, in formats 2 and 3; a `raise` in it leaves it, with a `try` around it' while for loop
 words 'a loop or a block is left by `raise NAME;`, with `try { .. } except NAME { .. }` around it' break continue return
@@ -132,6 +148,12 @@ job_hints 'the number after `over` is from 1 to 64' 'nursery tasks { start task 
 job_hints 'the number after `over` is from 1 to 64' 'nursery tasks { start task over 0 { sleep 1; } }'
 job_hints 'the number after `pace` is from 1 to 1000000' 'pace 0;'
 hints 'the number after `repeat` is from 0 to 1000' 'trio-job 3\njob main { repeat 1001 { sleep 1; } }\n'
+hints 'the number of tokens of a limiter is from 1 to 1000000' 'trio-job 3\njob main { limiter pool 0 { sleep 1; } }\n'
+hints 'the number of tokens of a limiter is from 1 to 1000000' 'trio-job 3\njob main { limiter event 1000001 { sleep 1; } }\n'
+hints 'the number of places of a channel is from 0 to 1000000' 'trio-job 3\njob main { channel work 1000001 { sleep 1; } }\n'
+uncounted='a limiter has the number of its tokens after its name, a channel that of its places: `limiter NAME 2 { .. }`, `channel NAME 0 { .. }`'
+hints "$uncounted" 'trio-job 3\njob main { limiter pool { sleep 1; } }\n'
+hints "$uncounted" 'trio-job 3\njob main { channel event { sleep 1; } }\n'
 job_hints 'the number here is from 0 to 1000000000' 'sleep 1000000001;'
 job_hints 'the number here is from 0 to 1000000000' 'scope work after 99999999999999999999 { sleep 1; }'
 

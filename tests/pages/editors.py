@@ -63,6 +63,13 @@ job event { # a "name"; sleep 5; }
       wait wait;
     }
   }
+  limiter send 2{acquire send{receive limiter{close close;}}}
+  channel # its places are on the next line
+    limiter
+      0 # none
+  {send channel;receive acquire # {
+    {acquire event{channel channel 10{}}}
+  }
   try{raise wait;}except # what
     event{need"job {"raise_1;}finally{head 0;longest;pace 10;forever;}
   scope
@@ -88,7 +95,9 @@ BROKEN = [
     "sleep «500ms»;",
     "sleep «007»;",
     "scope slow after «5s» {",
-    "unsleep sleeper sleep_1 await waits reset;",
+    "limiter pool «02» {",
+    "channel work «2x»",
+    "unsleep sleeper sleep_1 await waits reset sender closed limiters;",
 ]
 
 

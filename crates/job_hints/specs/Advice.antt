@@ -10,6 +10,8 @@ use Rattle.job_hints.specs.declared.python.PythonSyntax.{PythonSyntax}
 use Rattle.job_hints.specs.declared.python.PythonSyntax.TheVariants as python
 use Rattle.job_hints.specs.declared.words.TrioWord.{TrioWord}
 use Rattle.job_hints.specs.declared.words.TrioWord.TheVariants as trio
+use Rattle.job_hints.specs.declared.shared.ObjectWord.{ObjectWord}
+use Rattle.job_hints.specs.declared.shared.ObjectWord.TheVariants as object
 use Rattle.job_hints.specs.declared.words.OtherWord.{OtherWord}
 use Rattle.job_hints.specs.declared.words.OtherWord.TheVariants as other
 
@@ -40,7 +42,11 @@ number_sentence number.LeadingZero = codes "a number has no leading zero: `5`, a
 number_sentence number.Copies = codes "the number after `over` is from 1 to 64\n"
 number_sentence number.Pace = codes "the number after `pace` is from 1 to 1000000\n"
 number_sentence number.Passes = codes "the number after `repeat` is from 0 to 1000\n"
+number_sentence number.Tokens = codes "the number of tokens of a limiter is from 1 to 1000000\n"
+number_sentence number.Places = codes "the number of places of a channel is from 0 to 1000000\n"
 number_sentence number.Other = codes "the number here is from 0 to 1000000000\n"
+number_sentence number.Uncounted =
+    codes "a limiter has the number of its tokens after its name, a channel that of its places: `limiter NAME 2 { .. }`, `channel NAME 0 { .. }`\n"
 
 -- what Python writes in another way, or what only Python has
 abbrev pub python_sentence : PythonSyntax → List ℕ
@@ -68,10 +74,21 @@ trio_sentence trio.Event = codes "Trio's `Event` is `event NAME { .. }` here, ar
 trio_sentence trio.SetEvent = codes "Trio's `NAME.set()` is `set NAME;` here\n"
 trio_sentence trio.WaitEvent = codes "Trio's `await NAME.wait()` is `wait NAME;` here\n"
 
+-- what is called in another way, of limiters and channels
+abbrev pub object_sentence : ObjectWord → List ℕ
+object_sentence object.OpenChannel = codes "Trio's `open_memory_channel(N)` is `channel NAME N { .. }` here, around the tasks that use it\n"
+object_sentence object.CapacityLimiter = codes "Trio's `CapacityLimiter(N)` is `limiter NAME N { .. }` here, around the tasks that use it\n"
+object_sentence object.Send = codes "Trio's `await NAME.send(..)` is `send NAME;` here\n"
+object_sentence object.Receive = codes "Trio's `await NAME.receive()` is `receive NAME { .. }` here\n"
+object_sentence object.Acquire =
+    codes "Trio's `await NAME.acquire()` is `acquire NAME { .. }` here: the token comes back at the end of the block\n"
+object_sentence object.Close = codes "Trio's `NAME.close()` is `close NAME;` here\n"
+object_sentence object.Queue = codes "a queue is `channel NAME N { .. }` here, in format 3, with `send NAME;` and `receive NAME { .. }`\n"
+object_sentence object.Lock =
+    codes "a lock is `limiter NAME 1 { .. }` here, a semaphore `limiter NAME N { .. }`, in format 3, with `acquire NAME { .. }`\n"
+
 -- a word of another language or library
 abbrev pub other_sentence : OtherWord → List ℕ
-other_sentence other.Channel =
-    codes "there are no channels, queues, locks and limiters: where a signal between tasks is enough, format 3 has `event NAME { .. }`\n"
 other_sentence other.Condition = codes "there are no conditions: only an exception or a cancellation changes the course of a job\n"
 other_sentence other.Loop = codes "a loop is `repeat N { .. }`, in formats 2 and 3; a `raise` in it leaves it, with a `try` around it\n"
 other_sentence other.Exit = codes "a loop or a block is left by `raise NAME;`, with `try { .. } except NAME { .. }` around it\n"
@@ -96,7 +113,7 @@ advice_text advice.CommentSign = codes "a comment begins with `#`, in a job text
 advice_text advice.WholeTicks = codes "times are whole ticks: choose a smaller tick, and multiply every number\n"
 advice_text advice.NewerFormat = codes "format 2 has this: begin the job text with the line `trio-job 2`\n"
 advice_text advice.NewestFormat = codes "format 3 has this: begin the job text with the line `trio-job 3`\n"
-advice_text advice.Unnamed = codes "each job, scope, nursery, event and start has a name, as in `scope work after 5 { .. }`\n"
+advice_text advice.Unnamed = codes "each job, scope, nursery, event, limiter, channel and start has a name, as in `scope work after 5 { .. }`\n"
 advice_text advice.HeadOrder = codes "the head of a scope is `scope NAME after N shield fail`, in this order\n"
 advice_text advice.StartInside =
     codes "a `start` is directly inside a nursery, in format 3 also in a `repeat` without `over` there: `nursery NAME { repeat 3 { start NAME { .. } } }`\n"
@@ -104,4 +121,5 @@ advice_text (advice.Block a) = block_sentence a
 advice_text (advice.Number a) = number_sentence a
 advice_text (advice.Python syntax) = python_sentence syntax
 advice_text (advice.Trio word) = trio_sentence word
+advice_text (advice.Object word) = object_sentence word
 advice_text (advice.Other word) = other_sentence word

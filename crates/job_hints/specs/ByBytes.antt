@@ -9,7 +9,7 @@ use Rattle.job_hints.specs.declared.advice.Advice.TheVariants as advice
 use Rattle.job_hints.specs.declared.number.NumberAdvice.TheVariants as number
 use Rattle.job_hints.specs.declared.python.PythonSyntax.TheVariants as python
 use Rattle.job_hints.specs.declared.words.TrioWord.TheVariants as trio
-use Rattle.job_hints.specs.declared.words.OtherWord.TheVariants as other
+use Rattle.job_hints.specs.declared.shared.ObjectWord.TheVariants as object
 use Rattle.job_hints.specs.Advice.{or_advice}
 use Rattle.job_hints.specs.Words.{word_advice}
 use Rattle.job_hints.specs.Numbers.{is_digit_byte}
@@ -56,15 +56,24 @@ version_advice text =
 
 -- ---- the hint where no token begins
 
--- what a job has in place of what is called after a dot: `trio.Event()`, and methods
+-- what a job has in place of what is called after a dot, of channels and limiters
+abbrev pub object_method_advice : List ℕ → Option Advice
+object_method_advice rest =
+    if starts_with nat_eq rest (codes ".open_memory_channel(") then Some (advice.Object object.OpenChannel)
+    else if starts_with nat_eq rest (codes ".CapacityLimiter(") then Some (advice.Object object.CapacityLimiter)
+    else if starts_with nat_eq rest (codes ".send(") then Some (advice.Object object.Send)
+    else if starts_with nat_eq rest (codes ".receive(") then Some (advice.Object object.Receive)
+    else if starts_with nat_eq rest (codes ".acquire(") then Some (advice.Object object.Acquire)
+    else if starts_with nat_eq rest (codes ".close(") || starts_with nat_eq rest (codes ".aclose(") then Some (advice.Object object.Close)
+    else None
+
+-- the same of events, and otherwise of these: `trio.Event()`, and methods
 abbrev pub method_advice : List ℕ → Option Advice
 method_advice rest =
     if starts_with nat_eq rest (codes ".Event(") then Some (advice.Trio trio.Event)
     else if starts_with nat_eq rest (codes ".set(") then Some (advice.Trio trio.SetEvent)
     else if starts_with nat_eq rest (codes ".wait(") then Some (advice.Trio trio.WaitEvent)
-    else if starts_with nat_eq rest (codes ".send(") || starts_with nat_eq rest (codes ".receive(")
-    || starts_with nat_eq rest (codes ".acquire(") then Some (advice.Other other.Channel)
-    else None
+    else object_method_advice rest
 
 -- what is left after the digits with which a text begins
 abbrev pub after_digits : List ℕ → List ℕ

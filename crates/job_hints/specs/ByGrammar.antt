@@ -8,12 +8,13 @@ use Rattle.job_syntax.specs.declared.keyword.Keyword.{Keyword}
 use Rattle.job_syntax.specs.declared.keyword.Keyword.TheVariants as word
 use Rattle.job_syntax.specs.declared.nonterminal.Nonterminal.{Nonterminal}
 use Rattle.job_syntax.specs.declared.nonterminal.Nonterminal.TheVariants as nonterminal
-use Rattle.job_syntax.specs.Keywords.{keyword_of}
+use Rattle.job_syntax.specs.Keywords.{is_kept, keyword_of}
 use Rattle.job_syntax.specs.Nonterminals.{◌>>=◌, Rest, next}
 use Rattle.job_hints.specs.declared.advice.Advice.{Advice}
 use Rattle.job_hints.specs.declared.advice.Advice.TheVariants as advice
 use Rattle.job_hints.specs.declared.block.BlockAdvice.{BlockAdvice}
 use Rattle.job_hints.specs.declared.block.BlockAdvice.TheVariants as block
+use Rattle.job_hints.specs.declared.number.NumberAdvice.TheVariants as number
 use Rattle.job_hints.specs.Advice.{or_advice}
 use Rattle.job_hints.specs.Words.{word_advice}
 
@@ -97,10 +98,14 @@ abbrev pub newest_over : Option Keyword → Option Advice
 newest_over (Some word.Over) = Some advice.NewestFormat
 newest_over _ = None
 
+-- where a number is to be after a name, which is that of a limiter or channel
+abbrev pub uncounted_advice : Option Keyword → Option Advice
+uncounted_advice before = if is_kept before then None else Some (advice.Number number.Uncounted)
+
 -- where a number is to be, given the keyword before it
 abbrev pub number_place_advice : Option Keyword → Shape → Option Advice
 number_place_advice (Some word.Repeat) shape = newest_over (keyword_in (Some shape))
-number_place_advice _ shape = None
+number_place_advice before shape = uncounted_advice before
 
 -- ---- steps
 

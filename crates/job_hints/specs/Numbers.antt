@@ -6,6 +6,7 @@ use Rattle.job_tree.specs.Words.{is_digit}
 use Rattle.job_tokens.specs.declared.token.Shape.{Shape}
 use Rattle.job_syntax.specs.declared.keyword.Keyword.{Keyword}
 use Rattle.job_syntax.specs.declared.keyword.Keyword.TheVariants as word
+use Rattle.job_syntax.specs.Ranges.{object_named}
 use Rattle.job_hints.specs.declared.advice.Advice.{Advice}
 use Rattle.job_hints.specs.declared.advice.Advice.TheVariants as advice
 use Rattle.job_hints.specs.declared.number.NumberAdvice.TheVariants as number
@@ -34,7 +35,19 @@ range_advice format (Some word.Pace) = advice.Number number.Pace
 range_advice format (Some word.Repeat) = passes_advice format
 range_advice format _ = advice.Number number.Other
 
--- the hint for a refused number, given the token before it and the text from it on
-abbrev pub number_advice : Format → Option Shape → List ℕ → Advice
-number_advice format before rest =
-    if has_leading_zero rest then advice.Number number.LeadingZero else range_advice format (keyword_in before)
+-- the range of a number after the name of a limiter or channel, or otherwise this
+abbrev pub named_advice : Advice → Option Keyword → Advice
+named_advice other (Some word.Limiter) = advice.Number number.Tokens
+named_advice other (Some word.Channel) = advice.Number number.Places
+named_advice other _ = other
+
+-- the range of a number after a token, which comes after this keyword
+abbrev pub advice_after : Format → Option Keyword → Option Shape → Advice
+advice_after format earlier None = range_advice format None
+advice_after format earlier (Some before) =
+    named_advice (range_advice format (keyword_in (Some before))) (object_named format earlier before)
+
+-- the hint for a refused number, given the two tokens before it and the text from it on
+abbrev pub number_advice : Format → (earlier before : Option Shape) → List ℕ → Advice
+number_advice format earlier before rest =
+    if has_leading_zero rest then advice.Number number.LeadingZero else advice_after format (keyword_in earlier) before

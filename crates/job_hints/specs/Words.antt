@@ -7,6 +7,7 @@ use Rattle.job_syntax.specs.Nonterminals.{◌>>=◌}
 use Rattle.job_hints.specs.declared.advice.Advice.{Advice}
 use Rattle.job_hints.specs.declared.advice.Advice.TheVariants as advice
 use Rattle.job_hints.specs.declared.words.TrioWord.TheVariants as trio
+use Rattle.job_hints.specs.declared.shared.ObjectWord.TheVariants as object
 use Rattle.job_hints.specs.declared.words.OtherWord.TheVariants as other
 use Rattle.job_hints.specs.Advice.{or_advice}
 
@@ -25,11 +26,17 @@ trio_advice word =
 
 -- ---- words of other languages and libraries
 
-abbrev pub is_channel : List ℕ → Bool
-is_channel word =
-    bytes_eq word (codes "send") || bytes_eq word (codes "receive") || bytes_eq word (codes "acquire")
-    || bytes_eq word (codes "open_memory_channel") || bytes_eq word (codes "CapacityLimiter") || bytes_eq word (codes "Semaphore")
-    || bytes_eq word (codes "Lock") || bytes_eq word (codes "Queue")
+abbrev pub is_lock : List ℕ → Bool
+is_lock word = bytes_eq word (codes "Lock") || bytes_eq word (codes "Semaphore")
+
+-- what a job has in place of a word that other programs call a limiter or a channel
+abbrev pub object_advice : List ℕ → Option Advice
+object_advice word =
+    if bytes_eq word (codes "open_memory_channel") then Some (advice.Object object.OpenChannel)
+    else if bytes_eq word (codes "CapacityLimiter") then Some (advice.Object object.CapacityLimiter)
+    else if bytes_eq word (codes "Queue") then Some (advice.Object object.Queue)
+    else if is_lock word then Some (advice.Object object.Lock)
+    else None
 
 abbrev pub is_condition : List ℕ → Bool
 is_condition word = bytes_eq word (codes "if") || bytes_eq word (codes "else") || bytes_eq word (codes "elif")
@@ -57,8 +64,7 @@ is_group word = bytes_eq word (codes "TaskGroup") || bytes_eq word (codes "creat
 -- what a job has in place of such a word
 abbrev pub other_advice : List ℕ → Option Advice
 other_advice word =
-    if is_channel word then Some (advice.Other other.Channel)
-    else if is_condition word then Some (advice.Other other.Condition)
+    if is_condition word then Some (advice.Other other.Condition)
     else if is_loop word then Some (advice.Other other.Loop)
     else if is_exit word then Some (advice.Other other.Exit)
     else if bytes_eq word (codes "catch") then Some (advice.Other other.Catch)
@@ -70,10 +76,10 @@ other_advice word =
     else if is_group word then Some (advice.Other other.Group)
     else None
 
--- ---- both
+-- ---- all
 
 abbrev pub foreign_advice : List ℕ → Option Advice
-foreign_advice word = or_advice (trio_advice word) (other_advice word)
+foreign_advice word = or_advice (trio_advice word) (or_advice (object_advice word) (other_advice word))
 
 -- the advice on the word of a token
 abbrev pub word_advice : Option Shape → Option Advice

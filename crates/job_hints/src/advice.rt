@@ -4,6 +4,7 @@ ghost use Rattle.job_hints.specs.Advice.{advice_text};
 use crate::block::BlockAdvice;
 use crate::number::NumberAdvice;
 use crate::python::PythonSyntax;
+use crate::shared::ObjectWord;
 use crate::words::{OtherWord, TrioWord};
 
 /// A hint that is always the same sentence.
@@ -29,7 +30,7 @@ pub enum Advice {
     NewerFormat,
     /// What is there would be allowed in format 3, and not in format 2.
     NewestFormat,
-    /// A scope, nursery, start or job without a name.
+    /// A job, or a block or step that has a name, without one.
     Unnamed,
     /// The words in the head of a scope in another order.
     HeadOrder,
@@ -43,6 +44,8 @@ pub enum Advice {
     Python(PythonSyntax),
     /// A word of a program on Trio.
     Trio(TrioWord),
+    /// What is called in another way, of limiters and channels.
+    Object(ObjectWord),
     /// A word of another language or library.
     Other(OtherWord),
 }
@@ -73,7 +76,7 @@ impl Advice {
             Advice::NewestFormat =>
                 "format 3 has this: begin the job text with the line `trio-job 3`\n",
             Advice::Unnamed =>
-                "each job, scope, nursery, event and start has a name, as in `scope work after 5 { .. }`\n",
+                "each job, scope, nursery, event, limiter, channel and start has a name, as in `scope work after 5 { .. }`\n",
             Advice::HeadOrder =>
                 "the head of a scope is `scope NAME after N shield fail`, in this order\n",
             Advice::StartInside => {
@@ -83,6 +86,7 @@ impl Advice {
             Advice::Number(advice) => advice.text(),
             Advice::Python(syntax) => syntax.text(),
             Advice::Trio(word) => word.text(),
+            Advice::Object(word) => word.text(),
             Advice::Other(word) => word.text(),
         }
     }

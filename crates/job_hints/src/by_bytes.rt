@@ -4,7 +4,8 @@ ghost use Rattle.job_hints.specs.ByBytes.{has_order_mark, has_returns, has_blank
 use crate::advice::Advice;
 use crate::number::{NumberAdvice, is_digit_byte};
 use crate::python::PythonSyntax;
-use crate::words::{OtherWord, TrioWord, word_advice};
+use crate::shared::object_method_advice;
+use crate::words::{TrioWord, word_advice};
 use job_tokens::Shape;
 use job_tree::{is_digit, is_word_byte};
 
@@ -92,13 +93,8 @@ fn method_advice(rest: &[u8]) -> Option<Advice>
         Some(Advice::Trio(TrioWord::SetEvent))
     } else if rest.starts_with(b".wait(") {
         Some(Advice::Trio(TrioWord::WaitEvent))
-    } else if rest.starts_with(b".send(")
-        || rest.starts_with(b".receive(")
-        || rest.starts_with(b".acquire(")
-    {
-        Some(Advice::Other(OtherWord::Channel))
     } else {
-        None
+        object_method_advice(rest)
     }
 }
 

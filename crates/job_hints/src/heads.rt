@@ -1,11 +1,12 @@
 //! The heads of blocks: what is between the word that begins a block and its `{`.
 ghost use Rattle.std.specs.Prelude.{◌≡◌};
-ghost use Rattle.job_hints.specs.ByGrammar.{is_head_word, is_head, keyword_in, unnamed_advice, order_advice, of_scope_advice, bound_advice, newest_over, number_place_advice, nursery_advice, nursery_order_advice, over_advice, open_advice};
+ghost use Rattle.job_hints.specs.ByGrammar.{is_head_word, is_head, keyword_in, unnamed_advice, order_advice, of_scope_advice, bound_advice, newest_over, uncounted_advice, number_place_advice, nursery_advice, nursery_order_advice, over_advice, open_advice};
 
 use crate::advice::Advice;
 use crate::block::BlockAdvice;
 use crate::by_grammar::keyword_in;
-use job_syntax::Keyword;
+use crate::number::NumberAdvice;
+use job_syntax::{Keyword, is_kept};
 use job_tokens::Shape;
 
 // Returns the sentence after a name that is a word of a head: the name is missing.
@@ -80,14 +81,26 @@ pub(crate) fn open_advice(before: Option<Shape>, shape: &Shape) -> Option<Advice
     }
 }
 
-// Returns the sentence for a token where a number is to be, after another token: that format 3 has `repeat over`.
+// Returns the sentence for a token where a number is to be, after another token: that format 3 has `repeat over`, or that a
+// limiter or channel lacks its number.
 pub(crate) fn number_place_advice(before: Option<Shape>, shape: &Shape) -> Option<Advice>
     ensures { result ≡ number_place_advice (keyword_in before) shape.now }
 {
-    match keyword_in(before) {
+    let keyword = keyword_in(before);
+    match keyword {
         Some(Keyword::Repeat) => newest_over(keyword_in(Some(*shape))),
-        _ => None,
+        _ => uncounted_advice(keyword),
     }
+}
+
+// Returns that a limiter or channel lacks its number, if the token before is no keyword, or one that may be a name.
+fn uncounted_advice(before: Option<Keyword>) -> Option<Advice>
+    ensures { result ≡ uncounted_advice before }
+{
+    if is_kept(before) {
+        return None;
+    }
+    Some(Advice::Number(NumberAdvice::Uncounted))
 }
 
 // Returns that format 3 has `over` after `repeat`, if the word is that.

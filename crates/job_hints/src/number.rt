@@ -1,10 +1,10 @@
-ghost use Rattle.std.specs.Prelude.{◌≡◌};
+ghost use Rattle.std.specs.Prelude.{◌≡◌, Some};
 ghost use Rattle.job_hints.specs.Advice.{number_sentence};
-ghost use Rattle.job_hints.specs.Numbers.{is_digit_byte, number_advice, is_zero, has_leading_zero, range_advice, passes_advice};
+ghost use Rattle.job_hints.specs.Numbers.{is_digit_byte, number_advice, advice_after, is_zero, has_leading_zero, range_advice, passes_advice};
 
 use crate::advice::Advice;
 use crate::by_grammar::keyword_in;
-use job_syntax::Keyword;
+use job_syntax::{Keyword, object_named};
 use job_tokens::Shape;
 use job_tree::{Format, is_digit};
 
@@ -23,8 +23,14 @@ pub enum NumberAdvice {
     Pace,
     /// The number of passes of a `repeat` is out of its range.
     Passes,
+    /// The number of tokens of a limiter is out of its range.
+    Tokens,
+    /// The number of places of a channel is out of its range.
+    Places,
     /// Another number is out of its range.
     Other,
+    /// A limiter or a channel without a number.
+    Uncounted,
 }
 
 impl NumberAdvice {
@@ -41,20 +47,44 @@ impl NumberAdvice {
             NumberAdvice::Copies => "the number after `over` is from 1 to 64\n",
             NumberAdvice::Pace => "the number after `pace` is from 1 to 1000000\n",
             NumberAdvice::Passes => "the number after `repeat` is from 0 to 1000\n",
+            NumberAdvice::Tokens => "the number of tokens of a limiter is from 1 to 1000000\n",
+            NumberAdvice::Places => "the number of places of a channel is from 0 to 1000000\n",
             NumberAdvice::Other => "the number here is from 0 to 1000000000\n",
+            NumberAdvice::Uncounted => {
+                "a limiter has the number of its tokens after its name, a channel that of its places: `limiter NAME 2 { .. }`, `channel NAME 0 { .. }`\n"
+            }
         }
     }
 }
 
 /// Returns the hint for a number that is refused in a text of this format: that it has a leading zero, or the range of a number
-/// after the token before it. `rest` is the text from the number on.
-pub fn number_advice(format: Format, before: Option<Shape>, rest: &[u8]) -> Advice
-    ensures { result ≡ number_advice format before rest.now }
+/// after the two tokens before it, `earlier` and `before`. `rest` is the text from the number on.
+pub fn number_advice(
+    format: Format,
+    earlier: Option<Shape>,
+    before: Option<Shape>,
+    rest: &[u8],
+) -> Advice
+    ensures { result ≡ number_advice format earlier before rest.now }
 {
     if has_leading_zero(rest) {
         return Advice::Number(NumberAdvice::LeadingZero);
     }
-    range_advice(format, keyword_in(before))
+    match before {
+        Some(before) => advice_after(format, keyword_in(earlier), &before),
+        None => range_advice(format, None),
+    }
+}
+
+// Returns the range of a number after a token, which comes after this keyword.
+fn advice_after(format: Format, earlier: Option<Keyword>, before: &Shape) -> Advice
+    ensures { result ≡ advice_after format earlier (Some before.now) }
+{
+    match object_named(format, earlier, *before) {
+        Some(Keyword::Limiter) => Advice::Number(NumberAdvice::Tokens),
+        Some(Keyword::Channel) => Advice::Number(NumberAdvice::Places),
+        _ => range_advice(format, keyword_in(Some(*before))),
+    }
 }
 
 // Returns whether a number has a leading zero.

@@ -1,8 +1,9 @@
 ghost use Rattle.std.specs.Prelude.{◌≡◌};
 ghost use Rattle.job_hints.specs.Advice.{trio_sentence, other_sentence};
-ghost use Rattle.job_hints.specs.Words.{word_advice, foreign_advice, trio_advice, other_advice, is_channel, is_condition, is_loop, is_exit, is_task, is_timeout, is_group};
+ghost use Rattle.job_hints.specs.Words.{word_advice, foreign_advice, trio_advice, other_advice, is_condition, is_loop, is_exit, is_task, is_timeout, is_group};
 
 use crate::advice::Advice;
+use crate::shared::object_advice;
 use job_tokens::Shape;
 use job_tree::Name;
 
@@ -34,8 +35,6 @@ pub enum TrioWord {
 /// A word of another language or library for which a job has something else, or nothing.
 #[derive(Clone, Copy)]
 pub enum OtherWord {
-    /// A channel, a queue, a lock or a limiter.
-    Channel,
     /// A condition, such as `if`.
     Condition,
     /// A loop, such as `while`.
@@ -92,9 +91,6 @@ impl OtherWord {
         ensures { result.now ≡ other_sentence self }
     {
         match self {
-            OtherWord::Channel => {
-                "there are no channels, queues, locks and limiters: where a signal between tasks is enough, format 3 has `event NAME { .. }`\n"
-            }
             OtherWord::Condition => {
                 "there are no conditions: only an exception or a cancellation changes the course of a job\n"
             }
@@ -135,6 +131,9 @@ fn foreign_advice(word: Name) -> Option<Advice>
     if let Some(advice) = trio_advice(word.bytes()) {
         return Some(advice);
     }
+    if let Some(advice) = object_advice(word.bytes()) {
+        return Some(advice);
+    }
     other_advice(word.bytes())
 }
 
@@ -167,9 +166,7 @@ fn trio_advice(word: &[u8]) -> Option<Advice>
 fn other_advice(word: &[u8]) -> Option<Advice>
     ensures { result ≡ other_advice word.now }
 {
-    if is_channel(word) {
-        Some(Advice::Other(OtherWord::Channel))
-    } else if is_condition(word) {
+    if is_condition(word) {
         Some(Advice::Other(OtherWord::Condition))
     } else if is_loop(word) {
         Some(Advice::Other(OtherWord::Loop))
@@ -192,20 +189,6 @@ fn other_advice(word: &[u8]) -> Option<Advice>
     } else {
         None
     }
-}
-
-// Returns whether a word names a channel, a queue, a lock or a limiter, or what is done with one.
-fn is_channel(word: &[u8]) -> bool
-    ensures { result ≡ is_channel word.now }
-{
-    word == b"send".as_slice()
-        || word == b"receive".as_slice()
-        || word == b"acquire".as_slice()
-        || word == b"open_memory_channel".as_slice()
-        || word == b"CapacityLimiter".as_slice()
-        || word == b"Semaphore".as_slice()
-        || word == b"Lock".as_slice()
-        || word == b"Queue".as_slice()
 }
 
 // Returns whether a word begins or continues a condition.

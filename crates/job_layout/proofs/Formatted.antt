@@ -98,7 +98,7 @@ text_small text job (ts, is_of, none) =
 spelled_writable : (text : List ℕ) (job : Tree) → Spells text job → AreWritable (pieces_shapes (job_pieces job))
 spelled_writable text job (ts, is_of, none) =
     let spelled = tokens_spelled (may_have_comments text) (length text) (drop 11 text) ts None is_of.0 in
-    subst AreWritable is_of.1.1 (all_writable job.format None ts spelled (passed text ts job is_of none).numbers)
+    subst AreWritable is_of.1.1 (all_writable job.format ts spelled (passed text ts job is_of none).numbers)
 
 -- the tokens of a job, laid out so that they are apart, are read back
 laid_spells : (text : List ℕ) (job : Tree) (old : List Token) (ts : List SpacedToken) (css : List (List Comment)) → IsOf text old job →

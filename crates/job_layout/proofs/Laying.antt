@@ -1,7 +1,8 @@
 -- The tokens that are laid out are the tokens of the job, each apart from the one before it.
 use Rattle.std.proofs.Common.{◌≡◌, ℕ, ◌+◌, Bool, true, false, cond, ◌&&◌, List, [], ◌∷◌, ◌++◌, Option, Some, None, refl, sym, ap, ◌∙◌, append_assoc, append-nil}
 use Rattle.job_tree.specs.declared.deadline.Deadline.TheVariants.{Never, After, At}
-use Rattle.job_tree.specs.Tree.{Step, scope, nursery, event, start, repeat, attempt, Steps, stop, step, Handled, unhandled, except, Cleaned, uncleaned, finally, Tree}
+use Rattle.job_tree.specs.declared.object.Ask.TheVariants.{Acquire, Send, Receive}
+use Rattle.job_tree.specs.Tree.{Step, ask_for, scope, nursery, event, object, start, repeat, attempt, Steps, stop, step, Handled, unhandled, except, Cleaned, uncleaned, finally, Tree}
 use Rattle.job_tokens.specs.declared.token.Mark.TheVariants as mark
 use Rattle.job_tokens.specs.declared.token.Shape.{Shape}
 use Rattle.job_tokens.specs.declared.token.Shape.TheVariants as shape
@@ -105,6 +106,10 @@ plain_tail : (s : Step) (rest : List Piece) → is_plain s ≡ true → tail_ont
 plain_tail (scope name deadline shield fail body) rest is = absurd cc
 plain_tail (nursery name deadline shield body) rest is = absurd cc
 plain_tail (event name body) rest is = absurd cc
+plain_tail (object name kind body) rest is = absurd cc
+plain_tail (ask_for name Acquire body) rest is = absurd cc
+plain_tail (ask_for name Send body) rest is = refl
+plain_tail (ask_for name Receive body) rest is = absurd cc
 plain_tail (start name over body) rest is = absurd cc
 plain_tail (repeat count over body) rest is = absurd cc
 plain_tail (attempt body handler cleanup) rest is = absurd cc
@@ -197,6 +202,14 @@ mutual
   rest_lays bare level (nursery name deadline shield body) left before =
       block_lays bare level body (with_steps bare (level + 1) body) left (steps_lay bare (level + 1) body) before
   rest_lays bare level (event name body) left before =
+      block_lays bare level body (with_steps bare (level + 1) body) left (steps_lay bare (level + 1) body) before
+  rest_lays bare level (object name kind body) left before =
+      block_lays bare level body (with_steps bare (level + 1) body) left (steps_lay bare (level + 1) body) before
+  rest_lays bare level (ask_for name Acquire body) left before =
+      block_lays bare level body (with_steps bare (level + 1) body) left (steps_lay bare (level + 1) body) before
+  rest_lays bare level (ask_for name Send body) left before =
+      lays_more before (semicolon_mark ∷ []) (λ rest. ends ∷ left rest) left (λ rest. refl) (refl, tt)
+  rest_lays bare level (ask_for name Receive body) left before =
       block_lays bare level body (with_steps bare (level + 1) body) left (steps_lay bare (level + 1) body) before
   rest_lays bare level (start name over body) left before =
       block_lays bare level body (with_steps bare (level + 1) body) left (steps_lay bare (level + 1) body) before

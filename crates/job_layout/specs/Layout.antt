@@ -3,14 +3,14 @@
 -- before. `bare` says for each token whether there is no comment before it.
 use Rattle.std.specs.Prelude.{ℕ, ◌+◌, ◌-◌, Bool, true, false, ◌&&◌, ◌==◌, nat_le, List, [], ◌∷◌, ◌++◌, length, map, take, drop, Option, Some, None, if◌then◌else◌}
 use Rattle.std.specs.List.{list_all}
-use Rattle.job_tree.specs.Tree.{Step, scope, nursery, event, start, repeat, attempt, Steps, stop, step, Handled, unhandled, except, Cleaned, uncleaned, finally, Tree}
+use Rattle.job_tree.specs.Tree.{Step, ask_for, scope, nursery, event, object, start, repeat, attempt, Steps, stop, step, Handled, unhandled, except, Cleaned, uncleaned, finally, Tree}
 use Rattle.job_tokens.specs.declared.token.Mark.TheVariants as mark
 use Rattle.job_tokens.specs.declared.token.Shape.{Shape}
 use Rattle.job_tokens.specs.Lexing.{has_comments}
 use Rattle.job_tokens.specs.Comments.{Comment, comments_along}
 use Rattle.job_syntax.specs.declared.keyword.Keyword.TheVariants as word
 use Rattle.job_syntax.specs.declared.role.Role.TheVariants as role
-use Rattle.job_syntax.specs.Pieces.{shapes_in, keyword, name_piece, job_pieces}
+use Rattle.job_syntax.specs.Pieces.{shapes_in, block_or_end, keyword, name_piece, job_pieces}
 use Rattle.job_reader.specs.Refusals.{first_line}
 use Rattle.job_layout.specs.Heads.{head_of, is_plain}
 use Rattle.job_layout.specs.declared.spaced.Gap.TheVariants as gaps
@@ -76,6 +76,9 @@ abbrev mutual
   with_rest bare level (scope name deadline shield fail body) before = with_block bare level body (with_steps bare (level + 1) body) before
   with_rest bare level (nursery name deadline shield body) before = with_block bare level body (with_steps bare (level + 1) body) before
   with_rest bare level (event name body) before = with_block bare level body (with_steps bare (level + 1) body) before
+  with_rest bare level (object name kind body) before = with_block bare level body (with_steps bare (level + 1) body) before
+  with_rest bare level (ask_for name ask body) before =
+      block_or_end ask (with_block bare level body (with_steps bare (level + 1) body) before) (before ++ semicolon_mark ∷ [])
   with_rest bare level (start name over body) before = with_block bare level body (with_steps bare (level + 1) body) before
   with_rest bare level (repeat count over body) before = with_block bare level body (with_steps bare (level + 1) body) before
   with_rest bare level (attempt body handler cleanup) before =

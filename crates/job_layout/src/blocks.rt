@@ -1,15 +1,16 @@
-ghost use Rattle.std.specs.Prelude.{◌≡◌, ◌++◌, ◌+◌, ◌-◌, Some, None, OnOk, IfOk, MatchOption};
+ghost use Rattle.std.specs.Prelude.{◌≡◌, ◌++◌, ◌∷◌, ◌+◌, ◌-◌, [], Some, None, OnOk, IfOk, MatchOption};
 ghost use Rattle.job_tree.specs.Blocks.{step_of, steps_of, handled_of, cleaned_of};
-ghost use Rattle.job_syntax.specs.Depth.{AreWithin, IsWithin, IsHandlerWithin, IsCleanupWithin};
+ghost use Rattle.job_syntax.specs.Pieces.{block_or_end};
+ghost use Rattle.job_syntax.specs.Depth.{AreWithin, IsWithin, IsGrantWithin, IsHandlerWithin, IsCleanupWithin};
 ghost use Rattle.job_reader.specs.Jobs.{IsReadable};
 ghost use Rattle.job_layout.specs.Spaced.{after_gap};
-ghost use Rattle.job_layout.specs.Layout.{one_line, fitting_line, with_steps, with_step, with_rest, with_block, with_handler, with_cleanup, job_tokens};
+ghost use Rattle.job_layout.specs.Layout.{one_line, fitting_line, with_steps, with_step, with_rest, semicolon_mark, with_block, with_handler, with_cleanup, job_tokens};
 ghost use Rattle.job_layout.specs.Columns.{IsNested};
 
 use crate::layout::Layout;
 use crate::lines::{after_gap, head_of, one_line};
 use crate::spaced::{Gap, SpacedToken};
-use job_reader::{Body, Handler, Job, Step, push_keyword, push_named};
+use job_reader::{Ask, Body, Handler, Job, Step, push_keyword, push_named};
 use job_syntax::Keyword;
 use job_tokens::{Mark, Shape};
 use std::alloc::{AllocError, Global};
@@ -98,6 +99,8 @@ fn push_rest(
         Step::Scope { body, .. } => push_block(layout, alloc, bare, level, body.as_slice()),
         Step::Nursery { body, .. } => push_block(layout, alloc, bare, level, body.as_slice()),
         Step::Event { body, .. } => push_block(layout, alloc, bare, level, body.as_slice()),
+        Step::Object { body, .. } => push_block(layout, alloc, bare, level, body.as_slice()),
+        Step::Ask { ask, body, .. } => push_grant(layout, alloc, bare, level, *ask, body),
         Step::Start { body, .. } => push_block(layout, alloc, bare, level, body.as_slice()),
         Step::Repeat { body, .. } => push_block(layout, alloc, bare, level, body.as_slice()),
         Step::Try {
@@ -111,6 +114,28 @@ fn push_rest(
             Ok(())
         }
         _ => layout.push(alloc, Gap::Joined, Shape::Mark(Mark::Semicolon)),
+    }
+}
+
+// Appends what follows the head of a step that asks for something: its block, or the semicolon of a `send`.
+#[cycle(blocks)]
+fn push_grant(
+    layout: &mut Layout,
+    alloc: Global,
+    bare: &[bool],
+    level: u64,
+    ask: Ask,
+    body: &Body,
+) -> Result<(), AllocError>
+    requires { IsGrantWithin (32 - level) ask body.now }
+    ensures { OnOk result (layout.new ≡ block_or_end ask
+        (with_block bare.now level body.now (with_steps bare.now (level + 1) body.now) layout.old)
+        (layout.old ++ semicolon_mark ∷ [])) }
+{
+    match ask {
+        Ask::Acquire => push_block(layout, alloc, bare, level, body.as_slice()),
+        Ask::Receive => push_block(layout, alloc, bare, level, body.as_slice()),
+        Ask::Send => layout.push(alloc, Gap::Joined, Shape::Mark(Mark::Semicolon)),
     }
 }
 

@@ -1,13 +1,14 @@
-ghost use Rattle.std.specs.Prelude.{◌≡◌, ◌++◌, ◌∷◌, [], Some, None, IfOk, OnOk, MatchOption};
+ghost use Rattle.std.specs.Prelude.{◌≡◌, ◌++◌, ◌∷◌, [], Some, None, true, false, IfOk, OnOk, MatchOption};
 ghost use Rattle.job_tree.specs.Blocks.{step_of, steps_of};
 ghost use Rattle.job_tokens.specs.declared.token.Mark.TheVariants as mark;
+ghost use Rattle.job_syntax.specs.Pieces.{block_or_end};
 ghost use Rattle.job_layout.specs.Heads.{head_of, is_plain};
 ghost use Rattle.job_layout.specs.declared.spaced.Gap.TheVariants as gaps;
 ghost use Rattle.job_layout.specs.Spaced.{spaced_tokens, after_gap, mark_after};
 ghost use Rattle.job_layout.specs.Layout.{one_line};
 
 use crate::spaced::{Gap, SpacedToken};
-use job_reader::{Step, push_head};
+use job_reader::{Ask, Step, push_head};
 use job_tokens::{Mark, Shape};
 use std::alloc::{AllocError, Global};
 
@@ -41,10 +42,23 @@ fn is_plain(step: &Step) -> bool
         Step::Scope { .. } => false,
         Step::Nursery { .. } => false,
         Step::Event { .. } => false,
+        Step::Object { .. } => false,
+        Step::Ask { ask, .. } => is_end(*ask),
         Step::Start { .. } => false,
         Step::Repeat { .. } => false,
         Step::Try { .. } => false,
         _ => true,
+    }
+}
+
+// Returns whether a step that asks for this ends after the name: whether it has no block.
+fn is_end(ask: Ask) -> bool
+    ensures { result ≡ block_or_end ask false true }
+{
+    match ask {
+        Ask::Acquire => false,
+        Ask::Send => true,
+        Ask::Receive => false,
     }
 }
 

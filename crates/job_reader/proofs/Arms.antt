@@ -48,12 +48,12 @@ tokens_read text tokens before lexed = record { tokens_are = lexed; passes = pas
 
 -- the first number out of its range is a refusal of a text that passed the check for tokens
 pub number_refused : (text : List ℕ) (tokens : List Token) (at : ℕ) → IsReadTo 4 text tokens →
-    number_fault (format_of text) None tokens ≡ Some at →
+    number_fault (format_of text) tokens ≡ Some at →
     IsRefused text kind.Number at
 number_refused text tokens at read found = refused_after text 4 kind.Number at read.passes refl (tokens, read.tokens_are, found)
 
 -- if no number is out of its range, the text passes the check for numbers
-pub numbers_read : (text : List ℕ) (tokens : List Token) → IsReadTo 4 text tokens → number_fault (format_of text) None tokens ≡ None →
+pub numbers_read : (text : List ℕ) (tokens : List Token) → IsReadTo 4 text tokens → number_fault (format_of text) tokens ≡ None →
     IsReadTo 5 text tokens
 numbers_read text tokens read none =
     record { tokens_are = read.tokens_are; passes = passes_numbers text tokens read.passes read.tokens_are none }

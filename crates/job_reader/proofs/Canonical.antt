@@ -21,7 +21,7 @@ use Rattle.job_tree.specs.Names.{size_of}
 use Rattle.job_syntax.specs.declared.keyword.Keyword.{Keyword}
 use Rattle.job_syntax.specs.Pieces.{shapes_in, job_pieces}
 use Rattle.job_syntax.specs.Syntax.{fault_at, whole_job}
-use Rattle.job_syntax.specs.Ranges.{number_fault, is_in_range, keyword_in}
+use Rattle.job_syntax.specs.Ranges.{number_fault, fault_after, is_in_range, object_named, keyword_in}
 use Rattle.job_syntax.specs.Depth.{depth_fault}
 use Rattle.job_syntax.proofs.Places.{fault_at-text}
 use Rattle.job_syntax.proofs.Names.{text_of_job}
@@ -50,7 +50,7 @@ went_on false o at e = absurd (no_some at (sym e))
 
 -- the checks along the tokens of a job find nothing
 pub record PassesTokens (ts : List Token) (job : Tree) : Type 0 where
-  pub numbers : number_fault job.format None ts ≡ None
+  pub numbers : number_fault job.format ts ≡ None
   pub depth : depth_fault 0 ts ≡ None
   pub given : twice_in [] ts (roles_of job) ≡ None
   pub uses : stray_of job ts (roles_of job) ≡ None
@@ -60,10 +60,10 @@ pub record PassesTokens (ts : List Token) (job : Tree) : Type 0 where
 -- this does not depend on the places of the tokens
 by_shapes : (ts us : List Token) (job : Tree) → shapes_of ts ≡ shapes_of us → PassesTokens ts job → PassesTokens us job
 by_shapes ts us job e old = record {
-  numbers = numbers_by_shapes job.format None ts us e old.numbers;
+  numbers = numbers_by_shapes job.format ts us e old.numbers;
   depth = depth_by_shapes 0 ts us e old.depth;
   given = twice_by_shapes [] ts us (roles_of job) e old.given;
-  uses = stray_by_shapes (uses_of [] [] job.steps) ts us (roles_of job) e old.uses;
+  uses = stray_by_shapes (uses_of [] job.steps) ts us (roles_of job) e old.uses;
   reserved = reserved_by_shapes ts us (roles_of job) e old.reserved;
   size = old.size;
 }
@@ -72,8 +72,8 @@ by_shapes ts us job e old = record {
 pub passed : (text : List ℕ) (ts : List Token) (job : Tree) → IsOf text ts job → ((k : JobKind) (at : ℕ) → Finds k text at → ⊥) →
     PassesTokens ts job
 passed text ts job is_of none = record {
-  numbers = none_of (number_fault job.format None ts) (λ at e. none kind.Number at
-      (ts, is_of.0, ap (λ (format : Format). number_fault format None ts) (sym is_of.2) ∙ e));
+  numbers = none_of (number_fault job.format ts) (λ at e. none kind.Number at
+      (ts, is_of.0, ap (λ (format : Format). number_fault format ts) (sym is_of.2) ∙ e));
   depth = none_of (depth_fault 0 ts) (λ at e. none kind.Depth at (ts, is_of.0, e));
   given = none_of (twice_in [] ts (roles_of job)) (λ at e. none kind.Twice at (ts, job, is_of, e));
   uses = none_of (stray_of job ts (roles_of job)) (λ at e. none kind.NotEnclosing at (ts, job, is_of, e));
@@ -82,20 +82,26 @@ passed text ts job is_of none = record {
 }
 
 -- numbers in their ranges can be written
-writable : (format : Format) (before : Option Keyword) (s : Shape) → IsSpelled s → is_in_range format before s ≡ true → IsWritable s
-writable format before (shape.Word word) is in_range = is
-writable format before (shape.Number None) is in_range = absurd cc
-writable format before (shape.Number (Some n)) is in_range = is
-writable format before (shape.Text text) is in_range = is
-writable format before (shape.Mark mark) is in_range = is
+writable : (format : Format) (named before : Option Keyword) (s : Shape) → IsSpelled s → is_in_range format named before s ≡ true → IsWritable s
+writable format named before (shape.Word word) is in_range = is
+writable format named before (shape.Number None) is in_range = absurd cc
+writable format named before (shape.Number (Some n)) is in_range = is
+writable format named before (shape.Text text) is in_range = is
+writable format named before (shape.Mark mark) is in_range = is
+
+written_after : (format : Format) (named before : Option Keyword) (ts : List Token) → AreSpelled ts → fault_after format named before ts ≡ None →
+    AreWritable (shapes_of ts)
+written_after format named before [] are none = tt
+written_after format named before (t ∷ ts) are none =
+    let parts = went_on (is_in_range format named before t.shape)
+    (fault_after format (object_named format before t.shape) (keyword_in t.shape) ts) t.at none in (
+      writable format named before t.shape are.0 parts.0,
+      written_after format (object_named format before t.shape) (keyword_in t.shape) ts are.1 parts.1,
+    )
 
 -- so do all tokens of a text whose numbers are in range
-pub all_writable : (format : Format) (before : Option Keyword) (ts : List Token) → AreSpelled ts → number_fault format before ts ≡ None →
-    AreWritable (shapes_of ts)
-all_writable format before [] are none = tt
-all_writable format before (t ∷ ts) are none =
-    let parts = went_on (is_in_range format before t.shape) (number_fault format (keyword_in t.shape) ts) t.at none in
-    (writable format before t.shape are.0 parts.0, all_writable format (keyword_in t.shape) ts are.1 parts.1)
+pub all_writable : (format : Format) (ts : List Token) → AreSpelled ts → number_fault format ts ≡ None → AreWritable (shapes_of ts)
+all_writable format ts are none = written_after format None None ts are none
 
 -- ---- the checks of the canonical text
 
@@ -145,8 +151,8 @@ passing_spells : (text : List ℕ) (ts : List Token) (job : Tree) → length tex
     take 11 text ≡ first_line job.format → IsOf text ts job → PassesTokens ts job → Spells text job
 passing_spells text ts job short ascii headed is_of found =
     let lexed = is_of.0 in
-    let numbers : number_fault (format_of text) None ts ≡ None =
-    subst (λ (format : Format). number_fault format None ts ≡ None) is_of.2 found.numbers in
+    let numbers : number_fault (format_of text) ts ≡ None =
+    subst (λ (format : Format). number_fault format ts ≡ None) is_of.2 found.numbers in
     let grammatical : fault_at (format_of text) (length text) whole_job ts ≡ None =
     subst (λ (format : Format). fault_at format (length text) whole_job ts ≡ None) is_of.2
     (fault_at-text job.format (length text) whole_job ts (text_of_job (shapes_of ts) job is_of.1.0 is_of.1.1)) in
@@ -207,7 +213,7 @@ canon_again text job ts lexed short long are found =
     let same = are.1 in
     let shapes = shapes_in (job_pieces job) in
     let spelled = tokens_spelled (may_have_comments text) (length text) (drop 11 text) ts None lexed in
-    let written : AreWritable shapes = subst AreWritable same (all_writable job.format None ts spelled found.numbers) in
+    let written : AreWritable shapes = subst AreWritable same (all_writable job.format ts spelled found.numbers) in
     let shortest : length (canon_of shapes) ≤ length (drop 11 text) =
     subst (λ (ss : List Shape). length (canon_of ss) ≤ length (drop 11 text)) same
     (canon_shortest (may_have_comments text) (length text) false (drop 11 text) ts tt lexed) in

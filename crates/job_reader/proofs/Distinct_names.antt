@@ -3,19 +3,22 @@ use Rattle.std.proofs.Common.{◌≡◌, ℕ, Bool, true, false, ◌||◌, List,
 use Rattle.std.specs.List.{AllByRecursion, IsDistinct}
 use Rattle.std.specs.Str.{bytes_eq}
 use Rattle.std.proofs.lemmas.Cmp.{nat_list_eq_equiv}
+use Rattle.job_tree.specs.declared.format.Format.{Format}
+use Rattle.job_tree.specs.Starting.{starts_in_pass}
 use Rattle.job_tree.specs.declared.deadline.Deadline.{Deadline}
 use Rattle.job_tree.specs.declared.deadline.Deadline.TheVariants.{Never, After, At}
-use Rattle.job_tree.specs.Tree.{Step, sleep, checkpoint, forever, pace, find, head, longest, need, raise, cancel, set_event, wait_for, scope, nursery, event, start, repeat, attempt, Steps, stop, step, Handled, unhandled, except, Cleaned, uncleaned, finally, Tree}
+use Rattle.job_tree.specs.declared.object.Ask.TheVariants.{Acquire, Send, Receive}
+use Rattle.job_tree.specs.Tree.{Step, sleep, checkpoint, forever, pace, find, head, longest, need, raise, cancel, set_event, wait_for, ask_for, close_channel, scope, nursery, event, object, start, repeat, attempt, Steps, stop, step, Handled, unhandled, except, Cleaned, uncleaned, finally, Tree}
 use Rattle.job_tree.specs.Names.{names_of, names_in, handled_names, cleaned_names, GivesNamesOnce}
 use Rattle.job_tokens.specs.declared.token.Shape.{Shape}
 use Rattle.job_tokens.specs.declared.token.Token.{Token}
 use Rattle.job_tokens.specs.Shapes.{shapes_of}
 use Rattle.job_syntax.specs.declared.keyword.Keyword.{Keyword}
 use Rattle.job_syntax.specs.declared.keyword.Keyword.TheVariants as word
-use Rattle.job_syntax.specs.Pieces.{Piece, shapes_in, roles_in, opens, deadline_pieces, flag_pieces, over_pieces, passes_pieces, steps_pieces, step_pieces, handler_pieces, cleanup_pieces, job_pieces}
+use Rattle.job_syntax.specs.Pieces.{Piece, shapes_in, roles_in, opens, deadline_pieces, flag_pieces, over_pieces, passes_pieces, steps_pieces, step_pieces, handler_pieces, cleanup_pieces, job_pieces, loop_inside, AreSteps, IsStep, IsHandler, IsCleanup}
 use Rattle.job_reader.specs.Given.{given_by, is_among, twice_at, twice_in}
 
-abbrev Names : Type 0
+abbrev pub Names : Type 0
 Names = List (List ℕ)
 
 -- ---- names one after the other
@@ -55,7 +58,7 @@ distinct known (n ∷ ns) none = (apart known [] n ns none.1, distinct (known ++
 -- ---- along the tokens
 
 -- a name, if there is one, followed by others
-abbrev with_name : Option (List ℕ) → Names → Names
+abbrev pub with_name : Option (List ℕ) → Names → Names
 with_name None names = names
 with_name (Some name) names = name ∷ names
 
@@ -122,57 +125,71 @@ in_turn : {all after : Names} (first second rest : Names) → all ≡ first ++ a
 in_turn first second rest e f = e ∙ ap (λ (ns : Names). first ++ ns) f ∙ sym (append_assoc first second rest)
 
 mutual
-  steps_give : (steps : Steps) (rest : List Piece) → given_in (steps_pieces steps rest) ≡ names_of steps ++ given_in rest
-  steps_give stop rest = refl
-  steps_give (step s ss) rest =
-      in_turn (names_in s) (names_of ss) (given_in rest) (step_gives s (steps_pieces ss rest)) (steps_give ss rest)
+  steps_give : (format : Format) (inside : Bool) (steps : Steps) (rest : List Piece) → AreSteps format inside steps →
+      given_in (steps_pieces steps rest) ≡ names_of steps ++ given_in rest
+  steps_give format inside stop rest are = refl
+  steps_give format inside (step s ss) rest are =
+      in_turn (names_in s) (names_of ss) (given_in rest) (step_gives format inside s (steps_pieces ss rest) are.0)
+      (steps_give format inside ss rest are.1)
 
-  step_gives : (s : Step) (rest : List Piece) → given_in (step_pieces s rest) ≡ names_in s ++ given_in rest
-  step_gives (sleep n) rest = refl
-  step_gives checkpoint rest = refl
-  step_gives forever rest = refl
-  step_gives (pace n) rest = refl
-  step_gives (find t) rest = refl
-  step_gives (head n) rest = refl
-  step_gives longest rest = refl
-  step_gives (need t n) rest = refl
-  step_gives (raise n) rest = refl
-  step_gives (cancel n) rest = refl
-  step_gives (set_event n) rest = refl
-  step_gives (wait_for n) rest = refl
-  step_gives (scope n d s f body) rest =
+  step_gives : (format : Format) (inside : Bool) (s : Step) (rest : List Piece) → IsStep format inside s →
+      given_in (step_pieces s rest) ≡ names_in s ++ given_in rest
+  step_gives format inside (sleep n) rest is = refl
+  step_gives format inside checkpoint rest is = refl
+  step_gives format inside forever rest is = refl
+  step_gives format inside (pace n) rest is = refl
+  step_gives format inside (find t) rest is = refl
+  step_gives format inside (head n) rest is = refl
+  step_gives format inside longest rest is = refl
+  step_gives format inside (need t n) rest is = refl
+  step_gives format inside (raise n) rest is = refl
+  step_gives format inside (cancel n) rest is = refl
+  step_gives format inside (set_event n) rest is = refl
+  step_gives format inside (wait_for n) rest is = refl
+  step_gives format inside (ask_for n Acquire body) rest is = steps_give format false body rest is.2
+  step_gives format inside (ask_for n Send stop) rest is = refl
+  step_gives format inside (ask_for n Send (step s ss)) rest is = absurd is.1
+  step_gives format inside (ask_for n Receive body) rest is = steps_give format false body rest is.2
+  step_gives format inside (close_channel n) rest is = refl
+  step_gives format inside (scope n d s f body) rest is =
       let block = opens ∷ steps_pieces body rest in
       let flagged = flag_pieces word.Fail f block in
       let shielded = flag_pieces word.Shield s flagged in
       let passed = past_deadline d shielded ∙ past_flag word.Shield s flagged ∙ past_flag word.Fail f block in
-      after_name n (passed ∙ steps_give body rest)
-  step_gives (nursery n d s body) rest =
+      after_name n (passed ∙ steps_give format false body rest is)
+  step_gives format inside (nursery n d s body) rest is =
       let block = opens ∷ steps_pieces body rest in
       let passed = past_deadline d (flag_pieces word.Shield s block) ∙ past_flag word.Shield s block in
-      after_name n (passed ∙ steps_give body rest)
-  step_gives (event n body) rest = after_name n (steps_give body rest)
-  step_gives (start n o body) rest = after_name n (past_over o (opens ∷ steps_pieces body rest) ∙ steps_give body rest)
-  step_gives (repeat n over body) rest = past_passes over n (opens ∷ steps_pieces body rest) ∙ steps_give body rest
-  step_gives (attempt body h c) rest =
+      after_name n (passed ∙ steps_give format true body rest is.1)
+  step_gives format inside (event n body) rest is = after_name n (steps_give format false body rest is.1)
+  step_gives format inside (object n kind body) rest is = after_name n (steps_give format false body rest is.1)
+  step_gives format inside (start n o body) rest is =
+      after_name n (past_over o (opens ∷ steps_pieces body rest) ∙ steps_give format false body rest is.1)
+  step_gives format inside (repeat n over body) rest is =
+      past_passes over n (opens ∷ steps_pieces body rest)
+      ∙ steps_give format (starts_in_pass over (loop_inside format inside)) body rest is.2
+  step_gives format inside (attempt body h c) rest is =
       let cleaned = cleanup_pieces c rest in
-      let inner = steps_give body (handler_pieces h cleaned) in
-      let handled = in_turn (names_of body) (handled_names h) (given_in cleaned) inner (handler_gives h cleaned) in
-      in_turn (names_of body ++ handled_names h) (cleaned_names c) (given_in rest) handled (cleanup_gives c rest)
+      let inner = steps_give format false body (handler_pieces h cleaned) is.1 in
+      let handled = in_turn (names_of body) (handled_names h) (given_in cleaned) inner (handler_gives format h cleaned is.2) in
+      in_turn (names_of body ++ handled_names h) (cleaned_names c) (given_in rest) handled (cleanup_gives format c rest is.3)
 
-  handler_gives : (h : Handled) (rest : List Piece) → given_in (handler_pieces h rest) ≡ handled_names h ++ given_in rest
-  handler_gives unhandled rest = refl
-  handler_gives (except n body) rest = steps_give body rest
+  handler_gives : (format : Format) (h : Handled) (rest : List Piece) → IsHandler format h →
+      given_in (handler_pieces h rest) ≡ handled_names h ++ given_in rest
+  handler_gives format unhandled rest is = refl
+  handler_gives format (except n body) rest is = steps_give format false body rest is
 
-  cleanup_gives : (c : Cleaned) (rest : List Piece) → given_in (cleanup_pieces c rest) ≡ cleaned_names c ++ given_in rest
-  cleanup_gives uncleaned rest = refl
-  cleanup_gives (finally body) rest = steps_give body rest
+  cleanup_gives : (format : Format) (c : Cleaned) (rest : List Piece) → IsCleanup format c →
+      given_in (cleanup_pieces c rest) ≡ cleaned_names c ++ given_in rest
+  cleanup_gives format uncleaned rest is = refl
+  cleanup_gives format (finally body) rest is = steps_give format false body rest is
 
 -- the names that the tokens of a job give are its own and those of its steps
-job_gives : (job : Tree) → given_in (job_pieces job) ≡ job.name ∷ names_of job.steps
-job_gives job = after_name job.name (steps_give job.steps [] ∙ append-nil (names_of job.steps))
+pub job_gives : (job : Tree) → AreSteps job.format false job.steps → given_in (job_pieces job) ≡ job.name ∷ names_of job.steps
+job_gives job are = after_name job.name (steps_give job.format false job.steps [] are ∙ append-nil (names_of job.steps))
 
 -- a job whose tokens give no name twice gives each name once
-pub names_once : (job : Tree) (tokens : List Token) → shapes_of tokens ≡ shapes_in (job_pieces job)
+pub names_once : (job : Tree) (tokens : List Token) → AreSteps job.format false job.steps → shapes_of tokens ≡ shapes_in (job_pieces job)
     → twice_in [] tokens (roles_in (job_pieces job)) ≡ None → GivesNamesOnce job
-names_once job tokens e none =
-    subst (IsDistinct bytes_eq) (job_gives job) (distinct [] (given_in (job_pieces job)) (none_twice [] tokens (job_pieces job) e none))
+names_once job tokens are e none =
+    subst (IsDistinct bytes_eq) (job_gives job are) (distinct [] (given_in (job_pieces job)) (none_twice [] tokens (job_pieces job) e none))

@@ -1,5 +1,6 @@
 pub mod ByShapes
 pub mod Distinct_names
+pub mod Free_names
 pub mod Passing
 pub mod Arms
 pub mod Canonical

@@ -120,10 +120,10 @@ here_token : (text : List ℕ) (tokens : List Token) → HasTokens text tokens N
 here_token text tokens lexed kind.Token at e finds = none_is_some None at refl (same_end text tokens finds.0 None (Some at) lexed finds.1)
 here_token text tokens lexed _ at e finds = absurd (omega arith)
 
-here_number : (text : List ℕ) (tokens : List Token) → HasTokens text tokens None → number_fault (format_of text) None tokens ≡ None →
+here_number : (text : List ℕ) (tokens : List Token) → HasTokens text tokens None → number_fault (format_of text) tokens ≡ None →
     (k : JobKind) (at : ℕ) → number_of k ≡ 5 → Finds k text at → ⊥
 here_number text tokens lexed none kind.Number at e finds =
-    none_is_some (number_fault (format_of text) None finds.0) at (subst (λ (ts : List Token). number_fault (format_of text) None ts ≡ None)
+    none_is_some (number_fault (format_of text) finds.0) at (subst (λ (ts : List Token). number_fault (format_of text) ts ≡ None)
     (same_tokens text tokens finds.0 None None lexed finds.1) none) finds.2
 here_number text tokens lexed none _ at e finds = absurd (omega arith)
 
@@ -230,7 +230,7 @@ passes_tokens text tokens before lexed = next_pass text 3 before (here_token tex
 
 -- if no number is out of its range, it also passes the check for numbers
 pub passes_numbers : (text : List ℕ) (tokens : List Token) → Passes text 4 → HasTokens text tokens None →
-    number_fault (format_of text) None tokens ≡ None →
+    number_fault (format_of text) tokens ≡ None →
     Passes text 5
 passes_numbers text tokens before lexed none = next_pass text 4 before (here_number text tokens lexed none)
 
@@ -284,7 +284,7 @@ one_place text kind.NotAscii a b below p q = sym p.0 ∙ q.0
 one_place text kind.Version a b below p q = p.1 ∙ sym q.1
 one_place text kind.Token a b below (ts, p) (us, q) = some_same a b (same_end text ts us (Some a) (Some b) p q)
 one_place text kind.Number a b below (ts, p, at_a) (us, q, at_b) =
-    some_is (number_fault (format_of text) None us) a b (subst (λ (xs : List Token). number_fault (format_of text) None xs ≡ Some a)
+    some_is (number_fault (format_of text) us) a b (subst (λ (xs : List Token). number_fault (format_of text) xs ≡ Some a)
     (same_tokens text ts us None None p q)
     at_a) at_b
 one_place text kind.Syntax a b below (ts, p, at_a) (us, q, at_b) =

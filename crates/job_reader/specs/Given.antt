@@ -8,7 +8,7 @@ use Rattle.job_tokens.specs.Shapes.{word_in}
 use Rattle.job_syntax.specs.declared.role.Role.{Role}
 use Rattle.job_syntax.specs.declared.role.Role.TheVariants.{Plain, Given, Raised, Handled, Target}
 
--- the name that a token gives to a job, scope, nursery, event or started task
+-- the name that a token gives to a job, scope, nursery, event, limiter, channel or started task
 abbrev pub given_by : Role → Shape → Option (List ℕ)
 given_by Plain shape = None
 given_by Given shape = word_in shape

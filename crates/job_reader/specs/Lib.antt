@@ -1,4 +1,5 @@
 pub mod Given
+pub mod Targets
 pub mod Uses
 pub mod Reserved
 pub mod Searches

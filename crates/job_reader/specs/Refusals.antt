@@ -64,9 +64,9 @@ IsOf text tokens job = HasTokens text tokens None × AreTokensOf tokens job × (
 abbrev pub roles_of : Tree → List Role
 roles_of job = roles_in (job_pieces job)
 
--- the place of the first `cancel` that names no enclosing scope or nursery, or `set` or `wait` that names no enclosing event
+-- the place of the first name that a step uses and that nothing of its kind around the step has
 abbrev pub stray_of : Tree → List Token → List Role → Option ℕ
-stray_of job tokens roles = stray_in (uses_of [] [] job.steps) (targets_in tokens roles)
+stray_of job tokens roles = stray_in (uses_of [] job.steps) (targets_in tokens roles)
 
 -- the text begins with the first line of no format
 abbrev pub IsHeadless : List ℕ → Type 0
@@ -78,7 +78,7 @@ Finds kind.TooLong text at = (most_bytes < length text) × (at ≡ most_bytes)
 Finds kind.NotAscii text at = (prefix_len (is_text_byte (format_of text)) text ≡ at) × (at < length text)
 Finds kind.Version text at = IsHeadless text × (at ≡ 0)
 Finds kind.Token text at = (tokens : List Token) × HasTokens text tokens (Some at)
-Finds kind.Number text at = (tokens : List Token) × HasTokens text tokens None × (number_fault (format_of text) None tokens ≡ Some at)
+Finds kind.Number text at = (tokens : List Token) × HasTokens text tokens None × (number_fault (format_of text) tokens ≡ Some at)
 Finds kind.Syntax text at = (tokens : List Token) × HasTokens text tokens None × LeavesAt (format_of text) (length text) whole_job tokens at
 Finds kind.Depth text at = (tokens : List Token) × HasTokens text tokens None × (depth_fault 0 tokens ≡ Some at)
 Finds kind.Twice text at = (tokens : List Token) × (job : Tree) × IsOf text tokens job × (twice_in [] tokens (roles_of job) ≡ Some at)

@@ -1,24 +1,18 @@
 -- The words that may not be names, and the first name of a job that is such a word.
-use Rattle.std.specs.Prelude.{ℕ, List, [], ◌∷◌, Bool, true, false, ◌||◌, not, Option, Some, None, codes, if◌then◌else◌}
+use Rattle.std.specs.Prelude.{ℕ, List, [], ◌∷◌, Bool, true, ◌||◌, not, Option, Some, None, codes, if◌then◌else◌}
 use Rattle.std.specs.Str.{bytes_eq}
 use Rattle.job_tokens.specs.declared.token.Shape.{Shape}
 use Rattle.job_tokens.specs.declared.token.Token.{Token}
 use Rattle.job_tokens.specs.Shapes.{word_in}
 use Rattle.job_syntax.specs.declared.role.Role.{Role}
 use Rattle.job_syntax.specs.declared.role.Role.TheVariants as role
-use Rattle.job_syntax.specs.declared.keyword.Keyword.{Keyword}
-use Rattle.job_syntax.specs.Keywords.{may_be_name, keyword_of}
+use Rattle.job_syntax.specs.Keywords.{is_kept, keyword_of}
 
 -- the name that no step may raise and no handler may have
 abbrev pub is_cancelled : List ℕ → Bool
 is_cancelled word = bytes_eq word (codes "Cancelled")
 
--- a keyword that may not be a name
-abbrev pub is_kept : Option Keyword → Bool
-is_kept None = false
-is_kept (Some k) = not (may_be_name k)
-
--- such a keyword, or `Cancelled`; the keywords that format 3 added are not reserved
+-- a keyword that may not be a name, or `Cancelled`; the keywords that format 3 added are not reserved
 abbrev pub is_reserved : List ℕ → Bool
 is_reserved word = is_kept (keyword_of word) || is_cancelled word
 

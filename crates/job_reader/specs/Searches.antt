@@ -3,12 +3,13 @@ use Rattle.std.specs.Prelude.{ℕ, List, [], ◌∷◌, Option}
 use Rattle.job_reader.specs.declared.uses.Search.{Search}
 use Rattle.job_reader.specs.declared.uses.Search.TheVariants.{Passed, Stopped}
 use Rattle.job_reader.specs.declared.uses.Around.{Around, Nothing, Inside'}
-use Rattle.job_reader.specs.Uses.{Use, targets_in, stray_in}
+use Rattle.job_reader.specs.Targets.{Named}
+use Rattle.job_reader.specs.Uses.{Use, inside, targets_in, stray_in}
 
--- the names of what encloses a block and is of one kind, the innermost first
-abbrev pub names_around : Around → List (List ℕ)
-names_around Nothing = []
-names_around (Inside' name p outer) = name.now ∷ names_around outer
+-- what encloses a block and can be named, the innermost first
+abbrev pub named_around : Around → List Named
+named_around Nothing = []
+named_around (Inside' kind name p outer) = inside kind name.now (named_around outer)
 
 -- the result of a search if these uses follow
 abbrev pub found_in : Search → List Use → Option ℕ

@@ -1,53 +1,65 @@
--- Which `cancel` names an enclosing scope or nursery, and which `set` and `wait` an enclosing event.
+-- Which names steps use, and the names of what encloses them and is of the kind that they use: a `cancel` uses a scope or nursery, `set`
+-- and `wait` an event, `acquire` a limiter, `send`, `receive` and `close` a channel.
 use Rattle.std.specs.Prelude.{ℕ, List, [], ◌∷◌, ◌++◌, Option, Some, None, if◌then◌else◌}
 use Rattle.job_tokens.specs.declared.token.Token.{Token}
 use Rattle.job_syntax.specs.declared.role.Role.{Role}
 use Rattle.job_syntax.specs.declared.role.Role.TheVariants as role
-use Rattle.job_tree.specs.Tree.{Step, sleep, checkpoint, forever, pace, find, head, longest, need, raise, cancel, set_event, wait_for, scope, nursery, event, start, repeat, attempt, Steps, stop, step, Handled, unhandled, except, Cleaned, uncleaned, finally}
+use Rattle.job_tree.specs.Tree.{Step, sleep, checkpoint, forever, pace, find, head, longest, need, raise, cancel, set_event, wait_for, ask_for, close_channel, scope, nursery, event, object, start, repeat, attempt, Steps, stop, step, Handled, unhandled, except, Cleaned, uncleaned, finally}
+use Rattle.job_reader.specs.declared.target.TargetKind.{TargetKind}
+use Rattle.job_reader.specs.declared.target.TargetKind.TheVariants as target
 use Rattle.job_reader.specs.Given.{is_among}
+use Rattle.job_reader.specs.Targets.{Named, kind_asked, kind_opened, of_kind}
 
--- A use of a name in a `cancel`, `set` or `wait`: the name, and the names of what encloses it and is of the kind that such a
--- step uses, the innermost first. A `cancel` uses a scope or nursery, a `set` or `wait` an event.
+-- a use of a name: the name, and the names of what encloses it and is of the kind that the step uses, the innermost first
 pub record Use : Type 0 where
   pub name : List ℕ
   pub around : List (List ℕ)
 
--- the uses in a block that these scopes and nurseries, and these events, enclose, in the order of the text
+abbrev pub use_of : TargetKind → List ℕ → List Named → Use
+use_of kind name around = record { name = name; around = of_kind kind around }
+
+-- a block of this kind and name, inside others
+abbrev pub inside : TargetKind → List ℕ → List Named → List Named
+inside kind name around = record { kind = kind; name = name } ∷ around
+
+-- the uses in a block that these enclose, the innermost first, in the order of the text
 abbrev mutual
-  pub uses_of : (scopes events : List (List ℕ)) → Steps → List Use
-  uses_of scopes events stop = []
-  uses_of scopes events (step s ss) = uses_in scopes events s ++ uses_of scopes events ss
+  pub uses_of : List Named → Steps → List Use
+  uses_of around stop = []
+  uses_of around (step s ss) = uses_in around s ++ uses_of around ss
 
-  pub uses_in : (scopes events : List (List ℕ)) → Step → List Use
-  uses_in scopes events (sleep n) = []
-  uses_in scopes events checkpoint = []
-  uses_in scopes events forever = []
-  uses_in scopes events (pace k) = []
-  uses_in scopes events (find text) = []
-  uses_in scopes events (head n) = []
-  uses_in scopes events longest = []
-  uses_in scopes events (need text name) = []
-  uses_in scopes events (raise name) = []
-  uses_in scopes events (cancel name) = record { name = name; around = scopes } ∷ []
-  uses_in scopes events (set_event name) = record { name = name; around = events } ∷ []
-  uses_in scopes events (wait_for name) = record { name = name; around = events } ∷ []
-  uses_in scopes events (scope name deadline shield fail body) = uses_of (name ∷ scopes) events body
-  uses_in scopes events (nursery name deadline shield body) = uses_of (name ∷ scopes) events body
-  uses_in scopes events (event name body) = uses_of scopes (name ∷ events) body
-  uses_in scopes events (start name over body) = uses_of scopes events body
-  uses_in scopes events (repeat count over body) = uses_of scopes events body
-  uses_in scopes events (attempt body handler cleanup) =
-      uses_of scopes events body ++ (handled_uses scopes events handler ++ cleaned_uses scopes events cleanup)
+  pub uses_in : List Named → Step → List Use
+  uses_in around (sleep n) = []
+  uses_in around checkpoint = []
+  uses_in around forever = []
+  uses_in around (pace k) = []
+  uses_in around (find text) = []
+  uses_in around (head n) = []
+  uses_in around longest = []
+  uses_in around (need text name) = []
+  uses_in around (raise name) = []
+  uses_in around (cancel name) = use_of target.Scope name around ∷ []
+  uses_in around (set_event name) = use_of target.Event name around ∷ []
+  uses_in around (wait_for name) = use_of target.Event name around ∷ []
+  uses_in around (ask_for name ask body) = use_of (kind_asked ask) name around ∷ uses_of around body
+  uses_in around (close_channel name) = use_of target.Channel name around ∷ []
+  uses_in around (scope name deadline shield fail body) = uses_of (inside target.Scope name around) body
+  uses_in around (nursery name deadline shield body) = uses_of (inside target.Scope name around) body
+  uses_in around (event name body) = uses_of (inside target.Event name around) body
+  uses_in around (object name kind body) = uses_of (inside (kind_opened kind) name around) body
+  uses_in around (start name over body) = uses_of around body
+  uses_in around (repeat count over body) = uses_of around body
+  uses_in around (attempt body handler cleanup) = uses_of around body ++ (handled_uses around handler ++ cleaned_uses around cleanup)
 
-  pub handled_uses : (scopes events : List (List ℕ)) → Handled → List Use
-  handled_uses scopes events unhandled = []
-  handled_uses scopes events (except name body) = uses_of scopes events body
+  pub handled_uses : List Named → Handled → List Use
+  handled_uses around unhandled = []
+  handled_uses around (except name body) = uses_of around body
 
-  pub cleaned_uses : (scopes events : List (List ℕ)) → Cleaned → List Use
-  cleaned_uses scopes events uncleaned = []
-  cleaned_uses scopes events (finally body) = uses_of scopes events body
+  pub cleaned_uses : List Named → Cleaned → List Use
+  cleaned_uses around uncleaned = []
+  cleaned_uses around (finally body) = uses_of around body
 
--- the place of a name in a `cancel`, `set` or `wait`, followed by others
+-- the place of a name that a step uses, followed by others
 abbrev pub place_of_target : Role → ℕ → List ℕ → List ℕ
 place_of_target role.Target at others = at ∷ others
 place_of_target role.Plain at others = others
@@ -55,7 +67,7 @@ place_of_target role.Given at others = others
 place_of_target role.Raised at others = others
 place_of_target role.Handled at others = others
 
--- the places of the names in these steps
+-- the places of the names that steps use
 abbrev pub targets_in : List Token → List Role → List ℕ
 targets_in [] roles = []
 targets_in (t ∷ ts) [] = []

@@ -62,8 +62,8 @@ impl<'t> Draft<'t> {
         refuse_at(found, JobKind::Twice)
     }
 
-    /// Checks that each `cancel` names an enclosing scope or nursery, and each `set` and `wait` an enclosing event.
-    /// Requires that the checks before this one passed. The error is the first that does not.
+    /// Checks that each step that uses a name uses that of something of its kind around it, as a `cancel` that of an enclosing
+    /// scope or nursery. Requires that the checks before this one passed. The error is the first that does not.
     pub fn check_uses(&self) -> Result<(), JobFault>
         requires { IsDraftTo 8 self.now.text.now self.now }
         ensures ok { OnOk result (IsDraftTo 9 self.now.text.now self.now) }

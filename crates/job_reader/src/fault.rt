@@ -20,19 +20,22 @@ pub enum JobKind {
     /// byte of what is no token.
     Token,
     /// A number has a leading zero or is out of its range: 1 to 64 after `over`, 1 to 1,000,000 after `pace`, 0 to 1,000
-    /// after `repeat` in formats 2 and 3, and otherwise 0 to 1,000,000,000. The place is its first digit.
+    /// after `repeat` in formats 2 and 3, in format 3 also 1 to 1,000,000 for the tokens of a `limiter` and 0 to 1,000,000 for
+    /// the places of a `channel`, and otherwise 0 to 1,000,000,000. The place is its first digit.
     Number,
     /// The tokens are not a text of the grammar of the format. The place is the first token that no text of the grammar
     /// continues with, or the length of the text if the tokens end too early.
     Syntax,
     /// A block is at depth 33, where the block of the job itself is at depth 1. The place is its `{`.
     Depth,
-    /// A job, scope, nursery, event or started task has a name that was given before. The place is the later name.
+    /// A job, scope, nursery, event, limiter, channel or started task has a name that was given before. The place is the later
+    /// name.
     Twice,
-    /// A `cancel` names no enclosing scope or nursery, or a `set` or `wait` no enclosing event. The place is the name in it.
+    /// A `cancel` names no enclosing scope or nursery, a `set` or `wait` no enclosing event, an `acquire` no enclosing limiter,
+    /// or a `send`, `receive` or `close` no enclosing channel. The place is the name in it.
     NotEnclosing,
     /// A name is a keyword or `Cancelled`, or `TooSlow` anywhere except after `except`. The place is that name. The keywords
-    /// `event`, `set` and `wait` may be names.
+    /// that format 3 added, such as `event`, may be names.
     Reserved,
     /// The job has more than 1,000,000 step instances, or in format 1 more than 100,000. The copies of a `start .. over` and
     /// the passes of a `repeat` are counted. The place is 0.

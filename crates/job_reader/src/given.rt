@@ -7,9 +7,9 @@ use job_tokens::{Shape, Token};
 use job_tree::Name;
 use std::alloc::{AllocError, Global};
 
-/// Returns the place of the first name of a job, scope, nursery, event or started task that was already given to an
-/// earlier one, or `None` if there is none. `roles` are the roles of the tokens, in the same order. The only error
-/// is that memory runs out.
+/// Returns the place of the first name of a job, scope, nursery, event, limiter, channel or started task that was already given
+/// to an earlier one, or `None` if there is none. `roles` are the roles of the tokens, in the same order. The only error is that
+/// memory runs out.
 pub fn given_twice(
     alloc: Global,
     tokens: &[Token],
@@ -35,7 +35,7 @@ pub fn given_twice(
     Ok(None)
 }
 
-// Returns the name that a token gives to a job, scope, nursery, event or started task.
+// Returns the name that a token gives to a job, scope, nursery, event, limiter, channel or started task.
 fn given_by(role: Role, shape: Shape) -> Option<Name>
     ensures { result ≡ given_by role shape }
 {

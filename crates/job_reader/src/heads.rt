@@ -4,13 +4,13 @@ ghost use Rattle.job_tokens.specs.declared.token.Shape.TheVariants as shape;
 ghost use Rattle.job_syntax.specs.declared.keyword.Keyword.TheVariants as word;
 ghost use Rattle.job_syntax.specs.declared.role.Role.TheVariants as role;
 ghost use Rattle.job_syntax.specs.Keywords.{spelling_of};
-ghost use Rattle.job_syntax.specs.Pieces.{keyword as keyword_piece, name_piece, string, deadline_pieces, flag_pieces, over_pieces, passes_pieces};
+ghost use Rattle.job_syntax.specs.Pieces.{keyword as keyword_piece, name_piece, number, string, object_word, count_of, ask_word, deadline_pieces, flag_pieces, over_pieces, passes_pieces};
 ghost use Rattle.job_reader.specs.Heads.{head_onto};
 ghost use Rattle.job_reader.specs.Printing.{Appends};
 
 use job_syntax::Keyword;
 use job_tokens::Shape;
-use job_tree::{Deadline, Name, Step, Text};
+use job_tree::{Ask, Deadline, Name, ObjectKind, Step, Text};
 use std::alloc::AllocError;
 
 /// Appends the head of a step, which is its tokens before its semicolon or its first block: its keyword, and what follows
@@ -31,6 +31,8 @@ pub fn push_head(shapes: &mut Vec<Shape>, step: &Step) -> Result<(), AllocError>
         Step::Cancel(name) => push_named(shapes, Keyword::Cancel, *name),
         Step::Set(name) => push_named(shapes, Keyword::Set, *name),
         Step::Wait(name) => push_named(shapes, Keyword::Wait, *name),
+        Step::Ask { name, ask, .. } => push_named(shapes, ask_word(*ask), *name),
+        Step::Close(name) => push_named(shapes, Keyword::Close, *name),
         Step::Scope {
             name,
             deadline,
@@ -49,6 +51,7 @@ pub fn push_head(shapes: &mut Vec<Shape>, step: &Step) -> Result<(), AllocError>
             ..
         } => push_block_head(shapes, Keyword::Nursery, *name, *deadline, *shield),
         Step::Event { name, .. } => push_named(shapes, Keyword::Event, *name),
+        Step::Object { name, kind, .. } => push_object_head(shapes, *name, kind),
         Step::Start { name, over, .. } => push_start_head(shapes, *name, *over),
         Step::Repeat { count, over, .. } => push_repeat_head(shapes, *count, *over),
         Step::Try { .. } => push_keyword(shapes, Keyword::Try),
@@ -63,6 +66,51 @@ fn push_need(shapes: &mut Vec<Shape>, text: Text, name: Name) -> Result<(), Allo
     push_with(shapes, Keyword::Need, Shape::Text(text))?;
     shapes.push(Shape::Word(name))?;
     Ok(())
+}
+
+// Appends the head of a limiter or channel.
+fn push_object_head(
+    shapes: &mut Vec<Shape>,
+    name: Name,
+    kind: &ObjectKind,
+) -> Result<(), AllocError>
+    ensures { OnOk result (Appends (λ rest. keyword_piece (object_word kind.now) ∷ name_piece role.Given name ∷ number (count_of kind.now)
+        ∷ rest) shapes.old.items shapes.new.items) }
+{
+    push_named(shapes, object_word(*kind), name)?;
+    shapes.push(Shape::Number(Some(count_of(*kind))))?;
+    Ok(())
+}
+
+// Returns the keyword of a limiter or channel.
+fn object_word(kind: ObjectKind) -> Keyword
+    ensures { result ≡ object_word kind }
+{
+    match kind {
+        ObjectKind::Limiter(_) => Keyword::Limiter,
+        ObjectKind::Channel(_) => Keyword::Channel,
+    }
+}
+
+// Returns how many tokens or places it has.
+fn count_of(kind: ObjectKind) -> u64
+    ensures { result ≡ count_of kind }
+{
+    match kind {
+        ObjectKind::Limiter(tokens) => tokens,
+        ObjectKind::Channel(places) => places,
+    }
+}
+
+// Returns the keyword of a step that asks for something.
+fn ask_word(ask: Ask) -> Keyword
+    ensures { result ≡ ask_word ask }
+{
+    match ask {
+        Ask::Acquire => Keyword::Acquire,
+        Ask::Send => Keyword::Send,
+        Ask::Receive => Keyword::Receive,
+    }
 }
 
 // Appends what the heads of a scope and of a nursery have in common: the keyword, the name, the deadline and the shield.

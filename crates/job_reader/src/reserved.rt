@@ -1,7 +1,7 @@
 ghost use Rattle.std.specs.Prelude.{◌≡◌};
-ghost use Rattle.job_reader.specs.Reserved.{reserved_in, allows, is_free, may_be_handled, is_kept, is_reserved};
+ghost use Rattle.job_reader.specs.Reserved.{reserved_in, allows, is_free, may_be_handled, is_reserved};
 
-use job_syntax::{Keyword, Role};
+use job_syntax::{Keyword, Role, is_kept};
 use job_tokens::{Shape, Token};
 use job_tree::Name;
 
@@ -60,14 +60,4 @@ fn is_reserved(word: Name) -> bool
     ensures { result ≡ is_reserved word }
 {
     is_kept(Keyword::of(word)) || word.bytes() == b"Cancelled".as_slice()
-}
-
-// Returns whether this is a keyword that may not be a name.
-fn is_kept(keyword: Option<Keyword>) -> bool
-    ensures { result ≡ is_kept keyword }
-{
-    match keyword {
-        Some(keyword) => !keyword.may_be_name(),
-        None => false,
-    }
 }

@@ -28,6 +28,8 @@ fn size_in(step: &Step) -> u64
         Step::Scope { body, .. } => one_more(size_of(body.as_slice())),
         Step::Nursery { body, .. } => one_more(size_of(body.as_slice())),
         Step::Event { body, .. } => one_more(size_of(body.as_slice())),
+        Step::Object { body, .. } => one_more(size_of(body.as_slice())),
+        Step::Ask { body, .. } => one_more(size_of(body.as_slice())),
         Step::Start { over, body, .. } => times(*over, one_more(size_of(body.as_slice()))),
         Step::Repeat { count, body, .. } => {
             one_more(times(Some(*count), one_more(size_of(body.as_slice()))))

@@ -1,6 +1,6 @@
 ghost use Rattle.std.specs.Prelude.{◌≡◌, ◌∷◌, IfOk, OnOk};
 ghost use Rattle.job_tree.specs.Blocks.{step_of, steps_of, handled_of, cleaned_of};
-ghost use Rattle.job_syntax.specs.Pieces.{opens, shapes_in, step_pieces, steps_pieces, handler_pieces, cleanup_pieces, job_pieces};
+ghost use Rattle.job_syntax.specs.Pieces.{opens, ends, block_or_end, shapes_in, step_pieces, steps_pieces, handler_pieces, cleanup_pieces, job_pieces};
 ghost use Rattle.job_reader.specs.Refusals.{Spells};
 ghost use Rattle.job_reader.specs.Canon.{canon};
 ghost use Rattle.job_reader.specs.Jobs.{IsReadable};
@@ -12,7 +12,7 @@ use crate::job::Job;
 use crate::reading::first_line;
 use job_syntax::Keyword;
 use job_tokens::{Mark, Shape, push_canon};
-use job_tree::{Body, Handler, Step};
+use job_tree::{Ask, Body, Handler, Step};
 use std::alloc::{AllocError, Global};
 
 /// Returns the canonical text of a job. It spells the job, so `read_job` returns the same job for it, and no text
@@ -80,6 +80,8 @@ fn push_tail(shapes: &mut Vec<Shape>, step: &Step) -> Result<(), AllocError>
         Step::Scope { body, .. } => push_body(shapes, body),
         Step::Nursery { body, .. } => push_body(shapes, body),
         Step::Event { body, .. } => push_body(shapes, body),
+        Step::Object { body, .. } => push_body(shapes, body),
+        Step::Ask { ask, body, .. } => push_grant(shapes, *ask, body),
         Step::Start { body, .. } => push_body(shapes, body),
         Step::Repeat { body, .. } => push_body(shapes, body),
         Step::Try {
@@ -93,6 +95,22 @@ fn push_tail(shapes: &mut Vec<Shape>, step: &Step) -> Result<(), AllocError>
             Ok(())
         }
         _ => {
+            shapes.push(Shape::Mark(Mark::Semicolon))?;
+            Ok(())
+        }
+    }
+}
+
+// Appends what follows the head of a step that asks for something: its block, or the semicolon of a `send`.
+#[cycle(writing)]
+fn push_grant(shapes: &mut Vec<Shape>, ask: Ask, body: &Body) -> Result<(), AllocError>
+    ensures { OnOk result (Appends (λ rest. block_or_end ask (opens ∷ steps_pieces body.now rest) (ends ∷ rest))
+        shapes.old.items shapes.new.items) }
+{
+    match ask {
+        Ask::Acquire => push_body(shapes, body),
+        Ask::Receive => push_body(shapes, body),
+        Ask::Send => {
             shapes.push(Shape::Mark(Mark::Semicolon))?;
             Ok(())
         }

@@ -4,7 +4,10 @@ use Rattle.job_tree.specs.declared.format.Format.{Format}
 use Rattle.job_tree.specs.declared.deadline.Deadline.{Deadline}
 use Rattle.job_tree.specs.declared.deadline.Deadline.TheVariants.{Never, After, At}
 use Rattle.job_tree.specs.Starting.{starts_in_pass}
-use Rattle.job_tree.specs.Tree.{Step, sleep, checkpoint, forever, pace, find, head, longest, need, raise, cancel, set_event, wait_for, scope, nursery, event, start, repeat, attempt, Steps, stop, step, Handled, unhandled, except, Cleaned, uncleaned, finally, Tree}
+use Rattle.job_tree.specs.declared.object.ObjectKind.{ObjectKind}
+use Rattle.job_tree.specs.declared.object.ObjectKind.TheVariants.{Limiter, Channel}
+use Rattle.job_tree.specs.declared.object.Ask.TheVariants.{Acquire, Send, Receive}
+use Rattle.job_tree.specs.Tree.{Step, sleep, checkpoint, forever, pace, find, head, longest, need, raise, cancel, set_event, wait_for, ask_for, close_channel, scope, nursery, event, object, start, repeat, attempt, Steps, stop, step, Handled, unhandled, except, Cleaned, uncleaned, finally, Tree}
 use Rattle.job_tokens.specs.declared.token.Mark.TheVariants as mark
 use Rattle.job_tokens.specs.declared.token.Shape.{Shape}
 use Rattle.job_syntax.specs.declared.keyword.Keyword.{Keyword}
@@ -55,6 +58,10 @@ mutual
   long_step (cancel n) rest = omega arith
   long_step (set_event n) rest = omega arith
   long_step (wait_for n) rest = omega arith
+  long_step (ask_for n Acquire body) rest = omega (arith, long_steps body rest)
+  long_step (ask_for n Send body) rest = omega arith
+  long_step (ask_for n Receive body) rest = omega (arith, long_steps body rest)
+  long_step (close_channel n) rest = omega arith
   long_step (scope n d s f body) rest = omega (
     arith,
     long_steps body rest,
@@ -69,6 +76,7 @@ mutual
     long_flag word.Shield s (opens ∷ steps_pieces body rest),
   )
   long_step (event n body) rest = omega (arith, long_steps body rest)
+  long_step (object n kind body) rest = omega (arith, long_steps body rest)
   long_step (start n o body) rest = omega (arith, long_steps body rest, long_over o (opens ∷ steps_pieces body rest))
   long_step (repeat n over body) rest = omega (arith, long_steps body rest, long_passes over n (opens ∷ steps_pieces body rest))
   long_step (attempt body h c) rest =
@@ -128,6 +136,22 @@ event_again : (blocks : Blocks) (n : List ℕ) (body : Steps) (rest : List Piece
 unfolding keyword_of
 event_again blocks n body rest reads = rw (reads rest) refl
 
+object_again : (blocks : Blocks) (n : List ℕ) (kind : ObjectKind) (body : Steps) (rest : List Piece) → ReadsAgain blocks body →
+    step_at blocks (shapes_in (step_pieces (object n kind body) rest)) ≡ step_read (object n kind body) rest
+unfolding keyword_of
+object_again blocks n (Limiter count) body rest reads = rw (reads rest) refl
+object_again blocks n (Channel count) body rest reads = rw (reads rest) refl
+
+acquire_again : (blocks : Blocks) (n : List ℕ) (body : Steps) (rest : List Piece) → ReadsAgain blocks body →
+    step_at blocks (shapes_in (step_pieces (ask_for n Acquire body) rest)) ≡ step_read (ask_for n Acquire body) rest
+unfolding keyword_of
+acquire_again blocks n body rest reads = rw (reads rest) refl
+
+receive_again : (blocks : Blocks) (n : List ℕ) (body : Steps) (rest : List Piece) → ReadsAgain blocks body →
+    step_at blocks (shapes_in (step_pieces (ask_for n Receive body) rest)) ≡ step_read (ask_for n Receive body) rest
+unfolding keyword_of
+receive_again blocks n body rest reads = rw (reads rest) refl
+
 repeat_again : (blocks : Blocks) (n : ℕ) (over : Bool) (body : Steps) (rest : List Piece) → ReadsAgain blocks body →
     step_at blocks (shapes_in (step_pieces (repeat n over body) rest)) ≡ step_read (repeat n over body) rest
 unfolding keyword_of
@@ -170,9 +194,15 @@ no_finally (step (raise n) ss) rest = refl
 no_finally (step (cancel n) ss) rest = refl
 no_finally (step (set_event n) ss) rest = refl
 no_finally (step (wait_for n) ss) rest = refl
+no_finally (step (ask_for n Acquire body) ss) rest = refl
+no_finally (step (ask_for n Send body) ss) rest = refl
+no_finally (step (ask_for n Receive body) ss) rest = refl
+no_finally (step (close_channel n) ss) rest = refl
 no_finally (step (scope n d s f body) ss) rest = refl
 no_finally (step (nursery n d s body) ss) rest = refl
 no_finally (step (event n body) ss) rest = refl
+no_finally (step (object n (Limiter count) body) ss) rest = refl
+no_finally (step (object n (Channel count) body) ss) rest = refl
 no_finally (step (start n o body) ss) rest = refl
 no_finally (step (repeat n over body) ss) rest = refl
 no_finally (step (attempt body h c) ss) rest = refl
@@ -191,9 +221,12 @@ no_close (raise n) rest = refl
 no_close (cancel n) rest = refl
 no_close (set_event n) rest = refl
 no_close (wait_for n) rest = refl
+no_close (ask_for n ask body) rest = refl
+no_close (close_channel n) rest = refl
 no_close (scope n d s f body) rest = refl
 no_close (nursery n d s body) rest = refl
 no_close (event n body) rest = refl
+no_close (object n kind body) rest = refl
 no_close (start n o body) rest = refl
 no_close (repeat n over body) rest = refl
 no_close (attempt body h c) rest = refl
@@ -256,6 +289,15 @@ mutual
   step_again format (cancel n) inside depth rest is within none = refl
   step_again format (set_event n) inside depth rest is within none = refl
   step_again format (wait_for n) inside depth rest is within none = refl
+  step_again format (ask_for n Acquire body) inside depth rest is within none =
+      acquire_again (blocks_at depth) n body rest (block_again format false body depth
+      (λ inside' depth' n' rest'. steps_again format body inside' depth' n' rest') is.2 within.0 within.1)
+  step_again format (ask_for n Send stop) inside depth rest is within none = refl
+  step_again format (ask_for n Send (step s ss)) inside depth rest is within none = absurd is.1
+  step_again format (ask_for n Receive body) inside depth rest is within none =
+      receive_again (blocks_at depth) n body rest (block_again format false body depth
+      (λ inside' depth' n' rest'. steps_again format body inside' depth' n' rest') is.2 within.0 within.1)
+  step_again format (close_channel n) inside depth rest is within none = refl
   step_again format (scope n d s f body) inside depth rest is within none =
       scope_again (blocks_at depth) n d s f body rest (block_again format false body depth
       (λ inside' depth' n' rest'. steps_again format body inside' depth' n' rest') is within.0 within.1)
@@ -264,6 +306,9 @@ mutual
       (λ inside' depth' n' rest'. steps_again format body inside' depth' n' rest') is.1 within.0 within.1)
   step_again format (event n body) inside depth rest is within none =
       event_again (blocks_at depth) n body rest (block_again format false body depth
+      (λ inside' depth' n' rest'. steps_again format body inside' depth' n' rest') is.1 within.0 within.1)
+  step_again format (object n kind body) inside depth rest is within none =
+      object_again (blocks_at depth) n kind body rest (block_again format false body depth
       (λ inside' depth' n' rest'. steps_again format body inside' depth' n' rest') is.1 within.0 within.1)
   step_again format (start n o body) inside depth rest is within none =
       start_again (blocks_at depth) n o body rest (block_again format false body depth

@@ -3,7 +3,8 @@ use Rattle.std.proofs.Common.{◌≡◌, ℕ, suc, ◌+◌, ◌-◌, ◌<◌, �
 use Rattle.std.proofs.lemmas.Bool.{leb-true, le-leb}
 use Rattle.job_tree.specs.declared.deadline.Deadline.{Deadline}
 use Rattle.job_tree.specs.declared.deadline.Deadline.TheVariants.{Never, After, At}
-use Rattle.job_tree.specs.Tree.{Step, sleep, checkpoint, forever, pace, find, head, longest, need, raise, cancel, set_event, wait_for, scope, nursery, event, start, repeat, attempt, Steps, stop, step, Handled, unhandled, except, Cleaned, uncleaned, finally, Tree}
+use Rattle.job_tree.specs.declared.object.Ask.TheVariants.{Acquire, Send, Receive}
+use Rattle.job_tree.specs.Tree.{Step, sleep, checkpoint, forever, pace, find, head, longest, need, raise, cancel, set_event, wait_for, ask_for, close_channel, scope, nursery, event, object, start, repeat, attempt, Steps, stop, step, Handled, unhandled, except, Cleaned, uncleaned, finally, Tree}
 use Rattle.job_tokens.specs.declared.token.Shape.{Shape}
 use Rattle.job_tokens.specs.declared.token.Token.{Token}
 use Rattle.job_tokens.specs.Shapes.{shapes_of, mark_in}
@@ -102,6 +103,12 @@ mutual
   step_within (cancel n) rest depth more e none = (tt, none.1.1.1)
   step_within (set_event n) rest depth more e none = (tt, none.1.1.1)
   step_within (wait_for n) rest depth more e none = (tt, none.1.1.1)
+  step_within (ask_for n Acquire body) rest depth more e none =
+      block_within depth more body rest (λ depth' more'. steps_within body rest depth' more') e none.1.1
+  step_within (ask_for n Send body) rest depth more e none = (tt, none.1.1.1)
+  step_within (ask_for n Receive body) rest depth more e none =
+      block_within depth more body rest (λ depth' more'. steps_within body rest depth' more') e none.1.1
+  step_within (close_channel n) rest depth more e none = (tt, none.1.1.1)
   step_within (scope n d s f body) rest depth more e none =
       let block = opens ∷ steps_pieces body rest in
       let flagged = flag_pieces word.Fail f block in
@@ -115,6 +122,8 @@ mutual
       (past_flag depth word.Shield s block (past_deadline depth d shielded none.1.1))
   step_within (event n body) rest depth more e none =
       block_within depth more body rest (λ depth' more'. steps_within body rest depth' more') e none.1.1
+  step_within (object n kind body) rest depth more e none =
+      block_within depth more body rest (λ depth' more'. steps_within body rest depth' more') e none.1.1.1
   step_within (start n o body) rest depth more e none =
       block_within depth more body rest (λ depth' more'. steps_within body rest depth' more') e
       (past_over depth o (opens ∷ steps_pieces body rest) none.1.1)

@@ -6,7 +6,11 @@ use Rattle.job_tree.specs.declared.format.Format.{Format}
 use Rattle.job_tree.specs.declared.format.Format.TheVariants.{One, Two, Three}
 use Rattle.job_tree.specs.Formats.{extends_format_1, has_events}
 use Rattle.job_tree.specs.declared.deadline.Deadline.TheVariants.{Never, After, At}
-use Rattle.job_tree.specs.Tree.{Step, sleep, checkpoint, forever, pace, find, head, longest, need, raise, cancel, set_event, wait_for, scope, nursery, event, start, repeat, attempt, Steps, stop, step, unhandled, except, uncleaned, finally, Tree}
+use Rattle.job_tree.specs.declared.object.ObjectKind.{ObjectKind}
+use Rattle.job_tree.specs.declared.object.ObjectKind.TheVariants.{Limiter, Channel}
+use Rattle.job_tree.specs.declared.object.Ask.{Ask}
+use Rattle.job_tree.specs.declared.object.Ask.TheVariants.{Acquire, Send, Receive}
+use Rattle.job_tree.specs.Tree.{Step, sleep, checkpoint, forever, pace, find, head, longest, need, raise, cancel, set_event, wait_for, ask_for, close_channel, scope, nursery, event, object, start, repeat, attempt, Steps, stop, step, unhandled, except, uncleaned, finally, Tree}
 use Rattle.job_tokens.specs.declared.token.Mark.TheVariants as mark
 use Rattle.job_tokens.specs.declared.token.Shape.{Shape}
 use Rattle.job_tokens.specs.declared.token.Shape.TheVariants as shape
@@ -18,7 +22,7 @@ use Rattle.job_syntax.specs.Keywords.{spelling_of, keyword_among, keywords, keyw
 use Rattle.job_syntax.specs.Nonterminals.{Rest, next, text_rest, step_rest, cleanup_rest, tail_rest, scope_rest, shield_rest, fail_rest, over_rest, nursery_rest, nursery_shield_rest, outer_block, tail, cleanup, passes, ◌>>=◌}
 use Rattle.job_syntax.specs.declared.role.Role.{Role}
 use Rattle.job_syntax.specs.declared.role.Role.TheVariants as role
-use Rattle.job_syntax.specs.Pieces.{Piece, keyword, name_piece, number, string, opens, ends, deadline_pieces, flag_pieces, over_pieces, passes_pieces, step_pieces, steps_pieces, MayDivide, AreSteps, IsStep}
+use Rattle.job_syntax.specs.Pieces.{Piece, keyword, name_piece, number, string, opens, ends, deadline_pieces, flag_pieces, over_pieces, passes_pieces, step_pieces, steps_pieces, MayDivide, MayHaveSteps, AreSteps, IsStep}
 use Rattle.job_syntax.specs.Syntax.{IsBlock, IsTail, IsCleanupAndBlock, IsPasses, Stands, Fits, role_of}
 use Rattle.job_syntax.proofs.Grammar.{Left, plain_head}
 
@@ -168,6 +172,32 @@ event_step format inside ss ps may (r, (n, e), (r', e', (r'', (body, are, e''), 
     step_on format inside (event n body) ss (keyword word.Event ∷ ps) q b.0 (may, are) b.1
     (ap (on (keyword word.Event)) (e ∙ ap (on (name_piece role.Given n)) (e' ∙ ap (on opens) (e'' ∙ ap (steps_pieces body) b.2)))) fits
 
+-- `limiter` and `channel`
+object_step : (format : Format) (inside : Bool) (kind : ℕ → ObjectKind) (first : Piece) (ss : List Nonterminal) (ps : List Piece) →
+    has_events format ≡ true
+    → ((n : List ℕ) (count : ℕ) (body : Steps) (rest : List Piece) →
+    step_pieces (object n (kind count) body) rest ≡ first ∷ name_piece role.Given n ∷ number count ∷ opens ∷ steps_pieces body rest) →
+    Fits format (nonterminal.Given ∷ nonterminal.Number ∷ nonterminal.Open ∷ nonterminal.Steps ∷ outer_block inside ∷ ss) ps →
+    BlockFits format inside ss (first ∷ ps)
+object_step format inside kind first ss ps may printed (r, (n, e), (r', (count, e'), (r'', e'', (r''', (body, are, e'''), (q, block, fits))))) =
+    let b = block_of format inside r''' q block in
+    step_on format inside (object n (kind count) body) ss (first ∷ ps) q b.0 (may, are) b.1
+    (ap (on first) (e ∙ ap (on (name_piece role.Given n)) (e' ∙ ap (on (number count))
+    (e'' ∙ ap (on opens) (e''' ∙ ap (steps_pieces body) b.2)))) ∙ sym (printed n count body (steps_pieces b.0 q))) fits
+
+-- `acquire` and `receive`
+grant_step : (format : Format) (inside : Bool) (ask : Ask) (first : Piece) (ss : List Nonterminal) (ps : List Piece) → has_events format ≡ true
+    → ((body : Steps) → MayHaveSteps ask body)
+    → ((n : List ℕ) (body : Steps) (rest : List Piece) →
+    step_pieces (ask_for n ask body) rest ≡ first ∷ name_piece role.Target n ∷ opens ∷ steps_pieces body rest) →
+    Fits format (nonterminal.Target ∷ nonterminal.Open ∷ nonterminal.Steps ∷ outer_block inside ∷ ss) ps →
+    BlockFits format inside ss (first ∷ ps)
+grant_step format inside ask first ss ps may granted printed (r, (n, e), (r', e', (r'', (body, are, e''), (q, block, fits)))) =
+    let b = block_of format inside r'' q block in
+    step_on format inside (ask_for n ask body) ss (first ∷ ps) q b.0 (may, granted body, are) b.1
+    (ap (on first) (e ∙ ap (on (name_piece role.Target n)) (e' ∙ ap (on opens) (e'' ∙ ap (steps_pieces body) b.2)))
+    ∙ sym (printed n body (steps_pieces b.0 q))) fits
+
 start_step : (format : Format) (ss : List Nonterminal) (ps : List Piece) → Fits format (nonterminal.Given ∷ nonterminal.Over ∷ nonterminal.Items ∷ ss) ps →
     BlockFits format true ss (keyword word.Start ∷ ps)
 start_step format ss ps (r, (n, e), (r', (o, body, are, e'), (q, (steps, following, e''), fits))) =
@@ -217,6 +247,32 @@ by_step Three inside word.Wait ss ps left =
     name_step Three inside wait_for role.Target nonterminal.Target (λ ps rest s. s) (keyword word.Wait) ss ps (λ n. refl) (λ n rest. refl) left
 by_step Two inside word.Wait ss ps left = absurd left
 by_step One inside word.Wait ss ps left = absurd left
+by_step Three inside word.Limiter ss ps left =
+    object_step Three inside Limiter (keyword word.Limiter) ss ps refl (λ n count body rest. refl) left
+by_step Two inside word.Limiter ss ps left = absurd left
+by_step One inside word.Limiter ss ps left = absurd left
+by_step Three inside word.Acquire ss ps left =
+    grant_step Three inside Acquire (keyword word.Acquire) ss ps refl (λ body. tt) (λ n body rest. refl) left
+by_step Two inside word.Acquire ss ps left = absurd left
+by_step One inside word.Acquire ss ps left = absurd left
+by_step Three inside word.Channel ss ps left =
+    object_step Three inside Channel (keyword word.Channel) ss ps refl (λ n count body rest. refl) left
+by_step Two inside word.Channel ss ps left = absurd left
+by_step One inside word.Channel ss ps left = absurd left
+by_step Three inside word.Send ss ps left =
+    name_step Three inside (λ n. ask_for n Send stop) role.Target nonterminal.Target (λ ps rest s. s) (keyword word.Send) ss ps
+    (λ n. (refl, tt, tt)) (λ n rest. refl) left
+by_step Two inside word.Send ss ps left = absurd left
+by_step One inside word.Send ss ps left = absurd left
+by_step Three inside word.Receive ss ps left =
+    grant_step Three inside Receive (keyword word.Receive) ss ps refl (λ body. tt) (λ n body rest. refl) left
+by_step Two inside word.Receive ss ps left = absurd left
+by_step One inside word.Receive ss ps left = absurd left
+by_step Three inside word.Close ss ps left =
+    name_step Three inside close_channel role.Target nonterminal.Target (λ ps rest s. s) (keyword word.Close) ss ps (λ n. refl)
+    (λ n rest. refl) left
+by_step Two inside word.Close ss ps left = absurd left
+by_step One inside word.Close ss ps left = absurd left
 by_step format inside word.Try ss ps left = try_step format inside ss ps left
 by_step format inside _ ss ps left = absurd left
 
@@ -281,6 +337,30 @@ by_cleanup One inside word.Set ss ps left = absurd left
 by_cleanup Three inside word.Wait ss ps left = unclean Three inside ss (keyword word.Wait ∷ ps) (by_step Three inside word.Wait ss ps left)
 by_cleanup Two inside word.Wait ss ps left = absurd left
 by_cleanup One inside word.Wait ss ps left = absurd left
+by_cleanup Three inside word.Limiter ss ps left = unclean Three inside ss (keyword word.Limiter ∷ ps)
+    (by_step Three inside word.Limiter ss ps left)
+by_cleanup Two inside word.Limiter ss ps left = absurd left
+by_cleanup One inside word.Limiter ss ps left = absurd left
+by_cleanup Three inside word.Acquire ss ps left = unclean Three inside ss (keyword word.Acquire ∷ ps)
+    (by_step Three inside word.Acquire ss ps left)
+by_cleanup Two inside word.Acquire ss ps left = absurd left
+by_cleanup One inside word.Acquire ss ps left = absurd left
+by_cleanup Three inside word.Channel ss ps left = unclean Three inside ss (keyword word.Channel ∷ ps)
+    (by_step Three inside word.Channel ss ps left)
+by_cleanup Two inside word.Channel ss ps left = absurd left
+by_cleanup One inside word.Channel ss ps left = absurd left
+by_cleanup Three inside word.Send ss ps left = unclean Three inside ss (keyword word.Send ∷ ps)
+    (by_step Three inside word.Send ss ps left)
+by_cleanup Two inside word.Send ss ps left = absurd left
+by_cleanup One inside word.Send ss ps left = absurd left
+by_cleanup Three inside word.Receive ss ps left = unclean Three inside ss (keyword word.Receive ∷ ps)
+    (by_step Three inside word.Receive ss ps left)
+by_cleanup Two inside word.Receive ss ps left = absurd left
+by_cleanup One inside word.Receive ss ps left = absurd left
+by_cleanup Three inside word.Close ss ps left = unclean Three inside ss (keyword word.Close ∷ ps)
+    (by_step Three inside word.Close ss ps left)
+by_cleanup Two inside word.Close ss ps left = absurd left
+by_cleanup One inside word.Close ss ps left = absurd left
 by_cleanup format inside word.Try ss ps left = unclean format inside ss (keyword word.Try ∷ ps) (by_step format inside word.Try ss ps left)
 by_cleanup format inside _ ss ps left = absurd left
 

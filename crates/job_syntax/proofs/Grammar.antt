@@ -6,13 +6,15 @@ use Rattle.job_tree.specs.Formats.{extends_format_1, has_events}
 use Rattle.job_tree.specs.Starting.{starts_in_pass}
 use Rattle.job_tree.specs.declared.deadline.Deadline.{Deadline}
 use Rattle.job_tree.specs.declared.deadline.Deadline.TheVariants.{Never, After, At}
-use Rattle.job_tree.specs.Tree.{sleep, checkpoint, forever, pace, find, head, longest, need, raise, cancel, set_event, wait_for, scope, nursery, event, start, repeat, attempt, Steps, stop, step, Handled, unhandled, except, Cleaned, uncleaned, finally, Tree}
+use Rattle.job_tree.specs.declared.object.ObjectKind.TheVariants.{Limiter, Channel}
+use Rattle.job_tree.specs.declared.object.Ask.TheVariants.{Acquire, Send, Receive}
+use Rattle.job_tree.specs.Tree.{sleep, checkpoint, forever, pace, find, head, longest, need, raise, cancel, set_event, wait_for, ask_for, close_channel, scope, nursery, event, object, start, repeat, attempt, Steps, stop, step, Handled, unhandled, except, Cleaned, uncleaned, finally, Tree}
 use Rattle.job_syntax.specs.declared.keyword.Keyword.{Keyword}
 use Rattle.job_syntax.specs.declared.keyword.Keyword.TheVariants as word
 use Rattle.job_syntax.specs.declared.nonterminal.Nonterminal.{Nonterminal}
 use Rattle.job_syntax.specs.declared.nonterminal.Nonterminal.TheVariants as nonterminal
 use Rattle.job_syntax.specs.Keywords.{spelling_of, keyword_of}
-use Rattle.job_syntax.specs.Nonterminals.{Rest, next, event_rest, use_rest, step_rest, cleanup_rest, outer_block, tail, cleanup, passes, ◌>>=◌}
+use Rattle.job_syntax.specs.Nonterminals.{Rest, next, event_rest, use_rest, object_rest, grant_rest, step_rest, cleanup_rest, outer_block, tail, cleanup, passes, ◌>>=◌}
 use Rattle.job_syntax.specs.declared.role.Role.TheVariants as role
 use Rattle.job_syntax.specs.Pieces.{Piece, keyword, name_piece, number, string, opens, closes, ends, deadline_pieces, flag_pieces, over_pieces, passes_pieces, steps_pieces, handler_pieces, cleanup_pieces, job_onto, IsNurseryHead, loop_inside, MayDivide, AreSteps, IsHandler, IsCleanup, HasTail}
 use Rattle.job_syntax.specs.Syntax.{Stands, Fits, role_of}
@@ -192,6 +194,40 @@ use_left Three inside n others ss rest e following fits = (
 use_left Two inside n others ss rest e following fits = absurd cc
 use_left One inside n others ss rest e following fits = absurd cc
 
+-- a block with its opening mark, followed by others
+block_fits : (format : Format) (inside : Bool) (body others : Steps) (ss : List Nonterminal) (rest : List Piece) → AreSteps format false body →
+    AreSteps format inside others →
+    Fits format ss rest
+    → Fits format (nonterminal.Open ∷ nonterminal.Steps ∷ outer_block inside ∷ ss) (opens ∷ steps_pieces body (steps_pieces others rest))
+block_fits format inside body others ss rest are following fits = (
+  steps_pieces body (steps_pieces others rest),
+  refl,
+  (
+    steps_pieces others rest,
+    (body, are, refl),
+    (rest, block_stands format inside others rest following, fits),
+  ),
+)
+
+object_left : (format : Format) (inside : Bool) (n : List ℕ) (count : ℕ) (body others : Steps) (ss : List Nonterminal) (rest : List Piece) →
+    has_events format ≡ true → AreSteps format false body → AreSteps format inside others → Fits format ss rest
+    → Left format (object_rest format inside) ss (name_piece role.Given n ∷ number count ∷ opens ∷ steps_pieces body (steps_pieces others rest))
+object_left Three inside n count body others ss rest e are following fits = (
+  number count ∷ opens ∷ steps_pieces body (steps_pieces others rest),
+  (n, refl),
+  (opens ∷ steps_pieces body (steps_pieces others rest), (count, refl), block_fits Three inside body others ss rest are following fits),
+)
+object_left Two inside n count body others ss rest e are following fits = absurd cc
+object_left One inside n count body others ss rest e are following fits = absurd cc
+
+grant_left : (format : Format) (inside : Bool) (n : List ℕ) (body others : Steps) (ss : List Nonterminal) (rest : List Piece) →
+    has_events format ≡ true → AreSteps format false body → AreSteps format inside others → Fits format ss rest
+    → Left format (grant_rest format inside) ss (name_piece role.Target n ∷ opens ∷ steps_pieces body (steps_pieces others rest))
+grant_left Three inside n body others ss rest e are following fits =
+    (opens ∷ steps_pieces body (steps_pieces others rest), (n, refl), block_fits Three inside body others ss rest are following fits)
+grant_left Two inside n body others ss rest e are following fits = absurd cc
+grant_left One inside n body others ss rest e are following fits = absurd cc
+
 first_of_block : (format : Format) (inside : Bool) (steps : Steps) (ss : List Nonterminal) (rest : List Piece) → AreSteps format inside steps →
     Fits format ss rest →
     First format inside ss (steps_pieces steps rest)
@@ -238,6 +274,14 @@ first_of_block format inside (step (set_event n) others) ss rest are fits =
     inr (word.Set, refl, use_left format inside n others ss rest are.0 are.1 fits)
 first_of_block format inside (step (wait_for n) others) ss rest are fits =
     inr (word.Wait, refl, use_left format inside n others ss rest are.0 are.1 fits)
+first_of_block format inside (step (ask_for n Acquire body) others) ss rest are fits =
+    inr (word.Acquire, refl, grant_left format inside n body others ss rest are.0.0 are.0.2 are.1 fits)
+first_of_block format inside (step (ask_for n Send body) others) ss rest are fits =
+    inr (word.Send, refl, use_left format inside n others ss rest are.0.0 are.1 fits)
+first_of_block format inside (step (ask_for n Receive body) others) ss rest are fits =
+    inr (word.Receive, refl, grant_left format inside n body others ss rest are.0.0 are.0.2 are.1 fits)
+first_of_block format inside (step (close_channel n) others) ss rest are fits =
+    inr (word.Close, refl, use_left format inside n others ss rest are.0 are.1 fits)
 first_of_block format inside (step (scope n d s f body) others) ss rest are fits =
     let following = steps_pieces others rest in
     inr (
@@ -262,6 +306,10 @@ first_of_block format inside (step (nursery n d s body) others) ss rest are fits
     )
 first_of_block format inside (step (event n body) others) ss rest are fits =
     inr (word.Event, refl, event_left format inside n body others ss rest are.0.0 are.0.1 are.1 fits)
+first_of_block format inside (step (object n (Limiter count) body) others) ss rest are fits =
+    inr (word.Limiter, refl, object_left format inside n count body others ss rest are.0.0 are.0.1 are.1 fits)
+first_of_block format inside (step (object n (Channel count) body) others) ss rest are fits =
+    inr (word.Channel, refl, object_left format inside n count body others ss rest are.0.0 are.0.1 are.1 fits)
 first_of_block format inside (step (start n o body) others) ss rest are fits =
     inr (word.Start, refl, start_left format inside n o body others ss rest are.0.0 are.0.1 are.1 fits)
 first_of_block format inside (step (repeat n over body) others) ss rest are fits =
@@ -321,21 +369,6 @@ goes_uncleaned format true ss (p ∷ ps) (inl (e, fits)) = subst (λ (x : Piece)
     (fits, refl)
 goes_uncleaned format true ss (p ∷ ps) (inr (k, e, left)) = subst (λ (x : Piece). Goes format nonterminal.ItemsCleanup ss (x ∷ ps)) (sym e)
     (by_keyword format (cleanup_rest format true) k ss ps (finally_no_step format true k ss ps left), refl)
-
--- a block with its opening mark, followed by others
-block_fits : (format : Format) (inside : Bool) (body others : Steps) (ss : List Nonterminal) (rest : List Piece) → AreSteps format false body →
-    AreSteps format inside others →
-    Fits format ss rest
-    → Fits format (nonterminal.Open ∷ nonterminal.Steps ∷ outer_block inside ∷ ss) (opens ∷ steps_pieces body (steps_pieces others rest))
-block_fits format inside body others ss rest are following fits = (
-  steps_pieces body (steps_pieces others rest),
-  refl,
-  (
-    steps_pieces others rest,
-    (body, are, refl),
-    (rest, block_stands format inside others rest following, fits),
-  ),
-)
 
 on_cleanup : (format : Format) (inside : Bool) (c : Cleaned) (steps : Steps) (ss : List Nonterminal) (rest : List Piece) → IsCleanup format c →
     AreSteps format inside steps →

@@ -1,7 +1,7 @@
 -- What the grammar says about where a `start` may occur.
 use Rattle.job_tree.specs.declared.format.Format.{Format}
 use Rattle.job_tree.specs.declared.format.Format.TheVariants.{One, Two, Three}
-use Rattle.job_tree.specs.Tree.{Step, sleep, checkpoint, forever, pace, find, head, longest, need, raise, cancel, set_event, wait_for, scope, nursery, event, start, repeat, attempt, Steps, stop, step, Handled, unhandled, except, Cleaned, uncleaned, finally}
+use Rattle.job_tree.specs.Tree.{Step, sleep, checkpoint, forever, pace, find, head, longest, need, raise, cancel, set_event, wait_for, ask_for, close_channel, scope, nursery, event, object, start, repeat, attempt, Steps, stop, step, Handled, unhandled, except, Cleaned, uncleaned, finally}
 use Rattle.job_tree.specs.Starting.{starts_in_pass, StartsIn, StartsAt, HandlerStarts, CleanupStarts}
 use Rattle.std.specs.Prelude.{◌≡◌, Bool, true, false}
 use Rattle.job_syntax.specs.Pieces.{loop_inside, AreSteps, IsStep, IsHandler, IsCleanup}
@@ -25,9 +25,12 @@ mutual
   starts_anywhere_at inside (cancel name) a = tt
   starts_anywhere_at inside (set_event name) a = tt
   starts_anywhere_at inside (wait_for name) a = tt
+  starts_anywhere_at inside (ask_for name ask body) a = a
+  starts_anywhere_at inside (close_channel name) a = tt
   starts_anywhere_at inside (scope name d shield fail body) a = a
   starts_anywhere_at inside (nursery name d shield body) a = a
   starts_anywhere_at inside (event name body) a = a
+  starts_anywhere_at inside (object name kind body) a = a
   starts_anywhere_at inside (start name over body) a = let e : false ≡ true = a.0 in absurd cc
   starts_anywhere_at inside (repeat count false body) a = starts_anywhere inside body a
   starts_anywhere_at inside (repeat count true body) a = a
@@ -61,9 +64,12 @@ mutual
   starts_at format inside (cancel name) a = tt
   starts_at format inside (set_event name) a = tt
   starts_at format inside (wait_for name) a = tt
+  starts_at format inside (ask_for name ask body) a = starts_in format false body a.2
+  starts_at format inside (close_channel name) a = tt
   starts_at format inside (scope name d shield fail body) a = starts_in format false body a
   starts_at format inside (nursery name d shield body) a = starts_in format true body a.1
   starts_at format inside (event name body) a = starts_in format false body a.1
+  starts_at format inside (object name kind body) a = starts_in format false body a.1
   starts_at format inside (start name over body) a = (a.0, starts_in format false body a.1)
   starts_at format inside (repeat count over body) a =
       starts_in_loop format inside over body (starts_in format (starts_in_pass over (loop_inside format inside)) body a.2)

@@ -58,12 +58,19 @@ repeat_rest One inside = None
 repeat_rest Two inside = Some (Number ∷ Open ∷ Steps ∷ outer_block inside ∷ [])
 repeat_rest Three inside = Some (passes inside ∷ outer_block inside ∷ [])
 
--- after `event`, `set` and `wait`, which begin no step in formats 1 and 2
+-- after `event`, and after `set`, `wait`, `send` and `close`, which begin no step in formats 1 and 2
 abbrev pub event_rest : Format → Bool → Rest
 event_rest format inside = if has_events format then Some (Given ∷ Open ∷ Steps ∷ outer_block inside ∷ []) else None
 
 abbrev pub use_rest : Format → Bool → Rest
 use_rest format inside = if has_events format then Some (Target ∷ Semicolon ∷ outer_block inside ∷ []) else None
+
+-- after `limiter` and `channel`, and after `acquire` and `receive`, which begin no step in formats 1 and 2 either
+abbrev pub object_rest : Format → Bool → Rest
+object_rest format inside = if has_events format then Some (Given ∷ Number ∷ Open ∷ Steps ∷ outer_block inside ∷ []) else None
+
+abbrev pub grant_rest : Format → Bool → Rest
+grant_rest format inside = if has_events format then Some (Target ∷ Open ∷ Steps ∷ outer_block inside ∷ []) else None
 
 -- after the first word of a step
 abbrev pub step_rest : Format → Bool → Keyword → Rest
@@ -84,6 +91,12 @@ step_rest format inside word.Repeat = repeat_rest format inside
 step_rest format inside word.Event = event_rest format inside
 step_rest format inside word.Set = use_rest format inside
 step_rest format inside word.Wait = use_rest format inside
+step_rest format inside word.Limiter = object_rest format inside
+step_rest format inside word.Acquire = grant_rest format inside
+step_rest format inside word.Channel = object_rest format inside
+step_rest format inside word.Send = use_rest format inside
+step_rest format inside word.Receive = grant_rest format inside
+step_rest format inside word.Close = use_rest format inside
 step_rest format inside word.Try = Some (Open ∷ Steps ∷ tail inside ∷ [])
 step_rest format inside _ = None
 

@@ -6,8 +6,12 @@ use Rattle.job_tree.specs.declared.deadline.Deadline.TheVariants.{Never, After, 
 use Rattle.job_tree.specs.declared.format.Format.{Format}
 use Rattle.job_tree.specs.declared.format.Format.TheVariants.{One, Two, Three}
 use Rattle.job_tree.specs.Formats.{extends_format_1, has_events}
+use Rattle.job_tree.specs.declared.object.ObjectKind.{ObjectKind}
+use Rattle.job_tree.specs.declared.object.ObjectKind.TheVariants.{Limiter, Channel}
+use Rattle.job_tree.specs.declared.object.Ask.{Ask}
+use Rattle.job_tree.specs.declared.object.Ask.TheVariants.{Acquire, Send, Receive}
 use Rattle.job_tree.specs.Starting.{starts_in_pass}
-use Rattle.job_tree.specs.Tree.{Step, sleep, checkpoint, forever, pace, find, head, longest, need, raise, cancel, set_event, wait_for, scope, nursery, event, start, repeat, attempt, Steps, stop, step, Handled, unhandled, except, Cleaned, uncleaned, finally, Tree}
+use Rattle.job_tree.specs.Tree.{Step, sleep, checkpoint, forever, pace, find, head, longest, need, raise, cancel, set_event, wait_for, ask_for, close_channel, scope, nursery, event, object, start, repeat, attempt, Steps, stop, step, Handled, unhandled, except, Cleaned, uncleaned, finally, Tree}
 use Rattle.job_tokens.specs.declared.token.Mark.{Mark}
 use Rattle.job_tokens.specs.declared.token.Mark.TheVariants as mark
 use Rattle.job_tokens.specs.declared.token.Shape.{Shape}
@@ -76,6 +80,27 @@ abbrev pub passes_pieces : (over : Bool) → ℕ → List Piece → List Piece
 passes_pieces false n rest = number n ∷ rest
 passes_pieces true n rest = keyword word.Over ∷ number n ∷ rest
 
+-- the keyword of a limiter or channel, and how many tokens or places it has
+abbrev pub object_word : ObjectKind → Keyword
+object_word (Limiter n) = word.Limiter
+object_word (Channel n) = word.Channel
+
+abbrev pub count_of : ObjectKind → ℕ
+count_of (Limiter n) = n
+count_of (Channel n) = n
+
+-- the keyword of a step that asks for something
+abbrev pub ask_word : Ask → Keyword
+ask_word Acquire = word.Acquire
+ask_word Send = word.Send
+ask_word Receive = word.Receive
+
+-- what follows the name in such a step: a block, but a `send` ends there
+abbrev pub block_or_end : {A : Type 0} → Ask → (block end : A) → A
+block_or_end Acquire block end = block
+block_or_end Send block end = end
+block_or_end Receive block end = block
+
 abbrev mutual
   -- the steps of a block and the mark that ends it
   pub steps_pieces : Steps → List Piece → List Piece
@@ -96,6 +121,9 @@ abbrev mutual
   step_pieces (cancel name) rest = keyword word.Cancel ∷ name_piece role.Target name ∷ ends ∷ rest
   step_pieces (set_event name) rest = keyword word.Set ∷ name_piece role.Target name ∷ ends ∷ rest
   step_pieces (wait_for name) rest = keyword word.Wait ∷ name_piece role.Target name ∷ ends ∷ rest
+  step_pieces (ask_for name ask body) rest =
+      keyword (ask_word ask) ∷ name_piece role.Target name ∷ block_or_end ask (opens ∷ steps_pieces body rest) (ends ∷ rest)
+  step_pieces (close_channel name) rest = keyword word.Close ∷ name_piece role.Target name ∷ ends ∷ rest
   step_pieces (scope name deadline shield fail body) rest =
       keyword word.Scope ∷ name_piece role.Given name ∷ deadline_pieces deadline
       (flag_pieces word.Shield shield (flag_pieces word.Fail fail (opens ∷ steps_pieces body rest)))
@@ -103,6 +131,8 @@ abbrev mutual
       keyword word.Nursery ∷ name_piece role.Given name ∷ deadline_pieces deadline
       (flag_pieces word.Shield shield (opens ∷ steps_pieces body rest))
   step_pieces (event name body) rest = keyword word.Event ∷ name_piece role.Given name ∷ opens ∷ steps_pieces body rest
+  step_pieces (object name kind body) rest =
+      keyword (object_word kind) ∷ name_piece role.Given name ∷ number (count_of kind) ∷ opens ∷ steps_pieces body rest
   step_pieces (start name over body) rest = keyword word.Start ∷ name_piece role.Given name ∷ over_pieces over (opens ∷ steps_pieces body rest)
   step_pieces (repeat count over body) rest = keyword word.Repeat ∷ passes_pieces over count (opens ∷ steps_pieces body rest)
   step_pieces (attempt body handler cleanup) rest =
@@ -149,9 +179,16 @@ abbrev pub MayDivide : Format → (over : Bool) → Type 0
 MayDivide format false = Unit {0}
 MayDivide format true = has_events format ≡ true
 
+-- a `send` has no steps
+abbrev pub MayHaveSteps : Ask → Steps → Type 0
+MayHaveSteps Acquire body = Unit {0}
+MayHaveSteps Send stop = Unit {0}
+MayHaveSteps Send (step s ss) = ⊥
+MayHaveSteps Receive body = Unit {0}
+
 abbrev mutual
   -- the grammar of a block: a `start` only directly inside a nursery, and in format 3 in a `repeat` there, but in no `repeat over`;
-  -- no `repeat` in format 1, and neither a `repeat over` nor events in formats 1 and 2
+  -- no `repeat` in format 1, and no `repeat over`, events, limiters or channels in formats 1 and 2
   pub AreSteps : Format → Bool → Steps → Type 0
   AreSteps format inside stop = Unit {0}
   AreSteps format inside (step s ss) = IsStep format inside s × AreSteps format inside ss
@@ -169,9 +206,12 @@ abbrev mutual
   IsStep format inside (cancel name) = Unit {0}
   IsStep format inside (set_event name) = has_events format ≡ true
   IsStep format inside (wait_for name) = has_events format ≡ true
+  IsStep format inside (ask_for name ask body) = (has_events format ≡ true) × MayHaveSteps ask body × AreSteps format false body
+  IsStep format inside (close_channel name) = has_events format ≡ true
   IsStep format inside (scope name deadline shield fail body) = AreSteps format false body
   IsStep format inside (nursery name deadline shield body) = IsNurseryHead format deadline shield × AreSteps format true body
   IsStep format inside (event name body) = (has_events format ≡ true) × AreSteps format false body
+  IsStep format inside (object name kind body) = (has_events format ≡ true) × AreSteps format false body
   IsStep format inside (start name over body) = (inside ≡ true) × AreSteps format false body
   IsStep format inside (repeat count over body) = (extends_format_1 format ≡ true) × MayDivide format over
       × AreSteps format (starts_in_pass over (loop_inside format inside)) body

@@ -4,7 +4,11 @@ use Rattle.std.specs.Str.{bytes_eq}
 use Rattle.job_tree.specs.declared.deadline.Deadline.{Deadline}
 use Rattle.job_tree.specs.declared.deadline.Deadline.TheVariants.{Never, After, At}
 use Rattle.job_tree.specs.declared.format.Format.{Format}
-use Rattle.job_tree.specs.Tree.{Step, sleep, checkpoint, forever, pace, find, head, longest, need, raise, cancel, set_event, wait_for, scope, nursery, event, start, repeat, attempt, Steps, stop, step, Handled, unhandled, except, Cleaned, uncleaned, finally, Tree}
+use Rattle.job_tree.specs.declared.object.ObjectKind.{ObjectKind}
+use Rattle.job_tree.specs.declared.object.ObjectKind.TheVariants.{Limiter, Channel}
+use Rattle.job_tree.specs.declared.object.Ask.{Ask}
+use Rattle.job_tree.specs.declared.object.Ask.TheVariants.{Acquire, Send, Receive}
+use Rattle.job_tree.specs.Tree.{Step, sleep, checkpoint, forever, pace, find, head, longest, need, raise, cancel, set_event, wait_for, ask_for, close_channel, scope, nursery, event, object, start, repeat, attempt, Steps, stop, step, Handled, unhandled, except, Cleaned, uncleaned, finally, Tree}
 use Rattle.job_tokens.specs.declared.token.Mark.{Mark}
 use Rattle.job_tokens.specs.declared.token.Mark.TheVariants as mark
 use Rattle.job_tokens.specs.declared.token.Shape.{Shape}
@@ -118,6 +122,23 @@ nursery_at blocks shapes =
 abbrev pub event_at : Blocks → List Shape → Read Step
 event_at blocks shapes = word_at shapes >>= λ n. body_at blocks n.1 >>= λ b. Some (event n.0 b.0, b.1)
 
+-- what a keyword opens that has so many tokens or places
+abbrev pub kind_at : Keyword → ℕ → Option ObjectKind
+kind_at word.Limiter n = Some (Limiter n)
+kind_at word.Channel n = Some (Channel n)
+kind_at _ n = None
+
+abbrev pub object_at : Keyword → Blocks → List Shape → Read Step
+object_at keyword blocks shapes =
+    word_at shapes >>= λ n. number_at n.1 >>= λ c. kind_at keyword c.0 >>= λ kind. body_at blocks c.1 >>= λ b. Some (object n.0 kind b.0, b.1)
+
+-- a step that asks for something, with its block
+abbrev pub grant_at : Ask → Blocks → List Shape → Read Step
+grant_at ask blocks shapes = word_at shapes >>= λ n. body_at blocks n.1 >>= λ b. Some (ask_for n.0 ask b.0, b.1)
+
+abbrev pub send_at : List Shape → Read Step
+send_at shapes = word_at shapes >>= λ n. step_to_semicolon (ask_for n.0 Send stop) n.1
+
 abbrev pub start_at : Blocks → List Shape → Read Step
 start_at blocks shapes = word_at shapes >>= λ n. over_at n.1 >>= λ o. body_at blocks o.1 >>= λ b. Some (start n.0 o.0 b.0, b.1)
 
@@ -138,6 +159,7 @@ plain_step word.Raise shapes = word_at shapes >>= λ n. step_to_semicolon (raise
 plain_step word.Cancel shapes = word_at shapes >>= λ n. step_to_semicolon (cancel n.0) n.1
 plain_step word.Set shapes = word_at shapes >>= λ n. step_to_semicolon (set_event n.0) n.1
 plain_step word.Wait shapes = word_at shapes >>= λ n. step_to_semicolon (wait_for n.0) n.1
+plain_step word.Close shapes = word_at shapes >>= λ n. step_to_semicolon (close_channel n.0) n.1
 plain_step _ shapes = None
 
 -- a step, read after its keyword
@@ -145,6 +167,11 @@ abbrev pub step_after : Blocks → Keyword → List Shape → Read Step
 step_after blocks word.Scope shapes = scope_at blocks shapes
 step_after blocks word.Nursery shapes = nursery_at blocks shapes
 step_after blocks word.Event shapes = event_at blocks shapes
+step_after blocks word.Limiter shapes = object_at word.Limiter blocks shapes
+step_after blocks word.Channel shapes = object_at word.Channel blocks shapes
+step_after blocks word.Acquire shapes = grant_at Acquire blocks shapes
+step_after blocks word.Receive shapes = grant_at Receive blocks shapes
+step_after blocks word.Send shapes = send_at shapes
 step_after blocks word.Start shapes = start_at blocks shapes
 step_after blocks word.Repeat shapes = repeat_at blocks shapes
 step_after blocks word.Try shapes = try_at blocks shapes

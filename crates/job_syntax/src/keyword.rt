@@ -1,10 +1,11 @@
 ghost use Rattle.std.specs.Prelude.{◌≡◌};
-ghost use Rattle.job_syntax.specs.Keywords.{spelling_of, may_be_name, keyword_among, keyword_of};
+ghost use Rattle.job_syntax.specs.Keywords.{spelling_of, may_be_name, is_kept, keyword_among, keyword_of};
 
 use job_tree::Name;
 
 /// The words that have a meaning of their own in a job text. None of them may be the name of a job, task, scope, nursery,
-/// event or exception, except those that format 3 added: `event`, `set` and `wait`.
+/// event, limiter, channel or exception, except those that format 3 added: `event`, `set`, `wait`, `limiter`, `acquire`,
+/// `channel`, `send`, `receive` and `close`.
 #[derive(Clone, Copy, PartialEq, Eq)]
 pub enum Keyword {
     /// `job`. Begins a job.
@@ -59,10 +60,22 @@ pub enum Keyword {
     Set,
     /// `wait`. Waits for an event. In formats 1 and 2 it begins no step. It may be a name.
     Wait,
+    /// `limiter`. Opens a limiter. In formats 1 and 2 it begins no step. It may be a name.
+    Limiter,
+    /// `acquire`. Asks for a token of a limiter. In formats 1 and 2 it begins no step. It may be a name.
+    Acquire,
+    /// `channel`. Opens a channel. In formats 1 and 2 it begins no step. It may be a name.
+    Channel,
+    /// `send`. Sends to a channel. In formats 1 and 2 it begins no step. It may be a name.
+    Send,
+    /// `receive`. Receives from a channel. In formats 1 and 2 it begins no step. It may be a name.
+    Receive,
+    /// `close`. Closes a channel. In formats 1 and 2 it begins no step. It may be a name.
+    Close,
 }
 
 /// All keywords.
-pub const KEYWORDS: [Keyword; 26] = [
+pub const KEYWORDS: [Keyword; 32] = [
     Keyword::Job,
     Keyword::Sleep,
     Keyword::Checkpoint,
@@ -89,6 +102,12 @@ pub const KEYWORDS: [Keyword; 26] = [
     Keyword::Event,
     Keyword::Set,
     Keyword::Wait,
+    Keyword::Limiter,
+    Keyword::Acquire,
+    Keyword::Channel,
+    Keyword::Send,
+    Keyword::Receive,
+    Keyword::Close,
 ];
 
 impl Keyword {
@@ -123,6 +142,12 @@ impl Keyword {
             Keyword::Event => b"event",
             Keyword::Set => b"set",
             Keyword::Wait => b"wait",
+            Keyword::Limiter => b"limiter",
+            Keyword::Acquire => b"acquire",
+            Keyword::Channel => b"channel",
+            Keyword::Send => b"send",
+            Keyword::Receive => b"receive",
+            Keyword::Close => b"close",
         }
     }
 
@@ -135,6 +160,12 @@ impl Keyword {
             Keyword::Event => true,
             Keyword::Set => true,
             Keyword::Wait => true,
+            Keyword::Limiter => true,
+            Keyword::Acquire => true,
+            Keyword::Channel => true,
+            Keyword::Send => true,
+            Keyword::Receive => true,
+            Keyword::Close => true,
             _ => false,
         }
     }
@@ -145,6 +176,16 @@ impl Keyword {
         ensures { result ≡ keyword_of word }
     {
         keyword_among(&KEYWORDS, word.bytes())
+    }
+}
+
+/// Returns whether this is a keyword that may not be a name.
+pub fn is_kept(keyword: Option<Keyword>) -> bool
+    ensures { result ≡ is_kept keyword }
+{
+    match keyword {
+        Some(keyword) => !keyword.may_be_name(),
+        None => false,
     }
 }
 

@@ -16,8 +16,8 @@ mod tree;
 
 pub use checked::{GrammarCheck, check_grammar};
 pub use depth::{MAX_DEPTH, depth_fault};
-pub use keyword::Keyword;
+pub use keyword::{Keyword, is_kept};
 pub use nonterminal::Nonterminal;
-pub use range::number_fault;
+pub use range::{number_fault, object_named};
 pub use role::Role;
 pub use tree::job_at;

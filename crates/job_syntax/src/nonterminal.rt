@@ -1,5 +1,5 @@
 ghost use Rattle.std.specs.Prelude.{◌≡◌, reverse};
-ghost use Rattle.job_syntax.specs.Nonterminals.{repeat_rest, event_rest, use_rest, step_rest, cleanup_rest, tail_rest, nursery_rest, nursery_shield_rest, next};
+ghost use Rattle.job_syntax.specs.Nonterminals.{repeat_rest, event_rest, use_rest, object_rest, grant_rest, step_rest, cleanup_rest, tail_rest, nursery_rest, nursery_shield_rest, next};
 ghost use Rattle.job_syntax.specs.Syntax.{role_of};
 ghost use Rattle.job_tree.specs.declared.format.Format.{Format};
 ghost use Rattle.job_tokens.specs.Lexing.{Gives};
@@ -43,13 +43,13 @@ pub enum Nonterminal {
     Passes,
     /// The passes of a `repeat` of format 3 directly inside a nursery or in a `repeat` there, and its block.
     ItemsPasses,
-    /// The name that a job, scope, nursery, event or started task gets.
+    /// The name that a job, scope, nursery, event, limiter, channel or started task gets.
     Given,
     /// The name of an exception that is raised.
     Raised,
     /// The name of the exceptions that a handler handles.
     Handled,
-    /// The name in a `cancel`.
+    /// The name in a step that uses one, as `cancel`.
     Target,
     /// A number.
     Number,
@@ -170,7 +170,7 @@ impl Nonterminal {
 }
 
 // Returns what follows the first word of a step. A `start` may occur only directly inside a nursery, and in format 3 in a
-// `repeat` there. Format 1 has no `repeat`, and formats 1 and 2 have no events.
+// `repeat` there. Format 1 has no `repeat`, and formats 1 and 2 have no events, limiters and channels.
 fn step_rest(format: Format, inside: bool, keyword: Keyword) -> Option<&'static [Nonterminal]>
     ensures { Gives (λ x. reverse x.now) result (step_rest format inside keyword) }
 {
@@ -188,6 +188,12 @@ fn step_rest(format: Format, inside: bool, keyword: Keyword) -> Option<&'static 
         Keyword::Event => event_rest(format, inside),
         Keyword::Set => use_rest(format, inside),
         Keyword::Wait => use_rest(format, inside),
+        Keyword::Limiter => object_rest(format, inside),
+        Keyword::Acquire => grant_rest(format, inside),
+        Keyword::Channel => object_rest(format, inside),
+        Keyword::Send => use_rest(format, inside),
+        Keyword::Receive => grant_rest(format, inside),
+        Keyword::Close => use_rest(format, inside),
         Keyword::Try => rest!(tail inside, Steps, Open),
         _ => None,
     }
@@ -220,7 +226,7 @@ fn event_rest(format: Format, inside: bool) -> Option<&'static [Nonterminal]>
     rest!(outer inside, Steps, Open, Given)
 }
 
-// Returns what follows `set` and `wait`, which begin no step in formats 1 and 2.
+// Returns what follows `set`, `wait`, `send` and `close`, which begin no step in formats 1 and 2.
 fn use_rest(format: Format, inside: bool) -> Option<&'static [Nonterminal]>
     ensures { Gives (λ x. reverse x.now) result (use_rest format inside) }
 {
@@ -228,6 +234,26 @@ fn use_rest(format: Format, inside: bool) -> Option<&'static [Nonterminal]>
         return None;
     }
     rest!(outer inside, Semicolon, Target)
+}
+
+// Returns what follows `limiter` and `channel`, which begin no step in formats 1 and 2.
+fn object_rest(format: Format, inside: bool) -> Option<&'static [Nonterminal]>
+    ensures { Gives (λ x. reverse x.now) result (object_rest format inside) }
+{
+    if !format.has_events() {
+        return None;
+    }
+    rest!(outer inside, Steps, Open, Number, Given)
+}
+
+// Returns what follows `acquire` and `receive`, which begin no step in formats 1 and 2.
+fn grant_rest(format: Format, inside: bool) -> Option<&'static [Nonterminal]>
+    ensures { Gives (λ x. reverse x.now) result (grant_rest format inside) }
+{
+    if !format.has_events() {
+        return None;
+    }
+    rest!(outer inside, Steps, Open, Target)
 }
 
 // Returns what follows a word in the head of a nursery. In format 1 it has no such words.

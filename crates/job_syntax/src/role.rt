@@ -3,12 +3,12 @@
 pub enum Role {
     /// Not a name.
     Plain,
-    /// The name that a job, scope, nursery, event or started task gets.
+    /// The name that a job, scope, nursery, event, limiter, channel or started task gets.
     Given,
     /// The name of an exception that is raised.
     Raised,
     /// The name of the exceptions that a handler handles.
     Handled,
-    /// The name in a `cancel`, `set` or `wait`: that of a scope, nursery or event around it.
+    /// The name in a step that uses one: that of a scope, nursery, event, limiter or channel around it.
     Target,
 }

@@ -4,12 +4,12 @@ ghost use Rattle.job_tokens.specs.Shapes.{shapes_of};
 ghost use Rattle.job_tokens.specs.Lexing.{Gives};
 ghost use Rattle.job_syntax.specs.declared.keyword.Keyword.TheVariants as word;
 ghost use Rattle.job_tree.specs.declared.format.Format.{Format};
-ghost use Rattle.job_syntax.specs.Reading.{word_at, keyword_at, number_at, text_at, mark_at, after_word, flag_at, deadline_at, over_at, body_at, handler_at, cleanup_at, scope_at, nursery_at, event_at, start_at, passes_at, repeat_at, try_at, step_to_semicolon, plain_step, step_at, steps_with, blocks_at, head_at, job_at};
+ghost use Rattle.job_syntax.specs.Reading.{word_at, keyword_at, number_at, text_at, mark_at, after_word, flag_at, deadline_at, over_at, body_at, handler_at, cleanup_at, scope_at, nursery_at, event_at, kind_at, object_at, grant_at, send_at, start_at, passes_at, repeat_at, try_at, step_to_semicolon, plain_step, step_at, steps_with, blocks_at, head_at, job_at};
 
 use crate::depth::MAX_DEPTH;
 use crate::keyword::Keyword;
 use job_tokens::{Mark, Token};
-use job_tree::{Body, Deadline, Handler, Name, Step, Text};
+use job_tree::{Ask, Body, Deadline, Handler, Name, ObjectKind, Step, Text};
 use std::alloc::{AllocError, Global};
 
 /// Returns the name and the steps of the job with these tokens, of any format, if its blocks are nested at most 32 deep.
@@ -212,6 +212,11 @@ fn step_at(
         Keyword::Scope => scope_at(alloc, depth, rest),
         Keyword::Nursery => nursery_at(alloc, depth, rest),
         Keyword::Event => event_at(alloc, depth, rest),
+        Keyword::Limiter => object_at(alloc, depth, keyword, rest),
+        Keyword::Channel => object_at(alloc, depth, keyword, rest),
+        Keyword::Acquire => grant_at(alloc, depth, Ask::Acquire, rest),
+        Keyword::Receive => grant_at(alloc, depth, Ask::Receive, rest),
+        Keyword::Send => Ok(send_at(alloc, rest)),
         Keyword::Start => start_at(alloc, depth, rest),
         Keyword::Repeat => repeat_at(alloc, depth, rest),
         Keyword::Try => try_at(alloc, depth, rest),
@@ -305,6 +310,63 @@ fn event_at(
         return Ok(None);
     };
     Ok(Some((Step::Event { name, body }, rest)))
+}
+
+// Returns a limiter or a channel, read after this keyword.
+#[cycle(tree)]
+fn object_at(
+    alloc: Global,
+    depth: usize,
+    keyword: Keyword,
+    tokens: &[Token],
+) -> Result<Option<(Step, &[Token])>, AllocError>
+    ensures { IfOk result (λ x. Gives (λ s. (step_of s.0, shapes_of s.1.now)) x
+        (object_at keyword (blocks_at depth) (shapes_of tokens.now))) }
+{
+    let Some((name, rest)) = word_at(tokens) else {
+        return Ok(None);
+    };
+    let Some((count, rest)) = number_at(rest) else {
+        return Ok(None);
+    };
+    let Some(kind) = kind_at(keyword, count) else {
+        return Ok(None);
+    };
+    let Some((body, rest)) = body_at(alloc, depth, rest)? else {
+        return Ok(None);
+    };
+    Ok(Some((Step::Object { name, kind, body }, rest)))
+}
+
+// Returns what this keyword opens that has so many tokens or places.
+fn kind_at(keyword: Keyword, count: u64) -> Option<ObjectKind>
+    ensures { result ≡ kind_at keyword count }
+{
+    match keyword {
+        Keyword::Limiter => Some(ObjectKind::Limiter(count)),
+        Keyword::Channel => Some(ObjectKind::Channel(count)),
+        _ => None,
+    }
+}
+
+// Returns a step that asks for something, with its block.
+#[cycle(tree)]
+fn grant_at(
+    alloc: Global,
+    depth: usize,
+    ask: Ask,
+    tokens: &[Token],
+) -> Result<Option<(Step, &[Token])>, AllocError>
+    ensures { IfOk result (λ x. Gives (λ s. (step_of s.0, shapes_of s.1.now)) x
+        (grant_at ask (blocks_at depth) (shapes_of tokens.now))) }
+{
+    let Some((name, rest)) = word_at(tokens) else {
+        return Ok(None);
+    };
+    let Some((body, rest)) = body_at(alloc, depth, rest)? else {
+        return Ok(None);
+    };
+    Ok(Some((Step::Ask { name, ask, body }, rest)))
 }
 
 #[cycle(tree)]
@@ -457,8 +519,26 @@ fn plain_step(keyword: Keyword, tokens: &[Token]) -> Option<(Step, &[Token])>
             };
             step_to_semicolon(Step::Wait(name), rest)
         }
+        Keyword::Close => {
+            let Some((name, rest)) = word_at(tokens) else {
+                return None;
+            };
+            step_to_semicolon(Step::Close(name), rest)
+        }
         _ => None,
     }
+}
+
+// Returns a `send`, read after its keyword. Its block is empty.
+fn send_at(alloc: Global, tokens: &[Token]) -> Option<(Step, &[Token])>
+    ensures { Gives (λ x. (step_of x.0, shapes_of x.1.now)) result (send_at (shapes_of tokens.now)) }
+{
+    let Some((name, rest)) = word_at(tokens) else {
+        return None;
+    };
+    let ask = Ask::Send;
+    let body = Body::new(Vec::new(alloc));
+    step_to_semicolon(Step::Ask { name, ask, body }, rest)
 }
 
 fn need_at(tokens: &[Token]) -> Option<(Step, &[Token])>

@@ -1,11 +1,11 @@
-//! `job_reader`: names given twice, a `cancel` or `set` that no block of its name encloses, reserved names, and the
-//! sizes of jobs.
+//! `job_reader`: names given twice, uses of names that no block of that name and kind encloses, reserved names, and the sizes
+//! of jobs.
 
 use crate::fixtures::{word, wrong};
 use job_reader::{given_twice, reserved_name, size_of, stray_use};
 use job_syntax::Role;
 use job_tokens::{Shape, Token};
-use job_tree::{Body, Deadline, Handler, Name, Step};
+use job_tree::{Ask, Body, Deadline, Handler, Name, ObjectKind, Step};
 use std::alloc::Global;
 use std::test::Fail;
 
@@ -64,7 +64,7 @@ fn nursery(alloc: Global, child: &[u8], over: Option<u64>, step: Step) -> Result
     })
 }
 
-// The place where a `cancel` or `set` of that name is stray, which is at 9 after the job's name.
+// The place where a use of that name is stray, which is at 9 after the job's name.
 fn place_of_stray(body: &Body, name: &[u8]) -> Result<Option<usize>, Fail> {
     let tokens = [token(3, word(b"main")?), token(9, word(name)?)];
     let roles = [Role::Given, Role::Target];
@@ -182,6 +182,63 @@ fn an_event_cannot_be_cancelled(rt: HostRuntime) -> Result<(), Fail> {
     Ok(())
 }
 
+// A limiter or channel of one step.
+fn object(alloc: Global, kind: ObjectKind, step: Step) -> Result<Step, Fail> {
+    let name = word(b"o")?;
+    let body = block(alloc, step)?;
+    Ok(Step::Object { name, kind, body })
+}
+
+// A step that asks for this, without steps of its own.
+fn asking(alloc: Global, ask: Ask) -> Result<Step, Fail> {
+    let name = word(b"o")?;
+    let body = Body::new(Vec::new(alloc));
+    Ok(Step::Ask { name, ask, body })
+}
+
+// A limiter or channel, and a child in it that asks for this.
+fn ask_across_a_start(alloc: Global, kind: ObjectKind, ask: Ask) -> Result<Body, Fail> {
+    let asked = asking(alloc, ask)?;
+    let inner = nursery(alloc, b"t", None, asked)?;
+    let outer = object(alloc, kind, inner)?;
+    block(alloc, outer)
+}
+
+// A limiter or channel, what is asked of it, and where that is stray.
+const ASKS: &[(ObjectKind, Ask, Option<usize>)] = &[
+    (ObjectKind::Limiter(1), Ask::Acquire, None),
+    (ObjectKind::Limiter(1), Ask::Send, Some(9)),
+    (ObjectKind::Limiter(1), Ask::Receive, Some(9)),
+    (ObjectKind::Channel(0), Ask::Acquire, Some(9)),
+    (ObjectKind::Channel(0), Ask::Send, None),
+    (ObjectKind::Channel(0), Ask::Receive, None),
+];
+
+// Fails at the first row with another place.
+fn asks_are_found(alloc: Global) -> Result<(), Fail> {
+    for i in 0..ASKS.len() {
+        let (kind, ask, wanted) = ASKS[i];
+        let steps = ask_across_a_start(alloc, kind, ask)?;
+        if place_of_stray(&steps, b"o")? != wanted {
+            return Err(wrong(i));
+        }
+    }
+    Ok(())
+}
+
+#[test]
+fn limiters_and_channels_are_asked_for_their_own(rt: HostRuntime) -> Result<(), Fail> {
+    asks_are_found(rt.alloc())
+}
+
+#[test]
+fn a_limiter_cannot_be_closed(rt: HostRuntime) -> Result<(), Fail> {
+    let inside = object(rt.alloc(), ObjectKind::Limiter(1), Step::Close(word(b"o")?))?;
+    let steps = block(rt.alloc(), inside)?;
+    assert!(rt; place_of_stray(&steps, b"o")? == Some(9));
+    Ok(())
+}
+
 // The place of a name that is reserved where its token at 5 has that role.
 fn place_of_reserved(text: &[u8], role: Role) -> Result<Option<usize>, Fail> {
     let tokens = [token(5, word(text)?)];
@@ -201,6 +258,9 @@ const RESERVED: &[(&'static [u8], Role, Option<usize>)] = &[
     (b"event", Role::Given, None),
     (b"set", Role::Target, None),
     (b"wait", Role::Raised, None),
+    (b"limiter", Role::Given, None),
+    (b"send", Role::Target, None),
+    (b"close", Role::Handled, None),
 ];
 
 #[test]

@@ -339,6 +339,10 @@ const CANONICAL: &[Pair] = &[
         b"trio-job 3\njob m { event e { nursery n { repeat 2 { start a { wait e; } } set e; } } }",
         b"trio-job 3\njob m{event e{nursery n{repeat 2{start a{wait e;}}set e;}}}",
     ),
+    (
+        b"trio-job 3\njob m { limiter l 2 { channel q 0 { acquire l { send q; } receive q { close q; } } } }",
+        b"trio-job 3\njob m{limiter l 2{channel q 0{acquire l{send q;}receive q{close q;}}}}",
+    ),
 ];
 
 #[test]
@@ -423,6 +427,170 @@ const EVENTS: &[Row] = &[
 #[test]
 fn events_are_read_in_format_3(rt: HostRuntime) -> Result<(), Fail> {
     are_answered(rt.alloc(), EVENTS)
+}
+
+// Texts with limiters and channels, and with names that are keywords of theirs.
+const OBJECTS: &[Row] = &[
+    (
+        b"trio-job 3\njob main { limiter l 1 { acquire l { sleep 1; } } }",
+        0,
+        0,
+    ),
+    (
+        b"trio-job 3\njob main { channel q 0 { nursery n { start a { send q; } receive q { } close q; } } }",
+        0,
+        0,
+    ),
+    (b"trio-job 2\njob main { limiter l 1 { } }", 6, 22),
+    (b"trio-job 2\njob main { channel q 1 { } }", 6, 22),
+    (b"trio-job 2\njob main { acquire l { } }", 6, 22),
+    (b"trio-job 1\njob main { send q; }", 6, 22),
+    (b"trio-job 1\njob main { receive q { } }", 6, 22),
+    (b"trio-job 1\njob main { close q; }", 6, 22),
+    (
+        b"trio-job 2\njob limiter { scope channel after 0 { raise send; } }",
+        0,
+        0,
+    ),
+    (
+        b"trio-job 3\njob limiter { scope channel after 0 { raise send; } }",
+        0,
+        0,
+    ),
+    (
+        b"trio-job 3\njob main { nursery limiter after 0 { start channel over 1 { } } }",
+        0,
+        0,
+    ),
+    (
+        b"trio-job 3\njob main { limiter limiter 1 { acquire limiter { } } }",
+        0,
+        0,
+    ),
+    (
+        b"trio-job 3\njob main { channel close 0 { send close; close close; } }",
+        0,
+        0,
+    ),
+    (b"trio-job 3\njob main { limiter l { } }", 6, 32),
+    (b"trio-job 3\njob main { limiter 1 { } }", 6, 30),
+    (b"trio-job 3\njob main { acquire l; }", 6, 31),
+    (b"trio-job 3\njob main { send q { } }", 6, 29),
+    (b"trio-job 3\njob main { receive q 1 { } }", 6, 32),
+    (b"trio-job 3\njob main { close; }", 6, 27),
+    (
+        b"trio-job 3\njob main { nursery n { limiter l 1 { start a { } } } }",
+        6,
+        48,
+    ),
+    (
+        b"trio-job 3\njob main { nursery n { acquire l { start a { } } } }",
+        6,
+        46,
+    ),
+    (b"trio-job 3\njob main { limiter forever 1 { } }", 10, 30),
+    (
+        b"trio-job 3\njob main { scope q { } channel q 1 { } }",
+        8,
+        42,
+    ),
+];
+
+#[test]
+fn limiters_and_channels_are_read_in_format_3(rt: HostRuntime) -> Result<(), Fail> {
+    are_answered(rt.alloc(), OBJECTS)
+}
+
+// The numbers of tokens and places. That of a keyword before the number is another one, also after a scope named `limiter`.
+const COUNTS: &[Row] = &[
+    (b"trio-job 3\njob main { limiter l 0 { } }", 5, 32),
+    (b"trio-job 3\njob main { limiter l 1000000 { } }", 0, 0),
+    (b"trio-job 3\njob main { limiter l 1000001 { } }", 5, 32),
+    (b"trio-job 3\njob main { channel q 0 { } }", 0, 0),
+    (b"trio-job 3\njob main { channel q 1000000 { } }", 0, 0),
+    (b"trio-job 3\njob main { channel q 1000001 { } }", 5, 32),
+    (b"trio-job 3\njob main { limiter event 0 { } }", 5, 36),
+    (b"trio-job 3\njob main { limiter limiter 0 { } }", 5, 38),
+    (b"trio-job 3\njob main { limiter sleep 0 { } }", 10, 30),
+    (b"trio-job 3\njob main { limiter l 01 { } }", 5, 32),
+    (b"trio-job 3\njob main { scope limiter x 0 { } }", 5, 38),
+    (
+        b"trio-job 3\njob main { scope limiter after 0 { } }",
+        0,
+        0,
+    ),
+    (
+        b"trio-job 3\njob main { scope limiter at 1000001 { } }",
+        0,
+        0,
+    ),
+    (b"trio-job 2\njob main { limiter l 0 { } }", 6, 22),
+    (
+        b"trio-job 2\njob main { channel q 2000000000 { } }",
+        5,
+        32,
+    ),
+];
+
+#[test]
+fn limiters_have_tokens_and_channels_places(rt: HostRuntime) -> Result<(), Fail> {
+    are_answered(rt.alloc(), COUNTS)
+}
+
+// Uses of names that are those of other kinds, or of blocks that do not enclose them.
+const STRAY: &[Row] = &[
+    (b"trio-job 3\njob main { acquire l { } }", 9, 30),
+    (b"trio-job 3\njob main { send q; }", 9, 27),
+    (
+        b"trio-job 3\njob main { channel q 1 { acquire q { } } }",
+        9,
+        44,
+    ),
+    (
+        b"trio-job 3\njob main { limiter l 1 { send l; } }",
+        9,
+        41,
+    ),
+    (
+        b"trio-job 3\njob main { limiter l 1 { receive l { } } }",
+        9,
+        44,
+    ),
+    (
+        b"trio-job 3\njob main { limiter l 1 { close l; } }",
+        9,
+        42,
+    ),
+    (
+        b"trio-job 3\njob main { limiter l 1 { set l; } }",
+        9,
+        40,
+    ),
+    (
+        b"trio-job 3\njob main { channel q 1 { cancel q; } }",
+        9,
+        43,
+    ),
+    (
+        b"trio-job 3\njob main { event e { receive e { } } }",
+        9,
+        40,
+    ),
+    (
+        b"trio-job 3\njob main { channel q 1 { } close q; }",
+        9,
+        44,
+    ),
+    (
+        b"trio-job 3\njob main { channel q 0 { receive q { send q; close r; } } }",
+        9,
+        62,
+    ),
+];
+
+#[test]
+fn limiters_and_channels_are_used_inside_their_blocks(rt: HostRuntime) -> Result<(), Fail> {
+    are_answered(rt.alloc(), STRAY)
 }
 
 // Texts with a loop over the cuts of the task's part.
@@ -515,6 +683,14 @@ const LOOPS: &[Row] = &[
 #[test]
 fn a_loop_in_a_nursery_starts_tasks_in_format_3(rt: HostRuntime) -> Result<(), Fail> {
     are_answered(rt.alloc(), LOOPS)
+}
+
+#[test]
+fn steps_of_limiters_and_channels_count_once(rt: HostRuntime) -> Result<(), Fail> {
+    let text =
+        b"trio-job 3\njob m { limiter l 2 { channel q 0 { acquire l { send q; } receive q { close q; } } } }".as_slice();
+    assert!(rt; numbers(rt.alloc(), text)? == (3, 1, 6));
+    Ok(())
 }
 
 // A job of format 2.

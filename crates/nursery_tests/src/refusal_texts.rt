@@ -27,7 +27,7 @@ pub(crate) const EXPECTED: &[Row] = &[
     ),
     (
         "trio-job 1\njob { }",
-        "f:2:5: expected a name\njob { }\n    ^\neach job, scope, nursery, event and start has a name, as in `scope work after 5 { .. }`\n",
+        "f:2:5: expected a name\njob { }\n    ^\neach job, scope, nursery, event, limiter, channel and start has a name, as in `scope work after 5 { .. }`\n",
     ),
     (
         "trio-job 1\njob a { scope s; }",
@@ -103,7 +103,7 @@ pub(crate) const WRONG: &[Row] = &[
     ),
     (
         "trio-job 1\njob a { scope a { } }",
-        "f:2:15: this name was given before: jobs, scopes, nurseries, events and starts need names of their own\njob a { scope a { } }\n              ^\nit was first given at f:2:5\n",
+        "f:2:15: this name was given before: jobs, scopes, nurseries, events, limiters, channels and starts need names of their own\njob a { scope a { } }\n              ^\nit was first given at f:2:5\n",
     ),
     (
         "trio-job 1\njob a { cancel b; }",
@@ -112,6 +112,18 @@ pub(crate) const WRONG: &[Row] = &[
     (
         "trio-job 3\njob a { set b; }",
         "f:2:13: no enclosing event has this name\njob a { set b; }\n            ^\nno event is around this step\n",
+    ),
+    (
+        "trio-job 3\njob a { acquire b { } }",
+        "f:2:17: no enclosing limiter has this name\njob a { acquire b { } }\n                ^\nno limiter is around this step\n",
+    ),
+    (
+        "trio-job 3\njob a { send b; }",
+        "f:2:14: no enclosing channel has this name\njob a { send b; }\n             ^\nno channel is around this step\n",
+    ),
+    (
+        "trio-job 3\njob a { limiter b 0 { } }",
+        "f:2:19: a number that is out of its range or has a leading zero\njob a { limiter b 0 { } }\n                  ^\nthe number of tokens of a limiter is from 1 to 1000000\n",
     ),
     (
         "trio-job 1\njob a { raise sleep; }",
@@ -188,7 +200,39 @@ pub(crate) const HELPED: &[Row] = &[
         "\nwhat can be cancelled here: `s`\n",
     ),
     (
+        "trio-job 3\njob a { limiter b 2 { channel c 0 { limiter d 1 { acquire c { } } } } }",
+        "\nthe limiters around this step: `d`, `b`\n",
+    ),
+    (
+        "trio-job 3\njob a { limiter b 2 { channel c 0 { receive b { } } } }",
+        "\nthe channels around this step: `c`\n",
+    ),
+    (
+        "trio-job 3\njob a { channel c 1000001 { } }",
+        "\nthe number of places of a channel is from 0 to 1000000\n",
+    ),
+    (
+        "trio-job 3\njob a { limiter b { } }",
+        "\na limiter has the number of its tokens after its name, a channel that of its places: `limiter NAME 2 { .. }`, `channel NAME 0 { .. }`\n",
+    ),
+    (
+        "trio-job 3\njob a { limitr b 2 { } }",
+        "\ndid you mean `limiter`?\n",
+    ),
+    (
+        "trio-job 3\njob a { Lock b; }",
+        "\na lock is `limiter NAME 1 { .. }` here, a semaphore `limiter NAME N { .. }`, in format 3, with `acquire NAME { .. }`\n",
+    ),
+    (
+        "trio-job 3\njob a { channel b 1 { await b.send(1); } }",
+        "\nTrio's `await NAME.send(..)` is `send NAME;` here\n",
+    ),
+    (
         "trio-job 2\njob a { event b { } }",
+        "\nformat 3 has this: begin the job text with the line `trio-job 3`\n",
+    ),
+    (
+        "trio-job 2\njob a { channel b 0 { } }",
         "\nformat 3 has this: begin the job text with the line `trio-job 3`\n",
     ),
     (
@@ -297,7 +341,7 @@ pub(crate) const HELPED: &[Row] = &[
     ),
     (
         "trio-job 1\njob a { scope fail { } }",
-        "\neach job, scope, nursery, event and start has a name, as in `scope work after 5 { .. }`\n",
+        "\neach job, scope, nursery, event, limiter, channel and start has a name, as in `scope work after 5 { .. }`\n",
     ),
     (
         "trio-job 1\njob a { raise Cancelled; }",

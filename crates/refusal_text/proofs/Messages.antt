@@ -13,7 +13,7 @@ use Rattle.job_reader.specs.Refusals.{HasTokens, format_of}
 use Rattle.basics.specs.Places.{column_of}
 use Rattle.refusal_text.specs.declared.hinting.Hint.{Hint}
 use Rattle.refusal_text.specs.Expecting.{expected_nonterminal, IsExpected}
-use Rattle.refusal_text.specs.Scanning.{shape_at, last_before}
+use Rattle.refusal_text.specs.Scanning.{shape_at, last_before, earlier_before}
 use Rattle.job_hints.specs.declared.advice.Advice.{Advice}
 use Rattle.job_hints.specs.Numbers.{number_advice}
 use Rattle.refusal_text.specs.Hinting.{reserved_name_hint, syntax_hint, twice_hint, IsSyntaxHint, IsTwiceHint}
@@ -122,13 +122,16 @@ helps_reserved at given before shape h before_is shape_is is =
     is ∙ ap (reserved_name_hint before) shape_is ∙ ap (λ (b : Option Shape). reserved_name_hint b (shape_at at given)) before_is
 
 -- the hint for a number
-pub helps_number : (format : Format) (text : List ℕ) (at : ℕ) (given : List Token) (before : Option Shape) (rest : List ℕ) (a : Advice) →
-    format ≡ format_of text → before ≡ last_before at None given → rest ≡ drop at text → a ≡ number_advice format before rest
-    → a ≡ number_advice (format_of text) (last_before at None given) (drop at text)
-helps_number format text at given before rest a of before_is rest_is is =
-    is ∙ ap (λ (f : Format). number_advice f before rest) of
-    ∙ ap (λ (b : Option Shape). number_advice (format_of text) b rest) before_is
-    ∙ ap (number_advice (format_of text) (last_before at None given)) rest_is
+pub helps_number : (format : Format) (text : List ℕ) (at : ℕ) (given : List Token) (earlier before : Option Shape) (rest : List ℕ)
+    (a : Advice) →
+    format ≡ format_of text → earlier ≡ earlier_before at None None given → before ≡ last_before at None given → rest ≡ drop at text
+    → a ≡ number_advice format earlier before rest
+    → a ≡ number_advice (format_of text) (earlier_before at None None given) (last_before at None given) (drop at text)
+helps_number format text at given earlier before rest a of earlier_is before_is rest_is is =
+    is ∙ ap (λ (f : Format). number_advice f earlier before rest) of
+    ∙ ap (λ (e : Option Shape). number_advice (format_of text) e before rest) earlier_is
+    ∙ ap (λ (b : Option Shape). number_advice (format_of text) (earlier_before at None None given) b rest) before_is
+    ∙ ap (number_advice (format_of text) (earlier_before at None None given) (last_before at None given)) rest_is
 
 -- the hint where a name is given twice, found by the tokens of the text and their roles
 pub helps_twice : (format : Format) (text : List ℕ) (tokens given : List Token) (roles shown : List Role) (fault stop : Option ℕ)

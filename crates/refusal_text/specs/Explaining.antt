@@ -1,8 +1,10 @@
 -- How a refusal is explained to the user: its place, a sentence, the line of the job text, and a caret under the place.
-use Rattle.std.specs.Prelude.{◌≡◌, ℕ, ◌-◌, ◌==◌, ◌&&◌, ◌||◌, Bool, true, false, min, nat_le, if◌then◌else◌, List, [], ◌∷◌, ◌++◌, length, take, drop, map, replicate, Option, Some, None, codes, decimal, slice_get}
+use Rattle.std.specs.Prelude.{◌≡◌, ℕ, ◌-◌, ◌==◌, ◌&&◌, ◌||◌, Bool, min, nat_le, if◌then◌else◌, List, [], ◌∷◌, ◌++◌, length, take, drop, map, replicate, Option, Some, None, codes, decimal, slice_get}
 use Rattle.std.specs.List.{before_first}
 use Rattle.job_syntax.specs.declared.nonterminal.Nonterminal.{Nonterminal}
 use Rattle.job_reader.specs.declared.fault.JobFault.{JobFault}
+use Rattle.job_reader.specs.declared.target.TargetKind.{TargetKind}
+use Rattle.job_reader.specs.declared.target.TargetKind.TheVariants as target
 use Rattle.basics.specs.Places.{line_of, column_of}
 use Rattle.job_syntax.specs.Keywords.{spelling_of}
 use Rattle.refusal_text.specs.declared.hinting.Hint.{Hint}
@@ -91,29 +93,33 @@ abbrev pub more_quoted_names : List (List ℕ) → List ℕ
 more_quoted_names [] = []
 more_quoted_names (n ∷ ns) = codes ", " ++ quoted_name n ++ more_quoted_names ns
 
-abbrev pub none_around : (of_event : Bool) → List ℕ
-none_around false = codes "no scope or nursery is around this `cancel`\n"
-none_around true = codes "no event is around this step\n"
+abbrev pub none_around : TargetKind → List ℕ
+none_around target.Scope = codes "no scope or nursery is around this `cancel`\n"
+none_around target.Event = codes "no event is around this step\n"
+none_around target.Limiter = codes "no limiter is around this step\n"
+none_around target.Channel = codes "no channel is around this step\n"
 
-abbrev pub list_head : (of_event : Bool) → List ℕ
-list_head false = codes "what can be cancelled here: "
-list_head true = codes "the events around this step: "
+abbrev pub list_head : TargetKind → List ℕ
+list_head target.Scope = codes "what can be cancelled here: "
+list_head target.Event = codes "the events around this step: "
+list_head target.Limiter = codes "the limiters around this step: "
+list_head target.Channel = codes "the channels around this step: "
 
 -- the line that lists what could be named at a place, if it is to be listed
-abbrev pub names_line : (of_event : Bool) → List (List ℕ) → List ℕ
-names_line of_event [] = none_around of_event
-names_line of_event (n ∷ ns) = list_head of_event ++ quoted_name n ++ more_quoted_names ns ++ codes "\n"
+abbrev pub names_line : TargetKind → List (List ℕ) → List ℕ
+names_line used [] = none_around used
+names_line used (n ∷ ns) = list_head used ++ quoted_name n ++ more_quoted_names ns ++ codes "\n"
 
-abbrev pub names_of : (of_event : Bool) → Option (List (List ℕ)) → List ℕ
-names_of of_event None = []
-names_of of_event (Some names) = names_line of_event names
+abbrev pub names_of : TargetKind → Option (List (List ℕ)) → List ℕ
+names_of used None = []
+names_of used (Some names) = names_line used names
 
 -- The message for a refusal of a job text: its sentence depends on its kind, on the byte at the place, on what the grammar
--- expects, and on whether the name at the place is that of an event. A hint follows, and a list of what could be named.
+-- expects, and on what the step uses whose name is at the place. A hint follows, and a list of what could be named.
 abbrev pub Tells : List ℕ → List ℕ → JobFault → List ℕ → Type 0
 Tells job text fault message =
-    (nonterminal : Option Nonterminal) × (help : Option Hint) × (of_event : Bool) × (names : Option (List (List ℕ)))
+    (nonterminal : Option Nonterminal) × (help : Option Hint) × (used : TargetKind) × (names : Option (List (List ℕ)))
     × IsAsked fault.kind text nonterminal × IsHint fault.kind text fault.at help
-    × IsStray fault.kind text fault.at of_event × IsListed fault.kind text names
-    × (message ≡ (pointed_message job text fault.at (sentence_of fault.kind (slice_get text fault.at) nonterminal of_event) ++ hint_of job text help)
-    ++ names_of of_event names)
+    × IsStray fault.kind text fault.at used × IsListed fault.kind text names
+    × (message ≡ (pointed_message job text fault.at (sentence_of fault.kind (slice_get text fault.at) nonterminal used) ++ hint_of job text help)
+    ++ names_of used names)

@@ -27,7 +27,7 @@ use Rattle.job_hints.specs.Numbers.{number_advice}
 use Rattle.refusal_text.specs.declared.hinting.Hint.{Hint}
 use Rattle.refusal_text.specs.declared.hinting.Hint.TheVariants as hint
 use Rattle.refusal_text.specs.Expecting.{expected_nonterminal}
-use Rattle.refusal_text.specs.Scanning.{shape_at, last_before, open_blocks, first_given_place, is_started}
+use Rattle.refusal_text.specs.Scanning.{shape_at, last_before, earlier_before, open_blocks, first_given_place, is_started}
 
 abbrev pub advice_hint : Option Advice → Option Hint
 advice_hint None = None
@@ -52,7 +52,7 @@ IsTokenHint text at h = (tokens : List Token) × (fault : Option ℕ) × HasToke
 
 abbrev pub IsNumberHint : List ℕ → ℕ → Option Hint → Type 0
 IsNumberHint text at h = (tokens : List Token) × (fault : Option ℕ) × HasTokens text tokens fault
-    × (h ≡ Some (hint.Advice (number_advice (format_of text) (last_before at None tokens) (drop at text))))
+    × (h ≡ Some (hint.Advice (number_advice (format_of text) (earlier_before at None None tokens) (last_before at None tokens) (drop at text))))
 
 -- ---- the hint where tokens leave the grammar
 

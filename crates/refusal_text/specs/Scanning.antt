@@ -22,6 +22,11 @@ abbrev pub last_before : ℕ → Option Shape → List Token → Option Shape
 last_before at found [] = found
 last_before at found (t ∷ ts) = if nat_lt t.at at then last_before at (Some t.shape) ts else found
 
+-- the token before that one, or `found` if there is none; `last` is the token before these
+abbrev pub earlier_before : ℕ → (found last : Option Shape) → List Token → Option Shape
+earlier_before at found last [] = found
+earlier_before at found last (t ∷ ts) = if nat_lt t.at at then earlier_before at last (Some t.shape) ts else found
+
 -- the places of the open blocks, innermost first, after a token at a place
 abbrev pub open_blocks_after : List ℕ → ℕ → Option Mark → List ℕ
 open_blocks_after places at None = places

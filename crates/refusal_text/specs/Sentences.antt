@@ -1,8 +1,10 @@
 -- What is wrong with a job text, in a sentence.
-use Rattle.std.specs.Prelude.{ℕ, Bool, true, false, ◌==◌, nat_lt, if◌then◌else◌, List, Option, Some, None, codes}
+use Rattle.std.specs.Prelude.{ℕ, ◌==◌, nat_lt, if◌then◌else◌, List, Option, Some, None, codes}
 use Rattle.job_tree.specs.Words.{is_digit, is_letter}
 use Rattle.job_syntax.specs.declared.nonterminal.Nonterminal.{Nonterminal}
 use Rattle.job_syntax.specs.declared.nonterminal.Nonterminal.TheVariants as nonterminal
+use Rattle.job_reader.specs.declared.target.TargetKind.{TargetKind}
+use Rattle.job_reader.specs.declared.target.TargetKind.TheVariants as target
 use Rattle.job_reader.specs.declared.fault.JobKind.{JobKind}
 use Rattle.job_reader.specs.declared.fault.JobKind.TheVariants.{TooLong, NotAscii, Version, Token, Number, Syntax, Depth, Twice, NotEnclosing, Reserved, TooLarge, NoMemory}
 
@@ -41,30 +43,34 @@ expected_sentence (Some nonterminal.ItemsPasses) = codes "expected a number or `
 expected_sentence (Some nonterminal.Given) = codes "expected a name"
 expected_sentence (Some nonterminal.Raised) = codes "expected the name of an exception"
 expected_sentence (Some nonterminal.Handled) = codes "expected the name of an exception"
-expected_sentence (Some nonterminal.Target) = codes "expected the name of an enclosing scope or nursery, after `set` and `wait` that of an event"
+expected_sentence (Some nonterminal.Target) =
+    codes "expected the name of an enclosing scope or nursery, after `set` and `wait` of an event, after `acquire` of a limiter, after `send`, `receive` and `close` of a channel"
 expected_sentence (Some nonterminal.Number) = codes "expected a number"
 expected_sentence (Some nonterminal.Text) = codes "expected a string, as `\"error\"`"
 expected_sentence (Some nonterminal.Open) = codes "expected `{`"
 expected_sentence (Some nonterminal.Semicolon) = codes "expected `;`"
 
--- the name in a `cancel`, or in a `set` or `wait`, is that of nothing around it
-abbrev pub stray_sentence : (of_event : Bool) → List ℕ
-stray_sentence false = codes "no enclosing scope or nursery has this name"
-stray_sentence true = codes "no enclosing event has this name"
+-- the name in a step that uses this is that of nothing around it
+abbrev pub stray_sentence : TargetKind → List ℕ
+stray_sentence target.Scope = codes "no enclosing scope or nursery has this name"
+stray_sentence target.Event = codes "no enclosing event has this name"
+stray_sentence target.Limiter = codes "no enclosing limiter has this name"
+stray_sentence target.Channel = codes "no enclosing channel has this name"
 
 -- What is wrong at a place with this byte (`None` is the end of the text), where the grammar expects this; or where a name is that of
--- nothing around it, which may be that of an event.
-abbrev pub sentence_of : JobKind → Option ℕ → Option Nonterminal → (of_event : Bool) → List ℕ
-sentence_of TooLong byte asked of_event = codes "the job text has more than 65536 bytes"
-sentence_of NotAscii byte asked of_event = byte_sentence byte
-sentence_of Version byte asked of_event = codes "a job text begins with the line `trio-job 1`, `trio-job 2` or `trio-job 3`, ended by a newline alone"
-sentence_of Token byte asked of_event = token_sentence byte
-sentence_of Number byte asked of_event = codes "a number that is out of its range or has a leading zero"
-sentence_of Syntax byte asked of_event = expected_sentence asked
-sentence_of Depth byte asked of_event = codes "blocks are nested more than 32 deep"
-sentence_of Twice byte asked of_event = codes "this name was given before: jobs, scopes, nurseries, events and starts need names of their own"
-sentence_of NotEnclosing byte asked of_event = stray_sentence of_event
-sentence_of Reserved byte asked of_event = codes "this name is reserved: a name must not be a keyword or `Cancelled`, and `TooSlow` is allowed only after `except`"
-sentence_of TooLarge byte asked of_event =
+-- nothing around it, in a step that uses such a thing.
+abbrev pub sentence_of : JobKind → Option ℕ → Option Nonterminal → TargetKind → List ℕ
+sentence_of TooLong byte asked used = codes "the job text has more than 65536 bytes"
+sentence_of NotAscii byte asked used = byte_sentence byte
+sentence_of Version byte asked used = codes "a job text begins with the line `trio-job 1`, `trio-job 2` or `trio-job 3`, ended by a newline alone"
+sentence_of Token byte asked used = token_sentence byte
+sentence_of Number byte asked used = codes "a number that is out of its range or has a leading zero"
+sentence_of Syntax byte asked used = expected_sentence asked
+sentence_of Depth byte asked used = codes "blocks are nested more than 32 deep"
+sentence_of Twice byte asked used =
+    codes "this name was given before: jobs, scopes, nurseries, events, limiters, channels and starts need names of their own"
+sentence_of NotEnclosing byte asked used = stray_sentence used
+sentence_of Reserved byte asked used = codes "this name is reserved: a name must not be a keyword or `Cancelled`, and `TooSlow` is allowed only after `except`"
+sentence_of TooLarge byte asked used =
     codes "the job has more than 1000000 steps, in format 1 more than 100000, the copies that `over` makes and the passes of `repeat` counted"
-sentence_of NoMemory byte asked of_event = codes "no memory"
+sentence_of NoMemory byte asked used = codes "no memory"

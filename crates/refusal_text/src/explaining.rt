@@ -12,7 +12,7 @@ use crate::hinting::Hint;
 use crate::position::Position;
 use crate::sentences::sentence_of;
 use basics::{column_of, line_of, push_str_number};
-use job_reader::JobFault;
+use job_reader::{JobFault, TargetKind};
 use job_syntax::Keyword;
 use job_tree::Name;
 use std::alloc::{AllocError, Global};
@@ -24,8 +24,8 @@ const MAX_AFTER: usize = 40;
 
 /// Returns the message that explains a refusal to the user: that of `pointed_message`, with a sentence for the kind of the
 /// refusal. If there is a hint, one more line has it: such as a keyword that is nearly spelled, a block that is not closed,
-/// what a job has in place of a word of Trio, or which scopes and nurseries could be cancelled there, or which events could be
-/// set. `job` is the name that the user gave the text. The only error is that memory is short.
+/// what a job has in place of a word of Trio, or which scopes and nurseries could be cancelled there, or which events, limiters or
+/// channels could be used. `job` is the name that the user gave the text. The only error is that memory is short.
 pub fn refusal_message(
     alloc: Global,
     job: &str,
@@ -37,14 +37,14 @@ pub fn refusal_message(
     let Findings {
         asked,
         hint,
-        of_event,
+        used,
         names,
     } = findings_of(alloc, text, fault)?;
     let (_, rest) = text.split_at(fault.at.min(text.len()));
-    let sentence = sentence_of(fault.kind, rest.first().copied(), asked, of_event);
+    let sentence = sentence_of(fault.kind, rest.first().copied(), asked, used);
     let mut message = pointed_message(alloc, job, text, fault.at, sentence)?;
     push_help(&mut message, job, text, hint)?;
-    push_names(&mut message, of_event, &names)?;
+    push_names(&mut message, used, &names)?;
     Ok(message)
 }
 
@@ -222,63 +222,65 @@ fn push_size(message: &mut String, size: u64) -> Result<(), AllocError>
     Ok(())
 }
 
-// Appends the line that lists what could be named, if it is to be listed: events, or scopes and nurseries.
+// Appends the line that lists what could be named, if it is to be listed: what the step can use.
 fn push_names(
     message: &mut String,
-    of_event: bool,
+    used: TargetKind,
     names: &Option<Vec<Name>>,
 ) -> Result<(), AllocError>
-    ensures { OnOk result (string_bytes message.new ≡ string_bytes message.old ++ names_of of_event (names_held names.now)) }
+    ensures { OnOk result (string_bytes message.new ≡ string_bytes message.old ++ names_of used (names_held names.now)) }
 {
     match names {
-        Some(names) => push_list(message, of_event, names.as_slice()),
+        Some(names) => push_list(message, used, names.as_slice()),
         None => Ok(()),
     }
 }
 
 // Appends the line that lists what could be named.
-fn push_list(message: &mut String, of_event: bool, names: &[Name]) -> Result<(), AllocError>
-    ensures { OnOk result (string_bytes message.new ≡ string_bytes message.old ++ names_line of_event names.now) }
+fn push_list(message: &mut String, used: TargetKind, names: &[Name]) -> Result<(), AllocError>
+    ensures { OnOk result (string_bytes message.new ≡ string_bytes message.old ++ names_line used names.now) }
 {
     let Some((first, others)) = names.split_first() else {
-        return message.push_str(none_around(of_event));
+        return message.push_str(none_around(used));
     };
-    push_some(message, of_event, *first, others)?;
+    push_some(message, used, *first, others)?;
     Ok(())
 }
 
 // Returns that there is nothing that could be named.
-fn none_around(of_event: bool) -> &'static str
-    ensures { result.now ≡ none_around of_event }
+fn none_around(used: TargetKind) -> &'static str
+    ensures { result.now ≡ none_around used }
 {
-    if of_event {
-        "no event is around this step\n"
-    } else {
-        "no scope or nursery is around this `cancel`\n"
+    match used {
+        TargetKind::Scope => "no scope or nursery is around this `cancel`\n",
+        TargetKind::Event => "no event is around this step\n",
+        TargetKind::Limiter => "no limiter is around this step\n",
+        TargetKind::Channel => "no channel is around this step\n",
     }
 }
 
 // Returns what is written before the names.
-fn list_head(of_event: bool) -> &'static str
-    ensures { result.now ≡ list_head of_event }
+fn list_head(used: TargetKind) -> &'static str
+    ensures { result.now ≡ list_head used }
 {
-    if of_event {
-        "the events around this step: "
-    } else {
-        "what can be cancelled here: "
+    match used {
+        TargetKind::Scope => "what can be cancelled here: ",
+        TargetKind::Event => "the events around this step: ",
+        TargetKind::Limiter => "the limiters around this step: ",
+        TargetKind::Channel => "the channels around this step: ",
     }
 }
 
 // Appends the line that lists at least one name.
 fn push_some(
     message: &mut String,
-    of_event: bool,
+    used: TargetKind,
     first: Name,
     others: &[Name],
 ) -> Result<(), AllocError>
-    ensures { OnOk result (string_bytes message.new ≡ string_bytes message.old ++ names_line of_event (first ∷ others.now)) }
+    ensures { OnOk result (string_bytes message.new ≡ string_bytes message.old ++ names_line used (first ∷ others.now)) }
 {
-    message.push_str(list_head(of_event))?;
+    message.push_str(list_head(used))?;
     push_quoted(message, first)?;
     push_more(message, others)?;
     message.push_str("\n")?;

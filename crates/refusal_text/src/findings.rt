@@ -1,7 +1,8 @@
-ghost use Rattle.std.specs.Prelude.{◌≡◌, None, false, IfOk};
+ghost use Rattle.std.specs.Prelude.{◌≡◌, None, IfOk};
+ghost use Rattle.job_reader.specs.declared.target.TargetKind.TheVariants as target;
 ghost use Rattle.refusal_text.specs.Expecting.{IsAsked, IsExpected};
 ghost use Rattle.refusal_text.specs.Hinting.{IsHint, IsSyntaxHint, IsStrayHint};
-ghost use Rattle.refusal_text.specs.Scopes.{IsListed, IsEnclosing, IsOfEvent, IsStray, names_held};
+ghost use Rattle.refusal_text.specs.Scopes.{IsListed, IsEnclosing, IsOfKind, IsStray, names_held};
 
 use crate::expecting::expected_nonterminal;
 use crate::hinting::{
@@ -10,10 +11,10 @@ use crate::hinting::{
 };
 use crate::lexed_text::LexedText;
 use crate::scanning::last_before;
-use crate::scopes::{enclosing_names, is_of_event};
+use crate::scopes::{enclosing_names, kind_used};
 use crate::size::size_hint;
 use job_hints::version_advice;
-use job_reader::{JobFault, JobKind};
+use job_reader::{JobFault, JobKind, TargetKind};
 use job_syntax::Nonterminal;
 use job_tree::Name;
 use std::alloc::{AllocError, Global};
@@ -26,11 +27,10 @@ pub(crate) struct Findings {
     pub asked: Option<Nonterminal>,
     /// The hint, if there is one.
     pub hint: Option<Hint>,
-    /// Whether the refusal is of a `set` or `wait` that names no enclosing event.
-    pub of_event: bool,
-    /// For a `cancel` that names no enclosing scope or nursery, the names of those that enclose it, the innermost first; for a
-    /// `set` or `wait` that names no enclosing event, the names of the events. `None` if there is no such step, and for any other
-    /// refusal.
+    /// For a name that nothing of its kind around the step has, what the step uses; for any other refusal `Scope`.
+    pub used: TargetKind,
+    /// For such a name, the names of what the step could use, the innermost first: of the scopes and nurseries around a `cancel`,
+    /// and of the events, limiters or channels around other steps. `None` if there is no such step, and for any other refusal.
     pub names: Option<Vec<Name>>,
 }
 
@@ -39,13 +39,13 @@ impl Findings {
     fn with_hint(hint: Option<Hint>) -> Findings
         ensures asked { result.asked ≡ None }
         ensures hint { result.hint ≡ hint }
-        ensures of_event { result.of_event ≡ false }
+        ensures used { result.used ≡ target.Scope }
         ensures names { names_held result.names ≡ None }
     {
         Findings {
             asked: None,
             hint,
-            of_event: false,
+            used: TargetKind::Scope,
             names: None,
         }
     }
@@ -59,7 +59,7 @@ pub(crate) fn findings_of(
 ) -> Result<Findings, AllocError>
     ensures asked { IfOk result (λ found. IsAsked fault.kind text.now found.asked) }
     ensures hint { IfOk result (λ found. IsHint fault.kind text.now fault.at found.hint) }
-    ensures of_event { IfOk result (λ found. IsStray fault.kind text.now fault.at found.of_event) }
+    ensures used { IfOk result (λ found. IsStray fault.kind text.now fault.at found.used) }
     ensures names { IfOk result (λ found. IsListed fault.kind text.now (names_held found.names)) }
 {
     let at = fault.at;
@@ -81,7 +81,7 @@ pub(crate) fn findings_of(
 fn syntax_findings(alloc: Global, text: &[u8], at: usize) -> Result<Findings, AllocError>
     ensures asked { IfOk result (λ found. IsExpected text.now found.asked) }
     ensures hint { IfOk result (λ found. IsSyntaxHint text.now at found.hint) }
-    ensures of_event { IfOk result (λ found. found.of_event ≡ false) }
+    ensures used { IfOk result (λ found. found.used ≡ target.Scope) }
     ensures names { IfOk result (λ found. names_held found.names ≡ None) }
 {
     let lexed = LexedText::new(alloc, text)?;
@@ -90,7 +90,7 @@ fn syntax_findings(alloc: Global, text: &[u8], at: usize) -> Result<Findings, Al
     Ok(Findings {
         asked,
         hint,
-        of_event: false,
+        used: TargetKind::Scope,
         names: None,
     })
 }
@@ -100,7 +100,7 @@ fn syntax_findings(alloc: Global, text: &[u8], at: usize) -> Result<Findings, Al
 fn stray_findings(alloc: Global, text: &[u8], at: usize) -> Result<Findings, AllocError>
     ensures asked { IfOk result (λ found. found.asked ≡ None) }
     ensures hint { IfOk result (λ found. IsStrayHint text.now at found.hint) }
-    ensures of_event { IfOk result (λ found. IsOfEvent text.now at found.of_event) }
+    ensures used { IfOk result (λ found. IsOfKind text.now at found.used) }
     ensures names { IfOk result (λ found. IsEnclosing text.now (names_held found.names)) }
 {
     let lexed = LexedText::new(alloc, text)?;
@@ -110,7 +110,7 @@ fn stray_findings(alloc: Global, text: &[u8], at: usize) -> Result<Findings, All
     Ok(Findings {
         asked: None,
         hint,
-        of_event: is_of_event(last_before(tokens, at)),
+        used: kind_used(last_before(tokens, at)),
         names,
     })
 }

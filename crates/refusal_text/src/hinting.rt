@@ -6,7 +6,9 @@ ghost use Rattle.job_hints.specs.ByGrammar.{if_keyword};
 ghost use Rattle.job_syntax.specs.Syntax.{whole_job};
 
 use crate::lexed_text::LexedText;
-use crate::scanning::{first_given_place, innermost_open_block, is_started, last_before, shape_at};
+use crate::scanning::{
+    earlier_before, first_given_place, innermost_open_block, is_started, last_before, shape_at,
+};
 use job_hints::{
     Advice, BlockAdvice, has_order_mark, keyword_in, lexical_advice, near_keyword, number_advice,
     syntax_advice,
@@ -88,8 +90,10 @@ pub(crate) fn number_hint(alloc: Global, text: &[u8], at: usize) -> Result<Optio
     ensures { IfOk result (IsNumberHint text.now at) }
 {
     let lexed = LexedText::new(alloc, text)?;
-    let before = last_before(lexed.tokens.as_slice(), at);
-    let advice = number_advice(lexed.format, before, rest_from(text, at));
+    let tokens = lexed.tokens.as_slice();
+    let earlier = earlier_before(tokens, at);
+    let before = last_before(tokens, at);
+    let advice = number_advice(lexed.format, earlier, before, rest_from(text, at));
     Ok(Some(Hint::Advice(advice)))
 }
 

@@ -1,6 +1,6 @@
 ghost use Rattle.std.specs.Prelude.{◌≡◌, [], None, IfOk, slice_get};
 ghost use Rattle.job_hints.specs.ByGrammar.{keyword_in};
-ghost use Rattle.refusal_text.specs.Scanning.{shape_at, last_before, open_blocks, gives, first_given_place, is_started, begins_task};
+ghost use Rattle.refusal_text.specs.Scanning.{shape_at, last_before, earlier_before, open_blocks, gives, first_given_place, is_started, begins_task};
 
 use job_hints::keyword_in;
 use job_syntax::{Keyword, Role};
@@ -32,6 +32,22 @@ pub(crate) fn last_before(tokens: &[Token], at: usize) -> Option<Shape>
         last = Some(token.shape);
     }
     last
+}
+
+// Returns the token before the last token before a place.
+pub(crate) fn earlier_before(tokens: &[Token], at: usize) -> Option<Shape>
+    ensures { result ≡ earlier_before at None None tokens.now }
+{
+    let mut earlier = None;
+    let mut last = None;
+    'tokens: for token in tokens {
+        if token.at >= at {
+            return earlier;
+        }
+        earlier = last;
+        last = Some(token.shape);
+    }
+    earlier
 }
 
 // Returns the place of the innermost `{` that is not closed.

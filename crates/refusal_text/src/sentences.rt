@@ -1,18 +1,18 @@
 ghost use Rattle.std.specs.Prelude.{◌≡◌};
 ghost use Rattle.refusal_text.specs.Sentences.{sentence_of, stray_sentence, byte_sentence, token_sentence, expected_sentence};
 
-use job_reader::JobKind;
+use job_reader::{JobKind, TargetKind};
 use job_syntax::Nonterminal;
 
 // Returns the sentence for a refusal of this kind at a place with this byte (`None` at the end of the text), where the grammar
-// expects this nonterminal. `of_event` says whether a name that nothing around it has is that of an event.
+// expects this nonterminal. `used` is what the step uses whose name nothing around it has.
 pub(crate) fn sentence_of(
     kind: JobKind,
     byte: Option<u8>,
     asked: Option<Nonterminal>,
-    of_event: bool,
+    used: TargetKind,
 ) -> &'static str
-    ensures { result.now ≡ sentence_of kind byte asked of_event }
+    ensures { result.now ≡ sentence_of kind byte asked used }
 {
     match kind {
         JobKind::TooLong => "the job text has more than 65536 bytes",
@@ -24,8 +24,8 @@ pub(crate) fn sentence_of(
         JobKind::Syntax => expected_sentence(asked),
         JobKind::Depth => "blocks are nested more than 32 deep",
         JobKind::Twice =>
-            "this name was given before: jobs, scopes, nurseries, events and starts need names of their own",
-        JobKind::NotEnclosing => stray_sentence(of_event),
+            "this name was given before: jobs, scopes, nurseries, events, limiters, channels and starts need names of their own",
+        JobKind::NotEnclosing => stray_sentence(used),
         JobKind::Reserved =>
             "this name is reserved: a name must not be a keyword or `Cancelled`, and `TooSlow` is allowed only after `except`",
         JobKind::TooLarge =>
@@ -35,13 +35,14 @@ pub(crate) fn sentence_of(
 }
 
 // Returns that a name is that of nothing around it.
-fn stray_sentence(of_event: bool) -> &'static str
-    ensures { result.now ≡ stray_sentence of_event }
+fn stray_sentence(used: TargetKind) -> &'static str
+    ensures { result.now ≡ stray_sentence used }
 {
-    if of_event {
-        "no enclosing event has this name"
-    } else {
-        "no enclosing scope or nursery has this name"
+    match used {
+        TargetKind::Scope => "no enclosing scope or nursery has this name",
+        TargetKind::Event => "no enclosing event has this name",
+        TargetKind::Limiter => "no enclosing limiter has this name",
+        TargetKind::Channel => "no enclosing channel has this name",
     }
 }
 
@@ -95,7 +96,7 @@ fn expected_sentence(nonterminal: Option<Nonterminal>) -> &'static str
         Some(Nonterminal::Given) => "expected a name",
         Some(Nonterminal::Raised | Nonterminal::Handled) => "expected the name of an exception",
         Some(Nonterminal::Target) => {
-            "expected the name of an enclosing scope or nursery, after `set` and `wait` that of an event"
+            "expected the name of an enclosing scope or nursery, after `set` and `wait` of an event, after `acquire` of a limiter, after `send`, `receive` and `close` of a channel"
         }
         Some(Nonterminal::Number) => "expected a number",
         Some(Nonterminal::Text) => "expected a string, as `\"error\"`",

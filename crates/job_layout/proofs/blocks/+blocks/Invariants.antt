@@ -21,6 +21,9 @@ decreases-push_step l = 2 * weight_in (step_of l.step.now) + 1
 abbrev pub decreases-push_rest : goal.decreases-push_rest
 decreases-push_rest l = 2 * weight_in (step_of l.step.now)
 
+abbrev pub decreases-push_grant : goal.decreases-push_grant
+decreases-push_grant l = 2 * weight_of l.body.now + 5
+
 abbrev pub decreases-push_block : goal.decreases-push_block
 decreases-push_block l = 2 * weight_of (steps_of l.steps.now) + 4
 

@@ -8,12 +8,12 @@ use Rattle.job_reader.proofs.uses.stray_use.Goals as goal
 
 pub returns-in-Passed : goal.returns-in-Passed
 returns-in-Passed c =
-    let all = append-nil (uses_of [] [] (steps_of c.args.steps.now)) in
+    let all = append-nil (uses_of [] (steps_of c.args.steps.now)) in
     sym (ap (λ (s : Search). found_in s []) c.in-Passed.is) ∙ c.search_steps.ensures []
     ∙ ap (λ (us : List Use). stray_in us (targets_in c.args.tokens.now c.args.roles.now)) all
 
 pub returns-in-Stopped : goal.returns-in-Stopped
 returns-in-Stopped c =
-    let all = append-nil (uses_of [] [] (steps_of c.args.steps.now)) in
+    let all = append-nil (uses_of [] (steps_of c.args.steps.now)) in
     sym (ap (λ (s : Search). found_in s []) c.in-Stopped.is) ∙ c.search_steps.ensures []
     ∙ ap (λ (us : List Use). stray_in us (targets_in c.args.tokens.now c.args.roles.now)) all

@@ -20,6 +20,9 @@ decreases-push_step l = weight_in (step_of l.step.now) + 1
 abbrev pub decreases-push_tail : goal.decreases-push_tail
 decreases-push_tail l = weight_in (step_of l.step.now)
 
+abbrev pub decreases-push_grant : goal.decreases-push_grant
+decreases-push_grant l = weight_of l.body.now + 3
+
 abbrev pub decreases-push_handler : goal.decreases-push_handler
 decreases-push_handler l = handled_weight (handled_of l.handler.now)
 

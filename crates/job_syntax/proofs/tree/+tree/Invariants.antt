@@ -22,6 +22,12 @@ decreases-nursery_at l = 8 * l.depth + 3
 abbrev pub decreases-event_at : goal.decreases-event_at
 decreases-event_at l = 8 * l.depth + 3
 
+abbrev pub decreases-object_at : goal.decreases-object_at
+decreases-object_at l = 8 * l.depth + 3
+
+abbrev pub decreases-grant_at : goal.decreases-grant_at
+decreases-grant_at l = 8 * l.depth + 3
+
 abbrev pub decreases-start_at : goal.decreases-start_at
 decreases-start_at l = 8 * l.depth + 3
 

@@ -14,15 +14,15 @@ returns c =
     let rest = cut_back text _ at _ c.split_at.ensures.back c.min.ensures in (
       found.asked,
       found.hint,
-      found.of_event,
+      found.used,
       names_held found.names,
       c.in_ok-asked.ensures.asked,
       c.in_ok-asked.ensures.hint,
-      c.in_ok-asked.ensures.of_event,
+      c.in_ok-asked.ensures.used,
       c.in_ok-asked.ensures.names,
-      c.in_ok-push_names.ensures ∙ ap (λ (x : List ℕ). x ++ names_of found.of_event (names_held found.names))
+      c.in_ok-push_names.ensures ∙ ap (λ (x : List ℕ). x ++ names_of found.used (names_held found.names))
           (c.in_ok-push_help.ensures ∙ ap (λ (x : List ℕ). x ++ hint_of c.args.job.now text found.hint)
           (c.in_ok-message.ensures ∙ ap (pointed_message c.args.job.now text at)
-          (c.sentence_of-sentence.ensures ∙ ap (λ (x : Option ℕ). sentence_of c.args.fault.kind x found.asked found.of_event)
+          (c.sentence_of-sentence.ensures ∙ ap (λ (x : Option ℕ). sentence_of c.args.fault.kind x found.asked found.used)
           (c.copied.ensures ∙ c.first.ensures.value ∙ first_at text _ at rest)))),
     )

@@ -2,19 +2,25 @@ use Rattle.std.proofs.Common.{◌≡◌, ◌+◌, List, ◌++◌, drop}
 use Rattle.job_tree.specs.Weigh.{weight_of, weight_in, handled_weight, cleaned_weight}
 use Rattle.job_tree.specs.Blocks.{step_of, steps_of, handled_of, cleaned_of}
 use Rattle.job_reader.specs.Uses.{Use, uses_of}
-use Rattle.refusal_text.specs.Scopes.{around_stray, names_around}
+use Rattle.refusal_text.specs.Scopes.{around_stray, named_around}
 use Rattle.refusal_text.proofs.scopes.+search.Given as goal
 
 abbrev pub invariant-search_steps-steps : goal.invariant-search_steps-steps
 invariant-search_steps-steps l =
-    (more : List Use) → around_stray (uses_of (names_around l.scopes) (names_around l.events) (steps_of (drop l.step-index l.steps)) ++ more)
-    ≡ around_stray (uses_of (names_around l.scopes) (names_around l.events) (steps_of l.steps) ++ more)
+    (more : List Use) → around_stray (uses_of (named_around l.around) (steps_of (drop l.step-index l.steps)) ++ more)
+    ≡ around_stray (uses_of (named_around l.around) (steps_of l.steps) ++ more)
 
 abbrev pub decreases-search_steps : goal.decreases-search_steps
 decreases-search_steps l = weight_of (steps_of l.steps.now)
 
 abbrev pub decreases-search_step : goal.decreases-search_step
 decreases-search_step l = weight_in (step_of l.step.now)
+
+abbrev pub decreases-search_inside : goal.decreases-search_inside
+decreases-search_inside l = weight_of l.body.now + 1
+
+abbrev pub decreases-search_ask : goal.decreases-search_ask
+decreases-search_ask l = weight_of l.body.now + 1
 
 abbrev pub decreases-search_handler : goal.decreases-search_handler
 decreases-search_handler l = handled_weight (handled_of l.handler.now) + 1

@@ -6,4 +6,4 @@ use Rattle.refusal_text.proofs.Read.{whole}
 use Rattle.refusal_text.proofs.scopes.names_around_stray.Goals as goal
 
 pub returns : goal.returns
-returns c = whole (names_held c.in_ok-found.found) (uses_of [] [] (steps_of c.args.steps.now)) c.in_ok-found.ensures
+returns c = whole (names_held c.in_ok-found.found) (uses_of [] (steps_of c.args.steps.now)) c.in_ok-found.ensures

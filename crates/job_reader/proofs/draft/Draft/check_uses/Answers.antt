@@ -12,8 +12,8 @@ use Rattle.job_reader.proofs.draft.Draft.check_uses.Goals as goal
 pub returns-clause-ok : goal.returns-clause-ok
 returns-clause-ok c =
     let d = c.args.self.now in
-    let same = ap (λ (ss : Steps). stray_in (uses_of [] [] ss) (targets_in d.tokens.items d.roles.items)) (sym c.as_slice.ensures) in
-    let pass = λ (ts : List Token) (rs : List Role). stray_in (uses_of [] [] (steps_of c.as_slice.result.now)) (targets_in ts rs) in
+    let same = ap (λ (ss : Steps). stray_in (uses_of [] ss) (targets_in d.tokens.items d.roles.items)) (sym c.as_slice.ensures) in
+    let pass = λ (ts : List Token) (rs : List Role). stray_in (uses_of [] (steps_of c.as_slice.result.now)) (targets_in ts rs) in
     let by = found_by pass d.tokens.items c.deref.result.now d.roles.items c.deref-2.result.now
     c.stray_use-found.result None c.deref.ensures.value c.deref-2.ensures.value in
     on_ok_weaker c.refuse_at.result
@@ -23,8 +23,8 @@ returns-clause-ok c =
 pub returns-clause-err : goal.returns-clause-err
 returns-clause-err c =
     let d = c.args.self.now in
-    let same = ap (λ (ss : Steps). stray_in (uses_of [] [] ss) (targets_in d.tokens.items d.roles.items)) (sym c.as_slice.ensures) in
-    let pass = λ (ts : List Token) (rs : List Role). stray_in (uses_of [] [] (steps_of c.as_slice.result.now)) (targets_in ts rs) in
+    let same = ap (λ (ss : Steps). stray_in (uses_of [] ss) (targets_in d.tokens.items d.roles.items)) (sym c.as_slice.ensures) in
+    let pass = λ (ts : List Token) (rs : List Role). stray_in (uses_of [] (steps_of c.as_slice.result.now)) (targets_in ts rs) in
     let by = λ (at : ℕ). found_by pass d.tokens.items c.deref.result.now d.roles.items c.deref-2.result.now
     c.stray_use-found.result (Some at) c.deref.ensures.value c.deref-2.ensures.value in
     fair_answer d.text.now kind.NotEnclosing c.stray_use-found.result c.refuse_at.result
