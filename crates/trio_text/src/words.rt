@@ -18,7 +18,7 @@ ghost use Rattle.trio_text.specs.Uses.{
   plain_exceptions,
 };
 
-use crate::names::is_too_slow;
+use crate::names::is_in_trio;
 use indexmap::IndexSet;
 use job_reader::Job;
 use job_tree::{Body, Handler, Name, Step};
@@ -48,7 +48,7 @@ impl Words {
         Ok(words)
     }
 
-    // Returns whether a task, scope, nursery or event has this name.
+    // Returns whether a task has this name, or what a step opens.
     pub(crate) fn gives(&self, name: Name) -> bool
         ensures { result ≡ among self.now.given.keys name }
     {
@@ -62,15 +62,15 @@ impl Words {
         self.nurseries.contains(&name)
     }
 
-    // Returns the names of the exceptions that are raised or handled, each once, in the order of the steps, without
-    // `TooSlow`.
+    // Returns the names of the exceptions that are raised or handled, each once, in the order of the steps, without those that
+    // Trio raises.
     pub(crate) fn raised_names(&self) -> &[Name]
         ensures { result.now ≡ self.now.raised.keys }
     {
         self.raised.as_slice()
     }
 
-    // Records the name of a task, scope, nursery or event.
+    // Records the name of a task, or of what a step opens.
     fn note_given(&mut self, name: Name) -> Result<(), AllocError>
         ensures { OnOk result (Notes (name ∷ []) [] [] self.old self.new) }
     {
@@ -82,7 +82,7 @@ impl Words {
     fn note_raised(&mut self, name: Name) -> Result<(), AllocError>
         ensures { OnOk result (Notes [] [] (class_needed name) self.old self.new) }
     {
-        if !is_too_slow(name) {
+        if !is_in_trio(name) {
             self.raised.insert(name)?;
         }
         Ok(())
@@ -140,6 +140,15 @@ fn note_step(words: &mut Words, step: &Step) -> Result<(), AllocError>
         }
         Step::Event { name, body } => {
             words.note_given(*name)?;
+            note_steps(words, body.as_slice())?;
+            Ok(())
+        }
+        Step::Object { name, body, .. } => {
+            words.note_given(*name)?;
+            note_steps(words, body.as_slice())?;
+            Ok(())
+        }
+        Step::Ask { body, .. } => {
             note_steps(words, body.as_slice())?;
             Ok(())
         }
