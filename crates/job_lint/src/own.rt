@@ -6,6 +6,7 @@ ghost use Rattle.job_lint.specs.Adding.{Adds};
 
 use crate::around::Around;
 use crate::opened::{Opened, is_opened};
+use crate::sharing::object_warning;
 use crate::sought::{Sought, has, is_never};
 use crate::warning::{Lint, Warning};
 use job_tree::{Body, Deadline, Name, Step};
@@ -42,7 +43,8 @@ pub(crate) fn push_found(
     Ok(())
 }
 
-// Returns whether the steps after this one in its block never run. It is not decided whether a `wait` ends.
+// Returns whether the steps after this one in its block never run. It is not decided whether a `wait` ends, or a step that asks
+// for something.
 pub(crate) fn never_ends_well(step: &Step) -> bool
     ensures { result ≡ never_ends_well (step_of step.now) }
 {
@@ -63,6 +65,7 @@ fn own_warning(step: &Step, around: Around, opened: &Opened, at: usize) -> Optio
         Step::Forever => warn_if(around.exposed, at, Lint::ExposedWait, None),
         Step::Pace(_) => warn_if(around.exposed, at, Lint::ExposedWait, None),
         Step::Wait(_) => warn_if(around.exposed, at, Lint::ExposedWait, None),
+        Step::Ask { .. } => warn_if(around.exposed, at, Lint::ExposedWait, None),
         Step::Raise(_) => warn_if(around.cleanup, at, Lint::RaiseInCleanup, None),
         Step::Cancel(name) => late_cancel(around, opened, name, at),
         Step::Scope {
@@ -79,6 +82,7 @@ fn own_warning(step: &Step, around: Around, opened: &Opened, at: usize) -> Optio
             body,
         } => nursery_warning(*name, *deadline, *shield, body, at),
         Step::Event { name, body } => event_warning(*name, body, at),
+        Step::Object { name, kind, body } => object_warning(*name, *kind, body, at),
         _ => None,
     }
 }
@@ -196,7 +200,7 @@ fn can_raise(name: Name, body: &Body) -> bool
 }
 
 // Returns a warning, if what it warns of holds.
-fn warn_if(holds: bool, at: usize, lint: Lint, name: Option<Name>) -> Option<Warning>
+pub(crate) fn warn_if(holds: bool, at: usize, lint: Lint, name: Option<Name>) -> Option<Warning>
     ensures { result ≡ warn_if holds (record { at = at; lint = lint; name = name }) }
 {
     if holds {

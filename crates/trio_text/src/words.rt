@@ -1,6 +1,6 @@
 ghost use Rattle.std.specs.Prelude.{◌≡◌, ◌∷◌, [], IfOk, OnOk, fold};
 ghost use Rattle.job_tree.specs.Blocks.{cleaned_of, handled_of, step_of, steps_of};
-ghost use Rattle.job_tree.specs.Names.{cleaned_names, handled_names};
+ghost use Rattle.job_tree.specs.Names.{cleaned_names, handled_names, names_of};
 ghost use Rattle.trio_text.specs.Uses.{
   Notes,
   NotesStep,
@@ -10,11 +10,13 @@ ghost use Rattle.trio_text.specs.Uses.{
   classes_of,
   cleaned_exceptions,
   cleaned_nurseries,
+  exceptions_of,
   handled_exceptions,
   handled_nurseries,
   known_in,
   known_of,
   noted,
+  nurseries_of,
   plain_exceptions,
 };
 
@@ -128,35 +130,19 @@ fn note_step(words: &mut Words, step: &Step) -> Result<(), AllocError>
     ensures { OnOk result (NotesStep (step_of step.now) words.old words.new) }
 {
     match step {
-        Step::Scope { name, body, .. } => {
-            words.note_given(*name)?;
-            note_steps(words, body.as_slice())?;
-            Ok(())
-        }
+        Step::Scope { name, body, .. } => note_named(words, *name, body),
         Step::Nursery { name, body, .. } => {
             words.note_nursery(*name)?;
             note_steps(words, body.as_slice())?;
             Ok(())
         }
-        Step::Event { name, body } => {
-            words.note_given(*name)?;
-            note_steps(words, body.as_slice())?;
-            Ok(())
-        }
-        Step::Object { name, body, .. } => {
-            words.note_given(*name)?;
-            note_steps(words, body.as_slice())?;
-            Ok(())
-        }
+        Step::Event { name, body } => note_named(words, *name, body),
+        Step::Object { name, body, .. } => note_named(words, *name, body),
         Step::Ask { body, .. } => {
             note_steps(words, body.as_slice())?;
             Ok(())
         }
-        Step::Start { name, body, .. } => {
-            words.note_given(*name)?;
-            note_steps(words, body.as_slice())?;
-            Ok(())
-        }
+        Step::Start { name, body, .. } => note_named(words, *name, body),
         Step::Repeat { body, .. } => {
             note_steps(words, body.as_slice())?;
             Ok(())
@@ -176,6 +162,16 @@ fn note_step(words: &mut Words, step: &Step) -> Result<(), AllocError>
             Ok(())
         }
     }
+}
+
+// Records the name of what a step opens, or of the task that it starts, and the names that its block uses.
+#[cycle(noting)]
+fn note_named(words: &mut Words, name: Name, body: &Body) -> Result<(), AllocError>
+    ensures { OnOk result (Notes (name ∷ names_of body.now) (nurseries_of body.now) (exceptions_of body.now) words.old words.new) }
+{
+    words.note_given(name)?;
+    note_steps(words, body.as_slice())?;
+    Ok(())
 }
 
 #[cycle(noting)]
