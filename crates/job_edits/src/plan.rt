@@ -148,7 +148,7 @@ fn insertion(at: usize, piece: Piece) -> Change
 }
 
 // Returns the change that puts a piece after the byte at a place, and leaves nothing out.
-pub(crate) fn insertion_after(at: usize, piece: Piece) -> Change
+fn insertion_after(at: usize, piece: Piece) -> Change
     ensures { result ≡ insertion_after at piece }
 {
     insertion(at.saturating_add(1), piece)

@@ -1,14 +1,14 @@
 ghost use Rattle.std.specs.Prelude.{◌≡◌, OnOk};
 ghost use Rattle.job_tree.specs.Blocks.{step_of};
 ghost use Rattle.job_lint.specs.Opened.{names_opened};
-ghost use Rattle.job_lint.specs.Warnings.{warn_if, own_warning, scope_warning, nursery_warning, event_warning, is_cancelled, is_idle, late_cancel, endless_shield, idle_handler, can_raise, is_nursery_cancelled, never_ends_well, with_warning, warnings_at};
+ghost use Rattle.job_lint.specs.Warnings.{own_warning, scope_warning, nursery_warning, event_warning, is_cancelled, is_idle, late_cancel, endless_shield, idle_handler, can_raise, is_nursery_cancelled, never_ends_well, with_warning, warnings_at};
 ghost use Rattle.job_lint.specs.Adding.{Adds};
 
 use crate::around::Around;
 use crate::opened::{Opened, is_opened};
 use crate::sharing::object_warning;
 use crate::sought::{Sought, has, is_never};
-use crate::warning::{Lint, Warning};
+use crate::warning::{Lint, Warning, warn_if};
 use job_tree::{Body, Deadline, Name, Step};
 use std::alloc::AllocError;
 
@@ -197,15 +197,4 @@ fn can_raise(name: Name, body: &Body) -> bool
     let steps = body.as_slice();
     let is_too_slow = name.bytes() == b"TooSlow".as_slice();
     has(steps, &Sought::Raise(name)) || (is_too_slow && has(steps, &Sought::Fail))
-}
-
-// Returns a warning, if what it warns of holds.
-pub(crate) fn warn_if(holds: bool, at: usize, lint: Lint, name: Option<Name>) -> Option<Warning>
-    ensures { result ≡ warn_if holds (record { at = at; lint = lint; name = name }) }
-{
-    if holds {
-        Some(Warning { at, lint, name })
-    } else {
-        None
-    }
 }

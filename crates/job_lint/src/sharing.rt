@@ -1,9 +1,8 @@
 ghost use Rattle.std.specs.Prelude.{◌≡◌};
 ghost use Rattle.job_lint.specs.Warnings.{channel_warning, limiter_warning, object_warning, open_channel_warning};
 
-use crate::own::warn_if;
 use crate::sought::{Sought, has};
-use crate::warning::{Lint, Warning};
+use crate::warning::{Lint, Warning, warn_if};
 use job_tree::{Ask, Body, Name, ObjectKind};
 
 // Returns the warning at a limiter or channel.

@@ -1,3 +1,6 @@
+ghost use Rattle.std.specs.Prelude.{◌≡◌};
+ghost use Rattle.job_lint.specs.Warnings.{warn_if};
+
 use job_tree::Name;
 
 /// What is probably wrong at a place of a job.
@@ -51,4 +54,15 @@ pub struct Warning {
     /// The name of the handler, or of the scope, nursery, event, limiter or channel, or `None` if the warning is about another
     /// step.
     pub name: Option<Name>,
+}
+
+// Returns a warning, if what it warns of holds.
+pub(crate) fn warn_if(holds: bool, at: usize, lint: Lint, name: Option<Name>) -> Option<Warning>
+    ensures { result ≡ warn_if holds (record { at = at; lint = lint; name = name }) }
+{
+    if holds {
+        Some(Warning { at, lint, name })
+    } else {
+        None
+    }
 }
