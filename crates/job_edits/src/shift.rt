@@ -190,8 +190,8 @@ fn push_shifted(
             push_after(changes, opening, Piece::ThenSleep(finer_ticks.hair))
         }
         Moment::Set(_) | Moment::Release(_) | Moment::Close(_) => {
-            let hair = Piece::ShieldedSleep(scope, finer_ticks.hair);
-            push(changes, from, from, hair)
+            let sleep = Piece::ShieldedSleep(scope, finer_ticks.hair);
+            push(changes, from, from, sleep)
         }
         Moment::Wait { to, .. } => push_after(changes, to, Piece::ThenSleep(finer_ticks.hair)),
         Moment::Asking(_, _) => push(changes, from, from, Piece::SleepBefore(finer_ticks.hair)),
