@@ -2,7 +2,7 @@
 use Rattle.std.specs.Prelude.{ℕ, ◌-◌, ◌/◌, Bool, true, false, ◌&&◌, nat_le, nat_lt, Option, Some, None, List, codes}
 use Rattle.job_tree.specs.Words.{is_word}
 use Rattle.job_edits.specs.declared.number.Target.{Target}
-use Rattle.job_edits.specs.declared.number.Target.TheVariants.{DeadlineOf, At}
+use Rattle.job_edits.specs.declared.number.Target.TheVariants.{NumberOf, At}
 use Rattle.cli.specs.Cuts.{cut_at, number_in}
 use Rattle.cli.specs.Values.{values_in}
 use Rattle.cli.specs.declared.sweeping.Span.{Span}
@@ -46,7 +46,7 @@ spelled_values text = values_of (spelled_span text)
 
 -- the deadline of what has this name, if the word is a name
 abbrev pub deadline_if : Bool → List ℕ → Option Target
-deadline_if true name = Some (DeadlineOf name)
+deadline_if true name = Some (NumberOf name)
 deadline_if false name = None
 
 abbrev pub named_target : List ℕ → Option Target

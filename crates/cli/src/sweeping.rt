@@ -39,7 +39,7 @@ fn named_target(alloc: Global, word: &str) -> Result<Target, CommandFault>
     ensures { Reads (λ target. target) (named_target word.now) result }
 {
     if let Some(name) = Name::new(word.as_bytes()) {
-        return Ok(Target::DeadlineOf(name));
+        return Ok(Target::NumberOf(name));
     }
     let text = format!(in alloc;
         "error: `{word}` is no name: --of takes the name of a scope or nursery\n"

@@ -20,16 +20,17 @@ repeats_by before mark word = before
 abbrev pub repeats_after : Bool → Token → Bool
 repeats_after before t = repeats_by before (mark_in t.shape) (keyword_in (word_in t.shape))
 
--- The open blocks after a token, the innermost first: for each, whether it is that of a `repeat`. `repeats` says so of the next one.
-abbrev pub outer_blocks : List Bool → List Bool
+-- The open blocks after a token, the innermost first, with what is known of each: here whether it is that of a `repeat`. `next` says so of
+-- the next one.
+abbrev pub outer_blocks : {A : Type 0} → List A → List A
 outer_blocks [] = []
 outer_blocks (b ∷ bs) = bs
 
-abbrev pub blocks_by : List Bool → Bool → Option Mark → List Bool
-blocks_by blocks repeats None = blocks
-blocks_by blocks repeats (Some Open) = repeats ∷ blocks
-blocks_by blocks repeats (Some Close) = outer_blocks blocks
-blocks_by blocks repeats (Some Semicolon) = blocks
+abbrev pub blocks_by : {A : Type 0} → List A → (next : A) → Option Mark → List A
+blocks_by blocks next None = blocks
+blocks_by blocks next (Some Open) = next ∷ blocks
+blocks_by blocks next (Some Close) = outer_blocks blocks
+blocks_by blocks next (Some Semicolon) = blocks
 
 -- whether the innermost block is that of a `repeat`: a `start` there is in a nursery too, and starts a task in each pass
 abbrev pub is_in_repeat : List Bool → Bool

@@ -1,13 +1,14 @@
 -- The faults of a waiting step, and the changes of the text that make them.
 use Rattle.std.specs.Prelude.{ℕ, zero, suc, ◌+◌, Bool, ◌&&◌, not, if◌then◌else◌, List, [], ◌∷◌, ◌++◌, Option, Some, None, codes}
 use Rattle.std.specs.List.{list_any}
+use Rattle.std.specs.Io.Iter.{u64_saturate}
 use Rattle.job_tokens.specs.declared.token.Token.{Token}
 use Rattle.job_tokens.specs.declared.token.Mark.TheVariants.{Open}
 use Rattle.job_edits.specs.declared.change.Piece.{Piece}
 use Rattle.job_edits.specs.declared.change.Piece.TheVariants as piece
 use Rattle.job_edits.specs.declared.change.Change.{Change}
 use Rattle.job_edits.specs.declared.waiting.Wait.{Wait}
-use Rattle.job_edits.specs.declared.waiting.Wait.TheVariants.{Sleep, Checkpoint, Forever, Pace, Need, Event}
+use Rattle.job_edits.specs.declared.waiting.Wait.TheVariants.{Sleep, Checkpoint, Forever, Pace, Need, Event, Grant}
 use Rattle.job_edits.specs.declared.waiting.Waiting.{Waiting}
 use Rattle.job_edits.specs.declared.fault.Fault.{Fault}
 use Rattle.job_edits.specs.declared.fault.Fault.TheVariants.{Fails, FailsLate, Hangs, Cancelled, Misses}
@@ -15,7 +16,7 @@ use Rattle.job_edits.specs.declared.fault.BlockPart.{BlockPart}
 use Rattle.job_edits.specs.declared.fault.Variant.{Variant}
 use Rattle.job_edits.specs.declared.repeated.RepeatedBlock.{RepeatedBlock}
 use Rattle.job_edits.specs.declared.plan.Plan.{Plan}
-use Rattle.job_edits.specs.Waiting.{first_mark, waiting_in}
+use Rattle.job_edits.specs.Waiting.{first_mark, has_block, waiting_in}
 use Rattle.job_edits.specs.Repeated.{is_divided, repeated_in}
 use Rattle.job_edits.specs.WrittenOut.{is_in}
 use Rattle.job_edits.specs.Fresh.{fresh_word}
@@ -41,6 +42,7 @@ faults_of names Forever = fails_of names ++ Cancelled ∷ []
 faults_of names (Pace n) = fails_of names ++ (late_fails_of names ++ Hangs ∷ Cancelled ∷ [])
 faults_of names (Need text name) = Misses name ∷ []
 faults_of names (Event name) = fails_of names ++ (late_fails_of names ++ Hangs ∷ Cancelled ∷ [])
+faults_of names (Grant ask name) = fails_of names ++ (late_fails_of names ++ Hangs ∷ Cancelled ∷ [])
 
 -- these faults of a step, in one copy or pass or wherever it runs
 abbrev pub variants_with : Option BlockPart → Waiting → List Fault → List Variant
@@ -119,23 +121,40 @@ replacement step p = record { from = step.from; to = step.to; piece = p }
 abbrev pub insertion : ℕ → Piece → Change
 insertion at p = record { from = at; to = at; piece = p }
 
+abbrev pub insertion_after : ℕ → Piece → Change
+insertion_after at p = insertion (u64_saturate (at + 1)) p
+
+-- An exception is raised in place of a step. A step with a block stays, and what is before it never ends well.
+abbrev pub raising : Waiting → List ℕ → Change
+raising step name =
+    if has_block step.wait then insertion step.from (piece.RaiseBefore name) else replacement step (piece.Raise name)
+
+-- An exception is raised after a step, or at the start of its block.
+abbrev pub raising_late : Waiting → List ℕ → Change
+raising_late step name =
+    if has_block step.wait then insertion_after step.to (piece.RaiseFirst name) else insertion step.to (piece.ThenRaise name)
+
+-- A step never ends.
+abbrev pub hanging : Waiting → Change
+hanging step = if has_block step.wait then insertion step.from piece.ForeverBefore else replacement step piece.Forever
+
 -- the changes of the text that make a fault of a step
 abbrev pub changes_by : Plan → Waiting → Fault → List Change
-changes_by plan step (Fails name) = replacement step (piece.Raise name) ∷ []
-changes_by plan step (FailsLate name) = insertion step.to (piece.ThenRaise name) ∷ []
-changes_by plan step Hangs = replacement step piece.Forever ∷ []
+changes_by plan step (Fails name) = raising step name ∷ []
+changes_by plan step (FailsLate name) = raising_late step name ∷ []
+changes_by plan step Hangs = hanging step ∷ []
 changes_by plan step Cancelled =
     insertion plan.opening (piece.OpenScope plan.outside) ∷ insertion step.from (piece.Cancel plan.outside)
     ∷ insertion plan.closing piece.Close ∷ []
-changes_by plan step (Misses name) = replacement step (piece.Raise name) ∷ []
+changes_by plan step (Misses name) = raising step name ∷ []
 
 -- The change that shows whether a fault is reached: the exception `reached` is raised there.
 abbrev pub probe_by : Plan → Waiting → Fault → Change
-probe_by plan step (Fails name) = replacement step (piece.Raise plan.reached)
-probe_by plan step (FailsLate name) = insertion step.to (piece.ThenRaise plan.reached)
-probe_by plan step Hangs = replacement step (piece.Raise plan.reached)
-probe_by plan step Cancelled = replacement step (piece.Raise plan.reached)
-probe_by plan step (Misses name) = replacement step (piece.Raise plan.reached)
+probe_by plan step (Fails name) = raising step plan.reached
+probe_by plan step (FailsLate name) = raising_late step plan.reached
+probe_by plan step Hangs = raising step plan.reached
+probe_by plan step Cancelled = raising step plan.reached
+probe_by plan step (Misses name) = raising step plan.reached
 
 -- the name of the exception that a fault raises, or `None`
 abbrev pub raised_by : Fault → Option (List ℕ)

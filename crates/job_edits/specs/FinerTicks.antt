@@ -7,14 +7,14 @@ use Rattle.job_edits.specs.declared.change.Piece.TheVariants as piece
 use Rattle.job_edits.specs.declared.change.Change.{Change}
 use Rattle.job_edits.specs.declared.number.Number.{Number}
 use Rattle.job_edits.specs.declared.site.Moment.{Moment}
-use Rattle.job_edits.specs.declared.site.Moment.TheVariants.{Sleep, After, At, Checkpoint, Pace, Start, Set, Wait}
+use Rattle.job_edits.specs.declared.site.Moment.TheVariants.{Sleep, After, At, Checkpoint, Pace, Start, Set, Wait, Asking, Release, Close}
 use Rattle.job_edits.specs.declared.site.Site.{Site}
 use Rattle.job_edits.specs.declared.finer_ticks.FinerTicks.{FinerTicks}
 use Rattle.job_edits.specs.declared.shift.Hair.{Hair}
 use Rattle.job_edits.specs.declared.shift.Hair.TheVariants.{Earlier, Later}
 use Rattle.job_edits.specs.declared.shift.Shift.{Shift}
 use Rattle.job_tokens.specs.declared.token.Token.{Token}
-use Rattle.job_edits.specs.Faults.{insertion}
+use Rattle.job_edits.specs.Faults.{insertion, insertion_after}
 use Rattle.job_edits.specs.Fresh.{fresh_word}
 use Rattle.job_edits.specs.Numbers.{set_to}
 
@@ -30,6 +30,9 @@ ticks_of (Pace lines to) = 0
 ticks_of (Start name opening) = 0
 ticks_of (Set name) = 0
 ticks_of (Wait name to) = 0
+ticks_of (Asking ask name) = 0
+ticks_of (Release name) = 0
+ticks_of (Close name) = 0
 
 abbrev pub most_ticks : List Site → ℕ
 most_ticks [] = 0
@@ -74,10 +77,13 @@ finer_changes_at finer_ticks from (Sleep n) = set_to n (ticks_by finer_ticks n) 
 finer_changes_at finer_ticks from (After name n) = set_to n (ticks_by finer_ticks n) ∷ []
 finer_changes_at finer_ticks from (At name n) = set_to n (ticks_by finer_ticks n) ∷ []
 finer_changes_at finer_ticks from (Checkpoint to) = []
-finer_changes_at finer_ticks from (Pace lines to) = insertion from (piece.OpenRepeat finer_ticks.factor) ∷ insertion (u64_saturate (to + 1)) piece.Close ∷ []
+finer_changes_at finer_ticks from (Pace lines to) = insertion from (piece.OpenRepeat finer_ticks.factor) ∷ insertion_after to piece.Close ∷ []
 finer_changes_at finer_ticks from (Start name opening) = []
 finer_changes_at finer_ticks from (Set name) = []
 finer_changes_at finer_ticks from (Wait name to) = []
+finer_changes_at finer_ticks from (Asking ask name) = []
+finer_changes_at finer_ticks from (Release name) = []
+finer_changes_at finer_ticks from (Close name) = []
 
 abbrev pub finer_changes_in : FinerTicks → List Site → List Change
 finer_changes_in finer_ticks [] = []
@@ -117,23 +123,28 @@ abbrev pub moved_ticks : FinerTicks → Number → Hair → ℕ
 moved_ticks finer_ticks n Earlier = ticks_by finer_ticks n - finer_ticks.hair
 moved_ticks finer_ticks n Later = u64_saturate (ticks_by finer_ticks n + finer_ticks.hair)
 
--- The name of the scope in which there is a sleep of a hair before a `set`. It is meant to be new in the text (`fresh_word`).
+-- The name of the scope in which there is a sleep of a hair before a `set`, for example. It is meant to be new in the text
+-- (`fresh_word`).
 abbrev pub hair_scope : List Token → List ℕ
 hair_scope tokens = fresh_word (codes "hair") tokens
 
 -- A number of ticks is moved; in place of a `checkpoint` there is a sleep of a hair; a `pace` and a `wait` sleep a hair after their
--- end, and a task at its start. Before a `set` there is a sleep of a hair in a shielded scope with the given name: so it is no point at
--- which the task can be cancelled.
+-- end, and a task at its start. Before a step that asks a limiter or channel for something there is a sleep of a hair, too. Before a
+-- `set` or `close`, and at the end of the block of an `acquire`, it is in a shielded scope with the given name: so it is no point at which
+-- the task can be cancelled.
 abbrev pub shifted_at : FinerTicks → (scope : List ℕ) → Hair → ℕ → Moment → List Change
 shifted_at finer_ticks scope hair from (Sleep n) = set_to n (moved_ticks finer_ticks n hair) ∷ []
 shifted_at finer_ticks scope hair from (After name n) = set_to n (moved_ticks finer_ticks n hair) ∷ []
 shifted_at finer_ticks scope hair from (At name n) = set_to n (moved_ticks finer_ticks n hair) ∷ []
 shifted_at finer_ticks scope hair from (Checkpoint to) = record { from = from; to = to; piece = piece.Sleep finer_ticks.hair } ∷ []
 shifted_at finer_ticks scope hair from (Pace lines to) =
-    insertion from (piece.OpenRepeat finer_ticks.factor) ∷ insertion (u64_saturate (to + 1)) piece.Close ∷ insertion (u64_saturate (to + 1)) (piece.ThenSleep finer_ticks.hair) ∷ []
-shifted_at finer_ticks scope hair from (Start name opening) = insertion (u64_saturate (opening + 1)) (piece.ThenSleep finer_ticks.hair) ∷ []
+    insertion from (piece.OpenRepeat finer_ticks.factor) ∷ insertion_after to piece.Close ∷ insertion_after to (piece.ThenSleep finer_ticks.hair) ∷ []
+shifted_at finer_ticks scope hair from (Start name opening) = insertion_after opening (piece.ThenSleep finer_ticks.hair) ∷ []
 shifted_at finer_ticks scope hair from (Set name) = insertion from (piece.ShieldedSleep scope finer_ticks.hair) ∷ []
-shifted_at finer_ticks scope hair from (Wait name to) = insertion (u64_saturate (to + 1)) (piece.ThenSleep finer_ticks.hair) ∷ []
+shifted_at finer_ticks scope hair from (Wait name to) = insertion_after to (piece.ThenSleep finer_ticks.hair) ∷ []
+shifted_at finer_ticks scope hair from (Asking ask name) = insertion from (piece.SleepBefore finer_ticks.hair) ∷ []
+shifted_at finer_ticks scope hair from (Release name) = insertion from (piece.ShieldedSleep scope finer_ticks.hair) ∷ []
+shifted_at finer_ticks scope hair from (Close name) = insertion from (piece.ShieldedSleep scope finer_ticks.hair) ∷ []
 
 -- a site, which may be the one that is moved by a hair
 abbrev pub shifted_or_finer_changes : FinerTicks → List ℕ → Shift → Site → List Change

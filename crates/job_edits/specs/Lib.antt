@@ -3,8 +3,9 @@ pub mod Waiting
 pub mod Fresh
 pub mod Faults
 pub mod Numbers
+pub mod Copied
+pub mod Releases
 pub mod Sites
 pub mod FinerTicks
-pub mod Copied
 pub mod Repeated
 pub mod WrittenOut

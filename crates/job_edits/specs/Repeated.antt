@@ -34,10 +34,11 @@ closing_from depth (t ∷ ts) =
 
 -- ---- whether it depends on the input
 
--- how long a step takes, or whether it raises an exception, depends on its task's part of the input
+-- how long a step takes, whether it raises an exception, or what it sends depends on its task's part of the input
 abbrev pub is_by_input : Option Keyword → Bool
 is_by_input (Some keyword.Pace) = true
 is_by_input (Some keyword.Need) = true
+is_by_input (Some keyword.Send) = true
 is_by_input _ = false
 
 -- one of the steps that begin before a place is such a step, given whether a step may begin at the first token

@@ -27,7 +27,7 @@ abbrev pub given_by : Role → Option (List ℕ) → Option (List ℕ)
 given_by role.Given word = word
 given_by _ word = None
 
--- the name of a scope, nursery, event or task that a token with a role is: one that is given, or used
+-- the name of a task, or of what a step opens, that a token with a role is: one that is given, or used
 abbrev pub name_by : Role → Option (List ℕ) → Option (List ℕ)
 name_by role.Given word = word
 name_by role.Target word = word

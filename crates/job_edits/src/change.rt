@@ -2,6 +2,7 @@ ghost use Rattle.std.specs.Prelude.{◌≡◌, ◌-◌, ◌++◌, take, drop, de
 ghost use Rattle.job_edits.specs.declared.change.Piece.TheVariants as piece;
 ghost use Rattle.job_edits.specs.Changes.{piece_text, changed_from, changed_text};
 
+use crate::waiting::push_counted;
 use basics::push_number;
 use job_tree::Name;
 use std::alloc::{AllocError, Global};
@@ -11,10 +12,16 @@ use std::alloc::{AllocError, Global};
 pub enum Piece {
     /// A step that raises an exception with this name, in place of another step.
     Raise(Name),
+    /// A step that raises an exception with this name, with its semicolon, before another step.
+    RaiseBefore(Name),
     /// A step that raises an exception with this name, after another step and before the semicolon of that step.
     ThenRaise(Name),
+    /// A step that raises an exception with this name, with its semicolon, at the start of a block.
+    RaiseFirst(Name),
     /// A step that waits forever, in place of another step.
     Forever,
+    /// A step that waits forever, with its semicolon, before another step.
+    ForeverBefore,
     /// A step that cancels the scope with this name, before another step.
     Cancel(Name),
     /// The start of a block whose first step is a scope with this name, before the opening brace of a block. That block becomes
@@ -26,9 +33,12 @@ pub enum Piece {
     Number(u64),
     /// A step that sleeps for the given number of ticks, in place of another step. The semicolon of that step follows it.
     Sleep(u64),
+    /// A step that sleeps for the given number of ticks, with its semicolon, before another step.
+    SleepBefore(u64),
     /// A step that sleeps for the given number of ticks, with its semicolon, after another step or at the start of a block.
     ThenSleep(u64),
-    /// A shielded scope with this name, in which a step sleeps for the given number of ticks, before another step.
+    /// A shielded scope with this name, in which a step sleeps for the given number of ticks, before another step or at the end
+    /// of a block.
     ShieldedSleep(Name, u64),
     /// The start of a `repeat` with the given number of passes, before a step.
     OpenRepeat(u64),
@@ -100,41 +110,22 @@ fn push_piece(out: &mut Vec<u8>, piece: Piece) -> Result<(), AllocError>
 {
     match piece {
         Piece::Raise(name) => push_named(out, b"raise ", name),
+        Piece::RaiseBefore(name) => push_named_step(out, b"raise ", name, b"; "),
         Piece::ThenRaise(name) => push_named(out, b"; raise ", name),
+        Piece::RaiseFirst(name) => push_named_step(out, b" raise ", name, b";"),
         Piece::Forever => out.extend_from_slice(b"forever"),
-        Piece::Cancel(name) => {
-            push_named(out, b"cancel ", name)?;
-            out.extend_from_slice(b"; ")
-        }
-        Piece::OpenScope(name) => {
-            push_named(out, b"{ scope ", name)?;
-            out.extend_from_slice(b" ")
-        }
+        Piece::ForeverBefore => out.extend_from_slice(b"forever; "),
+        Piece::Cancel(name) => push_named_step(out, b"cancel ", name, b"; "),
+        Piece::OpenScope(name) => push_named_step(out, b"{ scope ", name, b" "),
         Piece::Close => out.extend_from_slice(b" }"),
         Piece::Number(n) => push_number(out, n),
-        Piece::Sleep(n) => {
-            out.extend_from_slice(b"sleep ")?;
-            push_number(out, n)
-        }
-        Piece::ThenSleep(n) => {
-            out.extend_from_slice(b" sleep ")?;
-            push_number(out, n)?;
-            out.extend_from_slice(b";")
-        }
+        Piece::Sleep(n) => push_counted(out, b"sleep ", n),
+        Piece::SleepBefore(n) => push_counted_step(out, b"sleep ", n, b"; "),
+        Piece::ThenSleep(n) => push_counted_step(out, b" sleep ", n, b";"),
         Piece::ShieldedSleep(name, n) => push_shielded(out, name, n),
-        Piece::OpenRepeat(n) => {
-            out.extend_from_slice(b"repeat ")?;
-            push_number(out, n)?;
-            out.extend_from_slice(b" { ")
-        }
-        Piece::Single(n) => {
-            out.extend_from_slice(b"_")?;
-            push_number(out, n)
-        }
-        Piece::After(n) => {
-            out.extend_from_slice(b"_after_")?;
-            push_number(out, n)
-        }
+        Piece::OpenRepeat(n) => push_counted_step(out, b"repeat ", n, b" { "),
+        Piece::Single(n) => push_counted(out, b"_", n),
+        Piece::After(n) => push_counted(out, b"_after_", n),
     }
 }
 
@@ -148,8 +139,34 @@ fn push_shielded(out: &mut Vec<u8>, name: Name, n: u64) -> Result<(), AllocError
     out.extend_from_slice(b"; } ")
 }
 
+// Appends some words, a name, and what ends them.
+fn push_named_step(
+    out: &mut Vec<u8>,
+    words: &[u8],
+    name: Name,
+    end: &[u8],
+) -> Result<(), AllocError>
+    ensures { OnOk result (out.new.items ≡ out.old.items ++ (words.now ++ name ++ end.now)) }
+{
+    push_named(out, words, name)?;
+    out.extend_from_slice(end)
+}
+
+// Appends some words, a number, and what ends them.
+fn push_counted_step(
+    out: &mut Vec<u8>,
+    words: &[u8],
+    n: u64,
+    end: &[u8],
+) -> Result<(), AllocError>
+    ensures { OnOk result (out.new.items ≡ out.old.items ++ (words.now ++ decimal n ++ end.now)) }
+{
+    push_counted(out, words, n)?;
+    out.extend_from_slice(end)
+}
+
 // Appends some words and a name.
-fn push_named(out: &mut Vec<u8>, words: &[u8], name: Name) -> Result<(), AllocError>
+pub(crate) fn push_named(out: &mut Vec<u8>, words: &[u8], name: Name) -> Result<(), AllocError>
     ensures { OnOk result (out.new.items ≡ out.old.items ++ (words.now ++ name)) }
 {
     out.extend_from_slice(words)?;

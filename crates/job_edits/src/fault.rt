@@ -11,7 +11,7 @@ use std::alloc::{AllocError, Global};
 pub enum Fault {
     /// An exception with this name is raised in place of the step.
     Fails(Name),
-    /// An exception with this name is raised after the step.
+    /// An exception with this name is raised after the step, or at the start of its block if it has one.
     FailsLate(Name),
     /// The step never ends.
     Hangs,
@@ -58,9 +58,9 @@ pub struct Variant {
 }
 
 /// Returns each fault of each waiting step of the job text with these tokens, in the order of the places of the steps. A `sleep`,
-/// a `pace` and a `wait` can fail, fail late, hang and be cancelled; a `checkpoint` can do the same except fail late, since it
-/// takes no time; a `forever` can fail and be cancelled; a `need` can only miss. A step fails, and fails late, once with each of
-/// the exceptions with these names. The only error is that memory runs out.
+/// a `pace`, a `wait`, an `acquire`, a `send` and a `receive` can fail, fail late, hang and be cancelled; a `checkpoint` can do
+/// the same except fail late, since it takes no time; a `forever` can fail and be cancelled; a `need` can only miss. A step fails,
+/// and fails late, once with each of the exceptions with these names. The only error is that memory runs out.
 pub fn variants(alloc: Global, names: &[Name], tokens: &[Token]) -> Result<Vec<Variant>, AllocError>
     ensures { IfOk result (λ variants. variants.items ≡ variants_in names.now tokens.now) }
 {
@@ -79,7 +79,7 @@ pub(crate) fn faults_of(alloc: Global, names: &[Name], wait: Wait) -> Result<Vec
 {
     let mut faults = Vec::new(alloc);
     match wait {
-        Wait::Sleep(_) | Wait::Pace(_) | Wait::Event(_) => {
+        Wait::Sleep(_) | Wait::Pace(_) | Wait::Event(_) | Wait::Grant(_, _) => {
             push_fails(&mut faults, names)?;
             push_late_fails(&mut faults, names)?;
             faults.extend_from_slice(&[Fault::Hangs, Fault::Cancelled])?;

@@ -123,5 +123,8 @@ pub(crate) fn ticks_of(moment: Moment) -> u64
         Moment::Start { .. } => 0,
         Moment::Set(_) => 0,
         Moment::Wait { .. } => 0,
+        Moment::Asking(_, _) => 0,
+        Moment::Release(_) => 0,
+        Moment::Close(_) => 0,
     }
 }

@@ -3,11 +3,12 @@
 //! A changed text has new pieces at their places, and all other bytes of the original text (`specs/Changes.antt`).
 //! `waiting_steps` finds each step of a job text that waits, with its place (`specs/Waiting.antt`), and `Plan::changes` returns
 //! the changes of the text that make a fault of such a step (`specs/Faults.antt`). `sites` finds each place where time passes or
-//! may pass; `finer_changes` and `shifted_changes` are the changes that make the ticks of the text finer, and move one place by a
-//! hair (`specs/Sites.antt`, `specs/FinerTicks.antt`). `copied_starts` finds each `start` of several tasks, with `over` or in a
-//! `repeat` (`specs/Copied.antt`). `number_at` and `deadline_of` find a number of the text by its place, or as the deadline of a
-//! scope or nursery; `Number::set_to` is the change that puts another number in its place (`specs/Numbers.antt`). The crate uses
-//! `job_tokens` for the tokens of the text, `job_syntax` for keywords, and `job_meaning` for how the time of the job is counted.
+//! may pass, or where it matters when a step runs; `finer_changes` and `shifted_changes` are the changes that make the ticks of the
+//! text finer, and move one place by a hair (`specs/Sites.antt`, `specs/FinerTicks.antt`). `copied_starts` finds each `start` of
+//! several tasks, with `over` or in a `repeat` (`specs/Copied.antt`). `number_at` and `block_number` find a number of the text by its
+//! place, or as that of a scope, nursery, limiter or channel; `Number::set_to` is the change that puts another number in its place
+//! (`specs/Numbers.antt`). The crate uses `job_tokens` for the tokens of the text, `job_syntax` for keywords, and `job_meaning` for
+//! how the time of the job is counted.
 #![tactic(auto)]
 
 mod change;
@@ -18,6 +19,7 @@ mod finer_ticks;
 mod fresh;
 mod number;
 mod plan;
+mod releases;
 mod repeated;
 mod shift;
 mod site;
@@ -29,7 +31,7 @@ pub use copied::{CopiedStart, copied_starts};
 pub use each::{each_variants, has_divided};
 pub use fault::{BlockPart, Fault, Variant, variants};
 pub use finer_ticks::FinerTicks;
-pub use number::{Number, Target, block_names, deadline_of, number_at};
+pub use number::{Number, Target, block_names, block_number, number_at};
 pub use plan::Plan;
 pub use repeated::{RepeatedBlock, repeated_blocks};
 pub use shift::{Hair, Shift, finer_changes, hair_scope, shifted_changes, shifts};

@@ -1,6 +1,6 @@
 ghost use Rattle.std.specs.Prelude.{◌≡◌, [], ◌∷◌, IfOk};
 ghost use Rattle.job_edits.specs.declared.fault.Fault.TheVariants.{Cancelled};
-ghost use Rattle.job_edits.specs.Faults.{plan_of, last_place, replacement, insertion, changes_by, probe_by};
+ghost use Rattle.job_edits.specs.Faults.{plan_of, last_place, replacement, insertion, insertion_after, raising, raising_late, hanging, changes_by, probe_by};
 
 use crate::change::{Change, Piece};
 use crate::fault::Fault;
@@ -48,16 +48,11 @@ impl Plan {
         ensures { IfOk result (λ changes. changes.items ≡ changes_by self.now step fault) }
     {
         match fault {
-            Fault::Fails(name) => single_change(alloc, step.from, step.to, Piece::Raise(name)),
-            Fault::FailsLate(name) => single_change(
-                alloc,
-                step.to,
-                step.to,
-                Piece::ThenRaise(name),
-            ),
-            Fault::Hangs => single_change(alloc, step.from, step.to, Piece::Forever),
+            Fault::Fails(name) => single_change(alloc, raising(&step, name)),
+            Fault::FailsLate(name) => single_change(alloc, raising_late(&step, name)),
+            Fault::Hangs => single_change(alloc, hanging(&step)),
             Fault::Cancelled => self.cancel_changes(alloc, step),
-            Fault::Misses(name) => single_change(alloc, step.from, step.to, Piece::Raise(name)),
+            Fault::Misses(name) => single_change(alloc, raising(&step, name)),
         }
     }
 
@@ -77,9 +72,9 @@ impl Plan {
         ensures { result ≡ probe_by self.now step fault }
     {
         match fault {
-            Fault::FailsLate(_) => insertion(step.to, Piece::ThenRaise(self.reached)),
+            Fault::FailsLate(_) => raising_late(&step, self.reached),
             Fault::Fails(_) | Fault::Hangs | Fault::Cancelled | Fault::Misses(_) => {
-                replacement(step, Piece::Raise(self.reached))
+                raising(&step, self.reached)
             }
         }
     }
@@ -96,9 +91,43 @@ fn last_place(tokens: &[Token]) -> usize
     at
 }
 
+// Returns the change by which an exception with this name is raised in place of a step. A step with a block stays, and what is
+// before it never ends well.
+fn raising(step: &Waiting, name: Name) -> Change
+    ensures { result ≡ raising step.now name }
+{
+    if step.wait.has_block() {
+        insertion(step.from, Piece::RaiseBefore(name))
+    } else {
+        replacement(step, Piece::Raise(name))
+    }
+}
+
+// Returns the change by which an exception with this name is raised after a step, or at the start of its block.
+fn raising_late(step: &Waiting, name: Name) -> Change
+    ensures { result ≡ raising_late step.now name }
+{
+    if step.wait.has_block() {
+        insertion_after(step.to, Piece::RaiseFirst(name))
+    } else {
+        insertion(step.to, Piece::ThenRaise(name))
+    }
+}
+
+// Returns the change by which a step never ends.
+fn hanging(step: &Waiting) -> Change
+    ensures { result ≡ hanging step.now }
+{
+    if step.wait.has_block() {
+        insertion(step.from, Piece::ForeverBefore)
+    } else {
+        replacement(step, Piece::Forever)
+    }
+}
+
 // Returns the change that puts a piece in place of a step, up to the semicolon of the step.
-fn replacement(step: Waiting, piece: Piece) -> Change
-    ensures { result ≡ replacement step piece }
+fn replacement(step: &Waiting, piece: Piece) -> Change
+    ensures { result ≡ replacement step.now piece }
 {
     Change {
         from: step.from,
@@ -118,16 +147,18 @@ fn insertion(at: usize, piece: Piece) -> Change
     }
 }
 
-// Returns a single change: this piece in place of the bytes from one place up to another.
-fn single_change(
-    alloc: Global,
-    from: usize,
-    to: usize,
-    piece: Piece,
-) -> Result<Vec<Change>, AllocError>
-    ensures { IfOk result (λ changes. changes.items ≡ record { from = from; to = to; piece = piece } ∷ []) }
+// Returns the change that puts a piece after the byte at a place, and leaves nothing out.
+fn insertion_after(at: usize, piece: Piece) -> Change
+    ensures { result ≡ insertion_after at piece }
+{
+    insertion(at.saturating_add(1), piece)
+}
+
+// Returns a single change.
+fn single_change(alloc: Global, change: Change) -> Result<Vec<Change>, AllocError>
+    ensures { IfOk result (λ changes. changes.items ≡ change ∷ []) }
 {
     let mut changes = Vec::new(alloc);
-    changes.push(Change { from, to, piece })?;
+    changes.push(change)?;
     Ok(changes)
 }

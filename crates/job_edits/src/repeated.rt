@@ -26,8 +26,8 @@ pub struct RepeatedBlock {
     pub opening: usize,
     /// The place of the brace that closes it.
     pub closing: usize,
-    /// Whether a `pace` or `need` is in it: how long they take, and whether they raise an exception, depends on the task's part
-    /// of the input.
+    /// Whether a `pace`, `need` or `send` is in it: how long they take, whether they raise an exception, and what they send
+    /// depends on the task's part of the input.
     pub by_input: bool,
 }
 
@@ -201,7 +201,7 @@ fn by_input_before(closing: usize, tokens: &[Token]) -> bool
 fn is_by_input(keyword: Option<Keyword>) -> bool
     ensures { result ≡ is_by_input keyword }
 {
-    matches!(keyword, Some(Keyword::Pace | Keyword::Need))
+    matches!(keyword, Some(Keyword::Pace | Keyword::Need | Keyword::Send))
 }
 
 // Returns whether a mark closes a block in which so many others are open.

@@ -1,7 +1,6 @@
-ghost use Rattle.std.specs.Prelude.{◌≡◌, ◌+◌, ◌++◌, ◌∷◌, [], IfOk, OnOk};
-ghost use Rattle.std.specs.Io.Iter.{u64_saturate};
+ghost use Rattle.std.specs.Prelude.{◌≡◌, ◌++◌, ◌∷◌, [], IfOk, OnOk};
 ghost use Rattle.job_edits.specs.declared.change.Piece.TheVariants as piece;
-ghost use Rattle.job_edits.specs.Faults.{insertion};
+ghost use Rattle.job_edits.specs.Faults.{insertion, insertion_after};
 ghost use Rattle.job_edits.specs.Numbers.{set_to};
 ghost use Rattle.job_edits.specs.FinerTicks.{finer_changes_at, version_changes, finer_changes, hairs_of, shifts_with, shifts_of, hair_scope, moved_ticks, shifted_at, shifted_or_finer_changes, shifted_changes};
 
@@ -86,9 +85,9 @@ pub fn finer_changes(
     Ok(changes)
 }
 
-/// Returns the name of the scope in which `shifted_changes` puts a hair before a `set`: the first of `hair`, `hair_1` and so on
-/// that is not in the job text with these tokens. That there is such a name is tested, not proved. The only error is that memory
-/// runs out.
+/// Returns the name of the scope in which `shifted_changes` puts a hair at a step that is no checkpoint: the first of `hair`,
+/// `hair_1` and so on that is not in the job text with these tokens. That there is such a name is tested, not proved. The only
+/// error is that memory runs out.
 pub fn hair_scope(alloc: Global, tokens: &[Token]) -> Result<Name, AllocError>
     ensures { IfOk result (λ name. name ≡ hair_scope tokens.now) }
 {
@@ -96,8 +95,8 @@ pub fn hair_scope(alloc: Global, tokens: &[Token]) -> Result<Name, AllocError>
 }
 
 /// Returns the changes that give a job text finer ticks, as `finer_changes` does, and move one of its sites by a hair. `sites`
-/// are all the sites of the text. The hair of a `set` is a sleep before it in a shielded scope with the name `scope`, which is
-/// `hair_scope` of the text. The only error is that memory runs out.
+/// are all the sites of the text. The hair of a `set` or a `close`, and of the end of the block of an `acquire`, is a sleep before
+/// it in a shielded scope with the name `scope`, which is `hair_scope` of the text. The only error is that memory runs out.
 pub fn shifted_changes(
     alloc: Global,
     clock: Clock,
@@ -162,6 +161,7 @@ fn push_finer_changes(
         Moment::Pace { to, .. } => push_repeat(changes, finer_ticks, site.from, to),
         Moment::Checkpoint { .. } | Moment::Start { .. } => Ok(()),
         Moment::Set(_) | Moment::Wait { .. } => Ok(()),
+        Moment::Asking(_, _) | Moment::Release(_) | Moment::Close(_) => Ok(()),
     }
 }
 
@@ -189,15 +189,12 @@ fn push_shifted(
         Moment::Start { opening, .. } => {
             push_after(changes, opening, Piece::ThenSleep(finer_ticks.hair))
         }
-        Moment::Set(_) => {
-            push(
-                changes,
-                from,
-                from,
-                Piece::ShieldedSleep(scope, finer_ticks.hair),
-            )
+        Moment::Set(_) | Moment::Release(_) | Moment::Close(_) => {
+            let sleep = Piece::ShieldedSleep(scope, finer_ticks.hair);
+            push(changes, from, from, sleep)
         }
         Moment::Wait { to, .. } => push_after(changes, to, Piece::ThenSleep(finer_ticks.hair)),
+        Moment::Asking(_, _) => push(changes, from, from, Piece::SleepBefore(finer_ticks.hair)),
     }
 }
 
@@ -209,7 +206,7 @@ fn push_repeat(
     to: usize,
 ) -> Result<(), AllocError>
     ensures { OnOk result (changes.new.items
-        ≡ changes.old.items ++ (insertion from (piece.OpenRepeat finer_ticks.factor) ∷ insertion (u64_saturate (to + 1)) piece.Close ∷ [])) }
+        ≡ changes.old.items ++ (insertion from (piece.OpenRepeat finer_ticks.factor) ∷ insertion_after to piece.Close ∷ [])) }
 {
     push(changes, from, from, Piece::OpenRepeat(finer_ticks.factor))?;
     push_after(changes, to, Piece::Close)
@@ -224,7 +221,7 @@ fn push_number(changes: &mut Vec<Change>, number: Number, value: u64) -> Result<
 
 // Appends the change that puts a piece after the byte at a place.
 fn push_after(changes: &mut Vec<Change>, at: usize, piece: Piece) -> Result<(), AllocError>
-    ensures { OnOk result (changes.new.items ≡ changes.old.items ++ insertion (u64_saturate (at + 1)) piece ∷ []) }
+    ensures { OnOk result (changes.new.items ≡ changes.old.items ++ insertion_after at piece ∷ []) }
 {
     let after = at.saturating_add(1);
     push(changes, after, after, piece)

@@ -1,11 +1,11 @@
 ghost use Rattle.std.specs.Prelude.{◌≡◌, [], ◌++◌, decimal, IfOk, OnOk};
 ghost use Rattle.job_tokens.specs.Shapes.{word_in};
-ghost use Rattle.job_edits.specs.Waiting.{begins_after, step_keyword, wait_of, wait_if, keyword_in, need_in, first_number, first_name, first_mark, waiting_at, with_waiting, waiting_in, wait_text};
+ghost use Rattle.job_edits.specs.Waiting.{begins_after, step_keyword, wait_of, wait_if, keyword_in, need_in, first_number, first_name, first_mark, opens_block, has_block, end_if, waiting_at, with_waiting, waiting_in, ask_text, wait_text};
 
 use basics::push_number;
 use job_syntax::Keyword;
 use job_tokens::{Mark, Shape, Token, push_canon};
-use job_tree::{Name, Text};
+use job_tree::{Ask, Name, Text};
 use std::alloc::{AllocError, Global};
 
 /// What a waiting step waits for.
@@ -23,6 +23,31 @@ pub enum Wait {
     Need(Text, Name),
     /// `wait`: until the event with this name is set.
     Event(Name),
+    /// `acquire`, `send` or `receive`: until the limiter or channel with this name grants what is asked for.
+    Grant(Ask, Name),
+}
+
+impl Wait {
+    // Returns whether the step has a block: whether it is an `acquire` or a `receive`.
+    pub(crate) fn has_block(&self) -> bool
+        ensures { result ≡ has_block self.now }
+    {
+        match self {
+            Wait::Grant(ask, _) => opens_block(*ask),
+            _ => false,
+        }
+    }
+}
+
+// Returns whether a step that asks for this has a block.
+fn opens_block(ask: Ask) -> bool
+    ensures { result ≡ opens_block ask }
+{
+    match ask {
+        Ask::Acquire => true,
+        Ask::Send => false,
+        Ask::Receive => true,
+    }
 }
 
 /// A waiting step of a job text.
@@ -30,14 +55,14 @@ pub enum Wait {
 pub struct Waiting {
     /// The place of its first byte, in bytes from the start of the text.
     pub from: usize,
-    /// The place of the semicolon after it.
+    /// The place of the semicolon after it, or of the brace that opens its block.
     pub to: usize,
     /// What it waits for.
     pub wait: Wait,
 }
 
 /// Returns the waiting steps of the job text with these tokens, in the order of their places: each `sleep`, `checkpoint`,
-/// `forever`, `pace`, `need` and `wait`. The only error is that memory runs out.
+/// `forever`, `pace`, `need`, `wait`, `acquire`, `send` and `receive`. The only error is that memory runs out.
 pub fn waiting_steps(alloc: Global, tokens: &[Token]) -> Result<Vec<Waiting>, AllocError>
     ensures { IfOk result (λ steps. steps.items ≡ waiting_in tokens.now) }
 {
@@ -66,7 +91,7 @@ fn push_step(
     let Some(wait) = wait_at(begins, token, others) else {
         return Ok(());
     };
-    let Some(to) = first_mark(Mark::Semicolon, others) else {
+    let Some(to) = first_mark(end_if(wait.has_block()), others) else {
         return Ok(());
     };
     steps.push(Waiting { from, to, wait })?;
@@ -79,6 +104,13 @@ fn wait_at(begins: bool, token: Token, others: &[Token]) -> Option<Wait>
 {
     let keyword = step_keyword(begins, token)?;
     wait_of(keyword, others)
+}
+
+// Returns the mark after a step: the brace that opens its block, if it has one, or a semicolon.
+fn end_if(opens: bool) -> Mark
+    ensures { result ≡ end_if opens }
+{
+    if opens { Mark::Open } else { Mark::Semicolon }
 }
 
 // Returns whether a step may begin after this token: after a mark, where no name may be.
@@ -116,6 +148,9 @@ fn wait_of(keyword: Keyword, others: &[Token]) -> Option<Wait>
         Keyword::Pace => Some(Wait::Pace(first_number(others)?)),
         Keyword::Need => need_in(others),
         Keyword::Wait => Some(Wait::Event(first_name(others)?)),
+        Keyword::Acquire => Some(Wait::Grant(Ask::Acquire, first_name(others)?)),
+        Keyword::Send => Some(Wait::Grant(Ask::Send, first_name(others)?)),
+        Keyword::Receive => Some(Wait::Grant(Ask::Receive, first_name(others)?)),
         _ => None,
     }
 }
@@ -158,8 +193,8 @@ pub(crate) fn first_mark(mark: Mark, tokens: &[Token]) -> Option<usize>
     None
 }
 
-/// Appends a waiting step as it is printed: its tokens, with a space between two of them. The only error is that memory
-/// runs out.
+/// Appends a waiting step as it is printed: its tokens, without those of its block, with a space between two of them. The only
+/// error is that memory runs out.
 pub fn push_wait(out: &mut Vec<u8>, wait: Wait) -> Result<(), AllocError>
     ensures { OnOk result (out.new.items ≡ out.old.items ++ wait_text wait) }
 {
@@ -178,6 +213,26 @@ pub fn push_wait(out: &mut Vec<u8>, wait: Wait) -> Result<(), AllocError>
             out.extend_from_slice(b"wait ")?;
             out.extend_from_slice(name.bytes())
         }
+        Wait::Grant(ask, name) => push_asking(out, ask, name),
+    }
+}
+
+// Appends a step that asks a limiter or channel for something, as it is printed.
+pub(crate) fn push_asking(out: &mut Vec<u8>, ask: Ask, name: Name) -> Result<(), AllocError>
+    ensures { OnOk result (out.new.items ≡ out.old.items ++ (ask_text ask ++ name)) }
+{
+    out.extend_from_slice(ask_text(ask))?;
+    out.extend_from_slice(name.bytes())
+}
+
+// Returns the keyword of such a step, and a space.
+fn ask_text(ask: Ask) -> &'static [u8]
+    ensures { result.now ≡ ask_text ask }
+{
+    match ask {
+        Ask::Acquire => b"acquire ",
+        Ask::Send => b"send ",
+        Ask::Receive => b"receive ",
     }
 }
 

@@ -215,7 +215,7 @@ fn given_by(role: Role, token: Token) -> Option<Name>
     }
 }
 
-// Returns the name of a scope, nursery, event or task that a token with a role is.
+// Returns the name of a task, or of what a step opens, that a token with a role is.
 fn name_by(role: Role, token: Token) -> Option<Name>
     ensures { result ≡ name_by role (word_in token.shape) }
 {

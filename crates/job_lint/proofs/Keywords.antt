@@ -2,14 +2,19 @@
 use Rattle.std.proofs.Common.{◌≡◌, ℕ, Bool, true, false, cond, List, [], ◌∷◌, length, Option, Some, None, refl, ap, ◌∙◌, arith}
 use Rattle.job_tree.specs.declared.deadline.Deadline.{Deadline}
 use Rattle.job_tree.specs.declared.deadline.Deadline.TheVariants.{Never, After, At}
-use Rattle.job_tree.specs.Tree.{Step, sleep, checkpoint, forever, pace, find, head, longest, need, raise, cancel, set_event, wait_for, scope, nursery, event, start, repeat, attempt, Steps, stop, step, Handled, unhandled, except, Cleaned, uncleaned, finally, Tree}
+use Rattle.job_tree.specs.declared.format.Format.{Format}
+use Rattle.job_tree.specs.declared.object.ObjectKind.TheVariants.{Limiter, Channel}
+use Rattle.job_tree.specs.declared.object.Ask.TheVariants.{Acquire, Send, Receive}
+use Rattle.job_tree.specs.Starting.{starts_in_pass}
+use Rattle.job_tree.specs.Tree.{Step, sleep, checkpoint, forever, pace, find, head, longest, need, raise, cancel, set_event, wait_for, ask_for, close_channel, scope, nursery, event, object, start, repeat, attempt, Steps, stop, step, Handled, unhandled, except, Cleaned, uncleaned, finally, Tree}
 use Rattle.job_tokens.specs.declared.token.Shape.{Shape}
 use Rattle.job_tokens.specs.declared.token.Token.{Token}
 use Rattle.job_tokens.specs.Shapes.{shapes_of, word_in}
 use Rattle.job_syntax.specs.declared.keyword.Keyword.{Keyword}
 use Rattle.job_syntax.specs.declared.keyword.Keyword.TheVariants as word
 use Rattle.job_syntax.specs.Keywords.{spelling_of, keyword_of}
-use Rattle.job_syntax.specs.Pieces.{Piece, shapes_in, opens, deadline_pieces, flag_pieces, over_pieces, passes_pieces, steps_pieces, step_pieces, handler_pieces, cleanup_pieces, job_pieces}
+use Rattle.job_syntax.specs.Pieces.{Piece, shapes_in, opens, deadline_pieces, flag_pieces, over_pieces, passes_pieces, steps_pieces, step_pieces, handler_pieces, cleanup_pieces, job_pieces, loop_inside, AreSteps, IsStep, IsHandler, IsCleanup}
+use Rattle.job_reader.specs.Refusals.{AreTokensOf}
 use Rattle.job_lint.specs.Openings.{is_opening, opens_after, opens_as, opens_by, begins, with_place, places_from, opening_places}
 use Rattle.job_lint.specs.Fitting.{kept_as, kept_by, kept_if, keywords_from, opening_keywords, keywords_of, handled_keywords, cleaned_keywords}
 
@@ -98,57 +103,80 @@ following : {found others : List Keyword} (k : Keyword) → found ≡ others →
 following k e = ap (λ (ks : List Keyword). k ∷ ks) e
 
 mutual
-  steps_along : (ss : Steps) (rest : List Piece) → along true (steps_pieces ss rest) ≡ keywords_of ss (along true rest)
-  steps_along stop rest = refl
-  steps_along (step s ss) rest =
-      step_along s (steps_pieces ss rest) ∙ ap (λ (ks : List Keyword). keywords_of (step s stop) ks) (steps_along ss rest)
+  steps_along : (format : Format) (inside : Bool) (ss : Steps) (rest : List Piece) → AreSteps format inside ss →
+      along true (steps_pieces ss rest) ≡ keywords_of ss (along true rest)
+  steps_along format inside stop rest are = refl
+  steps_along format inside (step s ss) rest are =
+      step_along format inside s (steps_pieces ss rest) are.0
+      ∙ ap (λ (ks : List Keyword). keywords_of (step s stop) ks) (steps_along format inside ss rest are.1)
 
-  step_along : (s : Step) (rest : List Piece) → along true (step_pieces s rest) ≡ keywords_of (step s stop) (along true rest)
-  step_along (sleep n) rest = opening word.Sleep (along true rest)
-  step_along checkpoint rest = opening word.Checkpoint (along true rest)
-  step_along forever rest = opening word.Forever (along true rest)
-  step_along (pace n) rest = opening word.Pace (along true rest)
-  step_along (find t) rest = opening word.Find (along true rest)
-  step_along (head n) rest = opening word.Head (along true rest)
-  step_along longest rest = opening word.Longest (along true rest)
-  step_along (need t n) rest = opening word.Need (along true rest)
-  step_along (raise n) rest = opening word.Raise (along true rest)
-  step_along (cancel n) rest = opening word.Cancel (along true rest)
-  step_along (set_event n) rest = opening word.Set (along true rest)
-  step_along (wait_for n) rest = opening word.Wait (along true rest)
-  step_along (scope n d s f body) rest =
+  step_along : (format : Format) (inside : Bool) (s : Step) (rest : List Piece) → IsStep format inside s →
+      along true (step_pieces s rest) ≡ keywords_of (step s stop) (along true rest)
+  step_along format inside (sleep n) rest is = opening word.Sleep (along true rest)
+  step_along format inside checkpoint rest is = opening word.Checkpoint (along true rest)
+  step_along format inside forever rest is = opening word.Forever (along true rest)
+  step_along format inside (pace n) rest is = opening word.Pace (along true rest)
+  step_along format inside (find t) rest is = opening word.Find (along true rest)
+  step_along format inside (head n) rest is = opening word.Head (along true rest)
+  step_along format inside longest rest is = opening word.Longest (along true rest)
+  step_along format inside (need t n) rest is = opening word.Need (along true rest)
+  step_along format inside (raise n) rest is = opening word.Raise (along true rest)
+  step_along format inside (cancel n) rest is = opening word.Cancel (along true rest)
+  step_along format inside (set_event n) rest is = opening word.Set (along true rest)
+  step_along format inside (wait_for n) rest is = opening word.Wait (along true rest)
+  step_along format inside (ask_for n Acquire body) rest is =
+      opening word.Acquire (along true (steps_pieces body rest)) ∙ following word.Acquire (steps_along format false body rest is.2)
+  -- a `send` has no block
+  step_along format inside (ask_for n Send stop) rest is = opening word.Send (along true rest)
+  step_along format inside (ask_for n Send (step s ss)) rest is = absurd is.1
+  step_along format inside (ask_for n Receive body) rest is =
+      opening word.Receive (along true (steps_pieces body rest)) ∙ following word.Receive (steps_along format false body rest is.2)
+  step_along format inside (close_channel n) rest is = opening word.Close (along true rest)
+  step_along format inside (scope n d s f body) rest is =
       let block = opens ∷ steps_pieces body rest in
       let flagged = flag_pieces word.Fail f block in
       let shielded = flag_pieces word.Shield s flagged in
       opening word.Scope (along false (deadline_pieces d shielded))
-      ∙ following word.Scope (past_deadline d shielded ∙ past_flag word.Shield s flagged ∙ past_flag word.Fail f block ∙ steps_along body rest)
-  step_along (nursery n d s body) rest =
+      ∙ following word.Scope
+      (past_deadline d shielded ∙ past_flag word.Shield s flagged ∙ past_flag word.Fail f block ∙ steps_along format false body rest is)
+  step_along format inside (nursery n d s body) rest is =
       let block = opens ∷ steps_pieces body rest in
       let shielded = flag_pieces word.Shield s block in
       opening word.Nursery (along false (deadline_pieces d shielded))
-      ∙ following word.Nursery (past_deadline d shielded ∙ past_flag word.Shield s block ∙ steps_along body rest)
-  step_along (event n body) rest = opening word.Event (along true (steps_pieces body rest)) ∙ following word.Event (steps_along body rest)
-  step_along (start n o body) rest =
+      ∙ following word.Nursery (past_deadline d shielded ∙ past_flag word.Shield s block ∙ steps_along format true body rest is.1)
+  step_along format inside (event n body) rest is =
+      opening word.Event (along true (steps_pieces body rest)) ∙ following word.Event (steps_along format false body rest is.1)
+  step_along format inside (object n (Limiter c) body) rest is =
+      opening word.Limiter (along true (steps_pieces body rest)) ∙ following word.Limiter (steps_along format false body rest is.1)
+  step_along format inside (object n (Channel c) body) rest is =
+      opening word.Channel (along true (steps_pieces body rest)) ∙ following word.Channel (steps_along format false body rest is.1)
+  step_along format inside (start n o body) rest is =
       let block = opens ∷ steps_pieces body rest in
-      opening word.Start (along false (over_pieces o block)) ∙ following word.Start (past_over o block ∙ steps_along body rest)
-  step_along (repeat n over body) rest =
+      opening word.Start (along false (over_pieces o block)) ∙ following word.Start (past_over o block ∙ steps_along format false body rest is.1)
+  step_along format inside (repeat n over body) rest is =
       let block = opens ∷ steps_pieces body rest in
-      opening word.Repeat (along false (passes_pieces over n block)) ∙ following word.Repeat (past_passes over n block ∙ steps_along body rest)
-  step_along (attempt body h c) rest =
+      opening word.Repeat (along false (passes_pieces over n block))
+      ∙ following word.Repeat
+      (past_passes over n block ∙ steps_along format (starts_in_pass over (loop_inside format inside)) body rest is.2)
+  step_along format inside (attempt body h c) rest is =
       let cleaned = cleanup_pieces c rest in
-      let after = handler_along h cleaned ∙ ap (λ (ks : List Keyword). handled_keywords h ks) (cleanup_along c rest) in
+      let after = handler_along format h cleaned is.2 ∙ ap (λ (ks : List Keyword). handled_keywords h ks) (cleanup_along format c rest is.3) in
       opening word.Try (along true (steps_pieces body (handler_pieces h cleaned)))
-      ∙ following word.Try (steps_along body (handler_pieces h cleaned) ∙ ap (λ (ks : List Keyword). keywords_of body ks) after)
+      ∙ following word.Try
+      (steps_along format false body (handler_pieces h cleaned) is.1 ∙ ap (λ (ks : List Keyword). keywords_of body ks) after)
 
-  handler_along : (h : Handled) (rest : List Piece) → along true (handler_pieces h rest) ≡ handled_keywords h (along true rest)
-  handler_along unhandled rest = refl
-  handler_along (except n body) rest = opening word.Except (along true (steps_pieces body rest)) ∙ following word.Except (steps_along body rest)
+  handler_along : (format : Format) (h : Handled) (rest : List Piece) → IsHandler format h →
+      along true (handler_pieces h rest) ≡ handled_keywords h (along true rest)
+  handler_along format unhandled rest is = refl
+  handler_along format (except n body) rest is =
+      opening word.Except (along true (steps_pieces body rest)) ∙ following word.Except (steps_along format false body rest is)
 
-  cleanup_along : (c : Cleaned) (rest : List Piece) → along true (cleanup_pieces c rest) ≡ cleaned_keywords c (along true rest)
-  cleanup_along uncleaned rest = refl
-  cleanup_along (finally body) rest = opening word.Finally (along true (steps_pieces body rest)) ∙ following word.Finally (steps_along body rest)
+  cleanup_along : (format : Format) (c : Cleaned) (rest : List Piece) → IsCleanup format c →
+      along true (cleanup_pieces c rest) ≡ cleaned_keywords c (along true rest)
+  cleanup_along format uncleaned rest is = refl
+  cleanup_along format (finally body) rest is =
+      opening word.Finally (along true (steps_pieces body rest)) ∙ following word.Finally (steps_along format false body rest is)
 
 -- the tokens of a job have the opening keywords of the tree, in the same order
-pub same_keywords : (job : Tree) (tokens : List Token) → shapes_of tokens ≡ shapes_in (job_pieces job) →
-    opening_keywords tokens ≡ keywords_of job.steps []
-same_keywords job tokens e = keywords_along false tokens (job_pieces job) e ∙ steps_along job.steps []
+pub same_keywords : (job : Tree) (tokens : List Token) → AreTokensOf tokens job → opening_keywords tokens ≡ keywords_of job.steps []
+same_keywords job tokens are = keywords_along false tokens (job_pieces job) are.1 ∙ steps_along job.format false job.steps [] are.0

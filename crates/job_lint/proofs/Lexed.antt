@@ -16,7 +16,7 @@ pub keywords_of_text : (text : List ℕ) (job : Tree) (tokens : List Token) → 
     opening_keywords tokens ≡ keywords_of job.steps []
 keywords_of_text text job tokens (ts, is_of, none) lexed =
     let same : ts ≡ tokens = (Lexes-unique (may_have_comments text) (length text) (drop 11 text) ts tokens None None is_of.0 lexed).0 in
-    subst (λ (us : List Token). opening_keywords us ≡ keywords_of job.steps []) same (same_keywords job ts is_of.1.1)
+    subst (λ (us : List Token). opening_keywords us ≡ keywords_of job.steps []) same (same_keywords job ts is_of.1)
 
 -- there are as many places as opening keywords in the tree
 pub keywords_have_places : (text : List ℕ) (job : Tree) (tokens : List Token) → Spells text job → HasTokens text tokens None →

@@ -4,18 +4,22 @@ use Rattle.std.specs.Prelude.{slice_get, if◌then◌else◌}
 use Rattle.std.proofs.lemmas.List.{length-append}
 use Rattle.std.proofs.lemmas.List.{drop-drop}
 use Rattle.std.proofs.Math.Seq.{drop-append_seam}
-use Rattle.job_tree.specs.Tree.{Step, sleep, checkpoint, forever, pace, find, head, longest, need, raise, cancel, set_event, wait_for, scope, nursery, event, start, repeat, attempt, Steps, stop, step, Handled, unhandled, except, Cleaned, uncleaned, finally}
+use Rattle.job_tree.specs.declared.object.ObjectKind.TheVariants.{Limiter, Channel}
+use Rattle.job_tree.specs.declared.object.Ask.{Ask}
+use Rattle.job_tree.specs.declared.object.Ask.TheVariants.{Acquire, Send, Receive}
+use Rattle.job_tree.specs.Tree.{Step, sleep, checkpoint, forever, pace, find, head, longest, need, raise, cancel, set_event, wait_for, ask_for, close_channel, scope, nursery, event, object, start, repeat, attempt, Steps, stop, step, Handled, unhandled, except, Cleaned, uncleaned, finally}
 use Rattle.job_syntax.specs.declared.keyword.Keyword.{Keyword}
 use Rattle.job_syntax.specs.declared.keyword.Keyword.TheVariants as word
+use Rattle.job_syntax.specs.Pieces.{ask_word}
 use Rattle.job_reader.specs.Given.{is_among}
 use Rattle.job_lint.specs.declared.around.Around.{Around}
-use Rattle.job_lint.specs.declared.warning.Lint.TheVariants.{UnsetEvent, UnawaitedEvent}
+use Rattle.job_lint.specs.declared.warning.Lint.TheVariants.{UnsetEvent, UnawaitedEvent, UnusedLimiter, OrderInversion, UnsentChannel, UnreceivedChannel, UnclosedChannel}
 use Rattle.job_lint.specs.declared.warning.Warning.{Warning}
-use Rattle.job_lint.specs.declared.sought.Sought.TheVariants.{Set, Await}
+use Rattle.job_lint.specs.declared.sought.Sought.TheVariants.{Set, Await, Asking, Close, Looped, Inverted}
 use Rattle.job_lint.specs.Seeking.{is_never, has}
 use Rattle.job_lint.specs.Openings.{openings_of, openings_in, handled_openings, cleaned_openings, numbered_in}
 use Rattle.job_lint.specs.Warnings.{in_block, in_cleanup, in_handler, is_cancelled, is_nursery_cancelled, warn_if, with_warning, never_ends_well, own_warning, endless_shield, idle_scope, can_raise, warnings_at, warnings_of, warnings_in, handled_warnings, cleaned_warnings}
-use Rattle.job_lint.specs.Fitting.{own_keyword, keywords_of, keywords_in, handled_keywords, cleaned_keywords, begins_step, StandsAtKeyword, AllStandAtKeywords}
+use Rattle.job_lint.specs.Fitting.{own_keyword, keywords_of, keywords_in, handled_keywords, cleaned_keywords, begins_step, is_wait, StandsAtKeyword, AllStandAtKeywords}
 
 abbrev Keywords : Type 0
 Keywords = List Keyword
@@ -61,9 +65,12 @@ mutual
   split_in (cancel n) others = ([], refl, refl)
   split_in (set_event n) others = ([], refl, refl)
   split_in (wait_for n) others = ([], refl, refl)
+  split_in (ask_for n ask body) others = split_of body others
+  split_in (close_channel n) others = ([], refl, refl)
   split_in (scope n d s f body) others = split_of body others
   split_in (nursery n d s body) others = split_of body others
   split_in (event n body) others = split_of body others
+  split_in (object n kind body) others = split_of body others
   split_in (start n o body) others = split_of body others
   split_in (repeat n over body) others = split_of body others
   split_in (attempt body h c) others =
@@ -113,8 +120,17 @@ with_if places keywords true w others stands all = (stands, all)
 with_if places keywords false w others stands all = all
 
 begins : (s : Step) → begins_step (own_keyword s) ≡ true
-begins (sleep n) = refl
+begins (ask_for n Acquire body) = refl
+begins (ask_for n Send body) = refl
+begins (ask_for n Receive body) = refl
+begins (object n (Limiter c) body) = refl
+begins (object n (Channel c) body) = refl
 begins _ = refl
+
+asking_waits : (ask : Ask) → is_wait (ask_word ask) ≡ true
+asking_waits Acquire = refl
+asking_waits Send = refl
+asking_waits Receive = refl
 
 own_stands : (places : List ℕ) (keywords : Keywords) (around : Around) (opened : List (List ℕ)) (n : ℕ) (s : Step) (others : List Warning) →
     slice_get keywords n ≡ Some (own_keyword s) → AllStandAtKeywords places keywords others →
@@ -138,6 +154,9 @@ own_stands places keywords around opened n (cancel x) others got all =
 own_stands places keywords around opened n (set_event x) others got all = all
 own_stands places keywords around opened n (wait_for x) others got all =
     with_if places keywords around.exposed _ others (n, word.Wait, refl, got, refl) all
+own_stands places keywords around opened n (ask_for x ask body) others got all =
+    with_if places keywords around.exposed _ others (n, ask_word ask, refl, got, asking_waits ask) all
+own_stands places keywords around opened n (close_channel x) others got all = all
 own_stands places keywords around opened n (scope x d shield f body) others got all = by_flags (is_never d) shield
   where
     by_flags : (never shielded : Bool) → AllStandAtKeywords places keywords
@@ -159,6 +178,25 @@ own_stands places keywords around opened n (event x body) others got all = by_fl
         else Some (record { at = numbered_in places n; lint = UnsetEvent; name = Some x })) others)
     by_flag true = with_if places keywords _ _ others (n, word.Event, refl, got, refl) all
     by_flag false = ((n, word.Event, refl, got, refl), all)
+own_stands places keywords around opened n (object x (Limiter c) body) others got all = by_flag (has (Asking Acquire x) body)
+  where
+    by_flag : (b : Bool) → AllStandAtKeywords places keywords
+        (with_warning (if b then warn_if (has (Inverted x) body) (record { at = numbered_in places n; lint = OrderInversion; name = Some x })
+        else Some (record { at = numbered_in places n; lint = UnusedLimiter; name = Some x })) others)
+    by_flag true = with_if places keywords _ _ others (n, word.Limiter, refl, got, refl) all
+    by_flag false = ((n, word.Limiter, refl, got, refl), all)
+own_stands places keywords around opened n (object x (Channel c) body) others got all =
+    by_flags (has (Asking Receive x) body) (has (Close x) body) (has (Asking Send x) body)
+  where
+    by_flags : (received closed sent : Bool) → AllStandAtKeywords places keywords
+        (with_warning (if received then (if closed then None
+        else (if sent then warn_if (has (Looped x) body) (record { at = numbered_in places n; lint = UnclosedChannel; name = Some x })
+        else Some (record { at = numbered_in places n; lint = UnsentChannel; name = Some x })))
+        else Some (record { at = numbered_in places n; lint = UnreceivedChannel; name = Some x })) others)
+    by_flags false closed sent = ((n, word.Channel, refl, got, refl), all)
+    by_flags true true sent = all
+    by_flags true false true = with_if places keywords _ _ others (n, word.Channel, refl, got, refl) all
+    by_flags true false false = ((n, word.Channel, refl, got, refl), all)
 own_stands places keywords around opened n (start x o body) others got all = all
 own_stands places keywords around opened n (repeat c over body) others got all = all
 own_stands places keywords around opened n (attempt body h c) others got all = all
@@ -200,11 +238,16 @@ mutual
   stand_in places keywords around opened n (cancel x) more others e all = all
   stand_in places keywords around opened n (set_event x) more others e all = all
   stand_in places keywords around opened n (wait_for x) more others e all = all
+  stand_in places keywords around opened n (ask_for x ask body) more others e all =
+      stand_of places keywords around opened false n body more others e all
+  stand_in places keywords around opened n (close_channel x) more others e all = all
   stand_in places keywords around opened n (scope x d shield f body) more others e all =
       stand_of places keywords (in_block shield (is_cancelled x d body) around) (x ∷ opened) false n body more others e all
   stand_in places keywords around opened n (nursery x d shield body) more others e all =
       stand_of places keywords (in_block shield (is_nursery_cancelled x d body) around) (x ∷ opened) false n body more others e all
   stand_in places keywords around opened n (event x body) more others e all =
+      stand_of places keywords around opened false n body more others e all
+  stand_in places keywords around opened n (object x kind body) more others e all =
       stand_of places keywords around opened false n body more others e all
   stand_in places keywords around opened n (start x o body) more others e all =
       stand_of places keywords around opened false n body more others e all

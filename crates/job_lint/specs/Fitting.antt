@@ -1,13 +1,14 @@
 -- The opening keywords of a job in the order of the text, and which of them a warning is about.
 use Rattle.std.specs.Prelude.{◌≡◌, ℕ, Bool, true, false, List, [], ◌∷◌, Option, Some, None, slice_get, if◌then◌else◌}
-use Rattle.job_tree.specs.Tree.{Step, sleep, checkpoint, forever, pace, find, head, longest, need, raise, cancel, set_event, wait_for, scope, nursery, event, start, repeat, attempt, Steps, stop, step, Handled, unhandled, except, Cleaned, uncleaned, finally}
+use Rattle.job_tree.specs.Tree.{Step, sleep, checkpoint, forever, pace, find, head, longest, need, raise, cancel, set_event, wait_for, ask_for, close_channel, scope, nursery, event, object, start, repeat, attempt, Steps, stop, step, Handled, unhandled, except, Cleaned, uncleaned, finally}
 use Rattle.job_tokens.specs.declared.token.Token.{Token}
 use Rattle.job_tokens.specs.Shapes.{word_in}
 use Rattle.job_syntax.specs.declared.keyword.Keyword.{Keyword}
 use Rattle.job_syntax.specs.declared.keyword.Keyword.TheVariants as keyword
 use Rattle.job_syntax.specs.Keywords.{keyword_of}
+use Rattle.job_syntax.specs.Pieces.{object_word, ask_word}
 use Rattle.job_lint.specs.declared.warning.Lint.{Lint}
-use Rattle.job_lint.specs.declared.warning.Lint.TheVariants.{Unreachable, ExposedWait, RaiseInCleanup, ShieldWithoutDeadline, IdleScope, IdleHandler, UnsetEvent, UnawaitedEvent, LateCancel}
+use Rattle.job_lint.specs.declared.warning.Lint.TheVariants.{Unreachable, ExposedWait, RaiseInCleanup, ShieldWithoutDeadline, IdleScope, IdleHandler, UnsetEvent, UnawaitedEvent, UnusedLimiter, OrderInversion, UnsentChannel, UnreceivedChannel, UnclosedChannel, LateCancel}
 use Rattle.job_lint.specs.declared.warning.Warning.{Warning}
 use Rattle.job_lint.specs.Openings.{is_opening, opens_after, numbered_in}
 
@@ -50,9 +51,12 @@ own_keyword (raise name) = keyword.Raise
 own_keyword (cancel name) = keyword.Cancel
 own_keyword (set_event name) = keyword.Set
 own_keyword (wait_for name) = keyword.Wait
+own_keyword (ask_for name ask body) = ask_word ask
+own_keyword (close_channel name) = keyword.Close
 own_keyword (scope name deadline shield fail body) = keyword.Scope
 own_keyword (nursery name deadline shield body) = keyword.Nursery
 own_keyword (event name body) = keyword.Event
+own_keyword (object name kind body) = object_word kind
 own_keyword (start name over body) = keyword.Start
 own_keyword (repeat count over body) = keyword.Repeat
 own_keyword (attempt body handler cleanup) = keyword.Try
@@ -77,9 +81,12 @@ abbrev mutual
   keywords_in (cancel name) others = others
   keywords_in (set_event name) others = others
   keywords_in (wait_for name) others = others
+  keywords_in (ask_for name ask body) others = keywords_of body others
+  keywords_in (close_channel name) others = others
   keywords_in (scope name deadline shield fail body) others = keywords_of body others
   keywords_in (nursery name deadline shield body) others = keywords_of body others
   keywords_in (event name body) others = keywords_of body others
+  keywords_in (object name kind body) others = keywords_of body others
   keywords_in (start name over body) others = keywords_of body others
   keywords_in (repeat count over body) others = keywords_of body others
   keywords_in (attempt body handler cleanup) others = keywords_of body (handled_keywords handler (cleaned_keywords cleanup others))
@@ -106,6 +113,9 @@ is_wait keyword.Checkpoint = true
 is_wait keyword.Forever = true
 is_wait keyword.Pace = true
 is_wait keyword.Wait = true
+is_wait keyword.Acquire = true
+is_wait keyword.Send = true
+is_wait keyword.Receive = true
 is_wait _ = false
 
 abbrev pub is_raise : Keyword → Bool
@@ -125,6 +135,14 @@ abbrev pub is_event : Keyword → Bool
 is_event keyword.Event = true
 is_event _ = false
 
+abbrev pub is_limiter : Keyword → Bool
+is_limiter keyword.Limiter = true
+is_limiter _ = false
+
+abbrev pub is_channel : Keyword → Bool
+is_channel keyword.Channel = true
+is_channel _ = false
+
 abbrev pub is_cancel : Keyword → Bool
 is_cancel keyword.Cancel = true
 is_cancel _ = false
@@ -143,6 +161,11 @@ fits IdleScope k = is_scope k
 fits IdleHandler k = is_except k
 fits UnsetEvent k = is_event k
 fits UnawaitedEvent k = is_event k
+fits UnusedLimiter k = is_limiter k
+fits OrderInversion k = is_limiter k
+fits UnsentChannel k = is_channel k
+fits UnreceivedChannel k = is_channel k
+fits UnclosedChannel k = is_channel k
 fits LateCancel k = is_cancel k
 
 -- a warning is at the place of an opening keyword that it can be about

@@ -1,6 +1,6 @@
 -- The opening keywords of a job, which begin a step, a handler or a cleanup. They are numbered from 0, in the order of the text.
 use Rattle.std.specs.Prelude.{ℕ, ◌+◌, Bool, true, false, List, [], ◌∷◌, Option, Some, None, is_some, slice_index}
-use Rattle.job_tree.specs.Tree.{Step, sleep, checkpoint, forever, pace, find, head, longest, need, raise, cancel, set_event, wait_for, scope, nursery, event, start, repeat, attempt, Steps, stop, step, Handled, unhandled, except, Cleaned, uncleaned, finally}
+use Rattle.job_tree.specs.Tree.{Step, sleep, checkpoint, forever, pace, find, head, longest, need, raise, cancel, set_event, wait_for, ask_for, close_channel, scope, nursery, event, object, start, repeat, attempt, Steps, stop, step, Handled, unhandled, except, Cleaned, uncleaned, finally}
 use Rattle.job_tokens.specs.declared.token.Shape.{Shape}
 use Rattle.job_tokens.specs.declared.token.Token.{Token}
 use Rattle.job_tokens.specs.Shapes.{word_in, mark_in}
@@ -28,7 +28,7 @@ opens_by None = false
 opens_by (Some word) = opens_as (keyword_of word)
 
 -- A step, a handler or a cleanup begins directly after a `{`, `}` or `;`, and no name stands there. So a name that is spelled as a
--- keyword, as `event`, `set` and `wait` may be, does not open anything.
+-- keyword, as `event` and the others of format 3 may be, does not open anything.
 abbrev pub opens_after : Shape → Bool
 opens_after shape = is_some (mark_in shape)
 
@@ -76,9 +76,12 @@ abbrev mutual
   openings_in (cancel name) = 0
   openings_in (set_event name) = 0
   openings_in (wait_for name) = 0
+  openings_in (ask_for name ask body) = openings_of body
+  openings_in (close_channel name) = 0
   openings_in (scope name deadline shield fail body) = openings_of body
   openings_in (nursery name deadline shield body) = openings_of body
   openings_in (event name body) = openings_of body
+  openings_in (object name kind body) = openings_of body
   openings_in (start name over body) = openings_of body
   openings_in (repeat count over body) = openings_of body
   openings_in (attempt body handler cleanup) = openings_of body + handled_openings handler + cleaned_openings cleanup

@@ -4,12 +4,15 @@ use Rattle.std.specs.Str.{bytes_eq}
 use Rattle.job_tree.specs.declared.deadline.Deadline.{Deadline}
 use Rattle.job_tree.specs.declared.format.Format.{Format}
 use Rattle.job_tree.specs.declared.format.Format.TheVariants.{One, Two, Three}
-use Rattle.job_tree.specs.Tree.{Step, sleep, checkpoint, forever, pace, find, head, longest, need, raise, cancel, set_event, wait_for, scope, nursery, event, start, repeat, attempt, Steps, stop, step, Handled, unhandled, except, Cleaned, uncleaned, finally, Tree}
+use Rattle.job_tree.specs.declared.object.ObjectKind.{ObjectKind}
+use Rattle.job_tree.specs.declared.object.ObjectKind.TheVariants.{Limiter, Channel}
+use Rattle.job_tree.specs.declared.object.Ask.TheVariants.{Acquire, Send, Receive}
+use Rattle.job_tree.specs.Tree.{Step, sleep, checkpoint, forever, pace, find, head, longest, need, raise, cancel, set_event, wait_for, ask_for, close_channel, scope, nursery, event, object, start, repeat, attempt, Steps, stop, step, Handled, unhandled, except, Cleaned, uncleaned, finally, Tree}
 use Rattle.job_reader.specs.Given.{is_among}
 use Rattle.job_lint.specs.declared.around.Around.{Around}
-use Rattle.job_lint.specs.declared.warning.Lint.TheVariants.{Unreachable, ExposedWait, RaiseInCleanup, ShieldWithoutDeadline, IdleScope, IdleHandler, UnsetEvent, UnawaitedEvent, LateCancel}
+use Rattle.job_lint.specs.declared.warning.Lint.TheVariants.{Unreachable, ExposedWait, RaiseInCleanup, ShieldWithoutDeadline, IdleScope, IdleHandler, UnsetEvent, UnawaitedEvent, UnusedLimiter, OrderInversion, UnsentChannel, UnreceivedChannel, UnclosedChannel, LateCancel}
 use Rattle.job_lint.specs.declared.warning.Warning.{Warning}
-use Rattle.job_lint.specs.declared.sought.Sought.TheVariants.{Cancel, Raise, Fail, Failure, Wait, Set, Await}
+use Rattle.job_lint.specs.declared.sought.Sought.TheVariants.{Cancel, Raise, Fail, Failure, Wait, Set, Await, Asking, Close, Looped, Inverted}
 use Rattle.job_lint.specs.Seeking.{has, is_never}
 use Rattle.job_lint.specs.Openings.{openings_of, openings_in, handled_openings}
 
@@ -48,7 +51,7 @@ abbrev pub with_warning : Option Warning → List Warning → List Warning
 with_warning None others = others
 with_warning (Some w) others = w ∷ others
 
--- The steps after this one in its block never run. It is not decided whether a `wait` ends.
+-- The steps after this one in its block never run. It is not decided whether a `wait` ends, or a step that asks for something.
 abbrev pub never_ends_well : Step → Bool
 never_ends_well forever = true
 never_ends_well (raise name) = true
@@ -104,6 +107,31 @@ event_warning name body at =
     then warn_if (not (has (Await name) body)) (record { at = at; lint = UnawaitedEvent; name = Some name })
     else Some (record { at = at; lint = UnsetEvent; name = Some name })
 
+-- a limiter that no `acquire` in it names, or whose tokens and those of a limiter in it are asked for in both orders
+abbrev pub limiter_warning : List ℕ → Steps → ℕ → Option Warning
+limiter_warning name body at =
+    if has (Asking Acquire name) body
+    then warn_if (has (Inverted name) body) (record { at = at; lint = OrderInversion; name = Some name })
+    else Some (record { at = at; lint = UnusedLimiter; name = Some name })
+
+-- a channel that no `close` in it names, and no `send` either, or from which a `receive` in a loop receives
+abbrev pub open_channel_warning : List ℕ → Steps → ℕ → Option Warning
+open_channel_warning name body at =
+    if has (Asking Send name) body
+    then warn_if (has (Looped name) body) (record { at = at; lint = UnclosedChannel; name = Some name })
+    else Some (record { at = at; lint = UnsentChannel; name = Some name })
+
+-- a channel that no `receive` in it names, or one that nothing closes
+abbrev pub channel_warning : List ℕ → Steps → ℕ → Option Warning
+channel_warning name body at =
+    if has (Asking Receive name) body
+    then (if has (Close name) body then None else open_channel_warning name body at)
+    else Some (record { at = at; lint = UnreceivedChannel; name = Some name })
+
+abbrev pub object_warning : List ℕ → ObjectKind → Steps → ℕ → Option Warning
+object_warning name (Limiter n) body at = limiter_warning name body at
+object_warning name (Channel n) body at = channel_warning name body at
+
 -- a step of a block raises exceptions with this name; or the name is `TooSlow`, and a scope in it has `fail`
 abbrev pub can_raise : List ℕ → Steps → Bool
 can_raise name body = has (Raise name) body || (bytes_eq name (codes "TooSlow") && has Fail body)
@@ -119,12 +147,14 @@ own_warning around opened at checkpoint = exposed_wait around at
 own_warning around opened at forever = exposed_wait around at
 own_warning around opened at (pace k) = exposed_wait around at
 own_warning around opened at (wait_for name) = exposed_wait around at
+own_warning around opened at (ask_for name ask body) = exposed_wait around at
 own_warning around opened at (raise name) = raise_in_cleanup around at
 own_warning around opened at (cancel name) = late_cancel around opened name at
 own_warning around opened at (scope name deadline shield fail body) =
     scope_warning around name deadline shield fail body at
 own_warning around opened at (nursery name deadline shield body) = nursery_warning name deadline shield body at
 own_warning around opened at (event name body) = event_warning name body at
+own_warning around opened at (object name kind body) = object_warning name kind body at
 own_warning around opened at _ = None
 
 -- both warnings, followed by others
@@ -160,11 +190,14 @@ abbrev mutual
   warnings_in place around opened number (cancel name) others = others
   warnings_in place around opened number (set_event name) others = others
   warnings_in place around opened number (wait_for name) others = others
+  warnings_in place around opened number (ask_for name ask body) others = warnings_of place around opened false number body others
+  warnings_in place around opened number (close_channel name) others = others
   warnings_in place around opened number (scope name deadline shield fail body) others =
       warnings_of place (in_block shield (is_cancelled name deadline body) around) (name ∷ opened) false number body others
   warnings_in place around opened number (nursery name deadline shield body) others =
       warnings_of place (in_block shield (is_nursery_cancelled name deadline body) around) (name ∷ opened) false number body others
   warnings_in place around opened number (event name body) others = warnings_of place around opened false number body others
+  warnings_in place around opened number (object name kind body) others = warnings_of place around opened false number body others
   warnings_in place around opened number (start name over body) others = warnings_of place around opened false number body others
   warnings_in place around opened number (repeat count over body) others = warnings_of place around opened false number body others
   warnings_in place around opened number (attempt body handler cleanup) others =

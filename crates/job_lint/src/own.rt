@@ -1,13 +1,14 @@
 ghost use Rattle.std.specs.Prelude.{◌≡◌, OnOk};
 ghost use Rattle.job_tree.specs.Blocks.{step_of};
 ghost use Rattle.job_lint.specs.Opened.{names_opened};
-ghost use Rattle.job_lint.specs.Warnings.{warn_if, own_warning, scope_warning, nursery_warning, event_warning, is_cancelled, is_idle, late_cancel, endless_shield, idle_handler, can_raise, is_nursery_cancelled, never_ends_well, with_warning, warnings_at};
+ghost use Rattle.job_lint.specs.Warnings.{own_warning, scope_warning, nursery_warning, event_warning, is_cancelled, is_idle, late_cancel, endless_shield, idle_handler, can_raise, is_nursery_cancelled, never_ends_well, with_warning, warnings_at};
 ghost use Rattle.job_lint.specs.Adding.{Adds};
 
 use crate::around::Around;
 use crate::opened::{Opened, is_opened};
+use crate::sharing::object_warning;
 use crate::sought::{Sought, has, is_never};
-use crate::warning::{Lint, Warning};
+use crate::warning::{Lint, Warning, warn_if};
 use job_tree::{Body, Deadline, Name, Step};
 use std::alloc::AllocError;
 
@@ -42,7 +43,8 @@ pub(crate) fn push_found(
     Ok(())
 }
 
-// Returns whether the steps after this one in its block never run. It is not decided whether a `wait` ends.
+// Returns whether the steps after this one in its block never run. It is not decided whether a `wait` ends, or a step that asks
+// for something.
 pub(crate) fn never_ends_well(step: &Step) -> bool
     ensures { result ≡ never_ends_well (step_of step.now) }
 {
@@ -63,6 +65,7 @@ fn own_warning(step: &Step, around: Around, opened: &Opened, at: usize) -> Optio
         Step::Forever => warn_if(around.exposed, at, Lint::ExposedWait, None),
         Step::Pace(_) => warn_if(around.exposed, at, Lint::ExposedWait, None),
         Step::Wait(_) => warn_if(around.exposed, at, Lint::ExposedWait, None),
+        Step::Ask { .. } => warn_if(around.exposed, at, Lint::ExposedWait, None),
         Step::Raise(_) => warn_if(around.cleanup, at, Lint::RaiseInCleanup, None),
         Step::Cancel(name) => late_cancel(around, opened, name, at),
         Step::Scope {
@@ -79,6 +82,7 @@ fn own_warning(step: &Step, around: Around, opened: &Opened, at: usize) -> Optio
             body,
         } => nursery_warning(*name, *deadline, *shield, body, at),
         Step::Event { name, body } => event_warning(*name, body, at),
+        Step::Object { name, kind, body } => object_warning(*name, *kind, body, at),
         _ => None,
     }
 }
@@ -193,15 +197,4 @@ fn can_raise(name: Name, body: &Body) -> bool
     let steps = body.as_slice();
     let is_too_slow = name.bytes() == b"TooSlow".as_slice();
     has(steps, &Sought::Raise(name)) || (is_too_slow && has(steps, &Sought::Fail))
-}
-
-// Returns a warning, if what it warns of holds.
-fn warn_if(holds: bool, at: usize, lint: Lint, name: Option<Name>) -> Option<Warning>
-    ensures { result ≡ warn_if holds (record { at = at; lint = lint; name = name }) }
-{
-    if holds {
-        Some(Warning { at, lint, name })
-    } else {
-        None
-    }
 }

@@ -1,5 +1,5 @@
 ghost use Rattle.std.specs.Prelude.{◌≡◌, ◌++◌, IfOk, OnOk};
-ghost use Rattle.job_lint.specs.Sentences.{sentence_of, sentence_for, idle_scope_text, idle_handler_text, idle_reason, is_timeout, is_class, is_group, unset_event_text, unawaited_event_text, late_cancel_text};
+ghost use Rattle.job_lint.specs.Sentences.{sentence_of, sentence_for, idle_scope_text, idle_handler_text, idle_reason, is_timeout, is_class, is_group, is_closing, unset_event_text, unawaited_event_text, unused_limiter_text, order_inversion_text, unsent_channel_text, unreceived_channel_text, unclosed_channel_text, late_cancel_text};
 
 use crate::warning::{Lint, Warning};
 use std::alloc::{AllocError, Global};
@@ -38,6 +38,11 @@ fn push_sentence(text: &mut Vec<u8>, lint: Lint, name: &[u8]) -> Result<(), Allo
         Lint::IdleHandler => push_idle_handler(text, name),
         Lint::UnsetEvent => push_unset_event(text, name),
         Lint::UnawaitedEvent => push_unawaited_event(text, name),
+        Lint::UnusedLimiter => push_unused_limiter(text, name),
+        Lint::OrderInversion => push_order_inversion(text, name),
+        Lint::UnsentChannel => push_unsent_channel(text, name),
+        Lint::UnreceivedChannel => push_unreceived_channel(text, name),
+        Lint::UnclosedChannel => push_unclosed_channel(text, name),
         Lint::LateCancel => push_late_cancel(text, name),
     }
 }
@@ -72,6 +77,60 @@ fn push_unawaited_event(text: &mut Vec<u8>, name: &[u8]) -> Result<(), AllocErro
     text.extend_from_slice(b"` is in it")
 }
 
+fn push_unused_limiter(text: &mut Vec<u8>, name: &[u8]) -> Result<(), AllocError>
+    ensures { OnOk result (text.new.items ≡ text.old.items ++ unused_limiter_text name.now) }
+{
+    text.extend_from_slice(b"nothing asks for a token of the limiter ")?;
+    text.extend_from_slice(name)?;
+    text.extend_from_slice(b": no `acquire ")?;
+    text.extend_from_slice(name)?;
+    text.extend_from_slice(b"` is in it")
+}
+
+fn push_order_inversion(text: &mut Vec<u8>, name: &[u8]) -> Result<(), AllocError>
+    ensures { OnOk result (text.new.items ≡ text.old.items ++ order_inversion_text name.now) }
+{
+    text.extend_from_slice(b"tokens of ")?;
+    text.extend_from_slice(name)?;
+    text.extend_from_slice(
+        b" and of a limiter in it are asked for in both orders, each while the other is held: this may deadlock",
+    )
+}
+
+fn push_unsent_channel(text: &mut Vec<u8>, name: &[u8]) -> Result<(), AllocError>
+    ensures { OnOk result (text.new.items ≡ text.old.items ++ unsent_channel_text name.now) }
+{
+    text.extend_from_slice(b"nothing sends to the channel ")?;
+    text.extend_from_slice(name)?;
+    text.extend_from_slice(b" or closes it: neither `send ")?;
+    text.extend_from_slice(name)?;
+    text.extend_from_slice(b"` nor `close ")?;
+    text.extend_from_slice(name)?;
+    text.extend_from_slice(b"` is in it")
+}
+
+fn push_unreceived_channel(text: &mut Vec<u8>, name: &[u8]) -> Result<(), AllocError>
+    ensures { OnOk result (text.new.items ≡ text.old.items ++ unreceived_channel_text name.now) }
+{
+    text.extend_from_slice(b"nothing receives from the channel ")?;
+    text.extend_from_slice(name)?;
+    text.extend_from_slice(b": no `receive ")?;
+    text.extend_from_slice(name)?;
+    text.extend_from_slice(b"` is in it")
+}
+
+fn push_unclosed_channel(text: &mut Vec<u8>, name: &[u8]) -> Result<(), AllocError>
+    ensures { OnOk result (text.new.items ≡ text.old.items ++ unclosed_channel_text name.now) }
+{
+    text.extend_from_slice(b"nothing closes the channel ")?;
+    text.extend_from_slice(name)?;
+    text.extend_from_slice(b", so a `receive ")?;
+    text.extend_from_slice(name)?;
+    text.extend_from_slice(b"` in a `repeat` may wait for ever: no `close ")?;
+    text.extend_from_slice(name)?;
+    text.extend_from_slice(b"` is in it")
+}
+
 fn push_idle_handler(text: &mut Vec<u8>, name: &[u8]) -> Result<(), AllocError>
     ensures { OnOk result (text.new.items ≡ text.old.items ++ idle_handler_text name.now) }
 {
@@ -95,6 +154,8 @@ fn idle_reason(name: &[u8]) -> &'static [u8]
         b": a handler has the name of one exception, and handles no other"
     } else if is_group(name) {
         b": a handler has the name of an exception, and handles all of that name in a group"
+    } else if is_closing(name) {
+        b": a `send` to a closed channel raises ClosedResource, which `except ClosedResource` handles"
     } else {
         b", so its handler never runs"
     }
@@ -119,6 +180,13 @@ fn is_group(name: &[u8]) -> bool
     ensures { result ≡ is_group name.now }
 {
     name == b"ExceptionGroup".as_slice() || name == b"BaseExceptionGroup".as_slice()
+}
+
+// Returns whether Trio gives this name to what is raised where a channel is closed.
+fn is_closing(name: &[u8]) -> bool
+    ensures { result ≡ is_closing name.now }
+{
+    name == b"ClosedResourceError".as_slice() || name == b"BrokenResourceError".as_slice()
 }
 
 fn push_late_cancel(text: &mut Vec<u8>, name: &[u8]) -> Result<(), AllocError>

@@ -1,19 +1,22 @@
-ghost use Rattle.std.specs.Prelude.{◌≡◌};
+ghost use Rattle.std.specs.Prelude.{◌≡◌, ◌&&◌};
 ghost use Rattle.job_tree.specs.Blocks.{step_of, steps_of, handled_of, cleaned_of};
-ghost use Rattle.job_lint.specs.Seeking.{cancels, raises, fails, can_fail, waits, sets, awaits, is_never, is_sought, is_entered, has, has_inside, handled_has, cleaned_has};
+ghost use Rattle.job_tree.specs.Tree.{object};
+ghost use Rattle.job_lint.specs.declared.sought.Sought.TheVariants.{Nested};
+ghost use Rattle.job_lint.specs.Seeking.{is_sought, is_entered, is_never, in_loop, in_task, held_if, with_grant, has, has_inside, handled_has, cleaned_has};
 
-use job_tree::{Body, Deadline, Handler, Name, Step};
+use crate::kinds::{asks, awaits, can_fail, cancels, closes, fails, raises, sets, waits};
+use job_tree::{Ask, Body, Deadline, Handler, Name, ObjectKind, Step};
 
 // What is sought in a block.
-#[derive(Drop)]
+#[derive(Clone, Copy)]
 pub(crate) enum Sought {
     // A `cancel` with this name.
     Cancel(Name),
-    // A step that can raise an exception with this name: a `raise` or a `need`.
+    // A step that can raise an exception with this name: a `raise`, a `need`, a `send` or a `receive`.
     Raise(Name),
     // A scope with `fail`.
     Fail,
-    // A step that can raise an exception: a `raise`, a `need` or a scope with `fail`.
+    // A step that can raise an exception: one of these, or a scope with `fail`.
     Failure,
     // A step that waits and is not in a scope or nursery with a deadline.
     Wait,
@@ -21,6 +24,18 @@ pub(crate) enum Sought {
     Set(Name),
     // A `wait` with this name.
     Await(Name),
+    // A step that asks the limiter or channel with this name for this.
+    Asking(Ask, Name),
+    // A `close` with this name.
+    Close(Name),
+    // A `receive` with this name in a `repeat`.
+    Looped(Name),
+    // An `acquire` with the second name in one with the first, by the same task.
+    Nested(Name, Name),
+    // The same in an `acquire` with the first name.
+    Held(Name, Name),
+    // A limiter whose tokens and those of the limiter with this name are asked for in both orders.
+    Inverted(Name),
 }
 
 // Returns whether a block has what is sought, at any depth.
@@ -48,9 +63,11 @@ fn has_inside(step: &Step, sought: &Sought) -> bool
         Step::Nursery { deadline, body, .. } => {
             is_entered(sought, *deadline) && has(body.as_slice(), sought)
         }
+        Step::Ask { name, ask, body } => has(body.as_slice(), &with_grant(sought, *ask, name)),
         Step::Event { body, .. } => has(body.as_slice(), sought),
-        Step::Start { body, .. } => has(body.as_slice(), sought),
-        Step::Repeat { body, .. } => has(body.as_slice(), sought),
+        Step::Object { name, kind, body } => object_has(name, *kind, body, sought),
+        Step::Start { body, .. } => has(body.as_slice(), &in_task(sought)),
+        Step::Repeat { body, .. } => has(body.as_slice(), &in_loop(sought)),
         Step::Try {
             body,
             handler,
@@ -61,6 +78,29 @@ fn has_inside(step: &Step, sought: &Sought) -> bool
         }
         _ => false,
     }
+}
+
+// Returns whether the block of a limiter or channel has what is sought.
+#[cycle(seeking)]
+fn object_has(name: &Name, kind: ObjectKind, body: &Body, sought: &Sought) -> bool
+    ensures { result ≡ has_inside sought.now (object name.now kind body.now) }
+{
+    let steps = body.as_slice();
+    match sought {
+        Sought::Inverted(outer) => match kind {
+            ObjectKind::Limiter(_) => is_inverted(outer, name, steps) || has(steps, sought),
+            ObjectKind::Channel(_) => has(steps, sought),
+        },
+        _ => has(steps, sought),
+    }
+}
+
+// Returns whether tokens of two limiters are asked for in both orders, each while one of the other is held.
+#[cycle(seeking)]
+fn is_inverted(outer: &Name, inner: &Name, steps: &[Step]) -> bool
+    ensures { result ≡ (has (Nested outer.now inner.now) (steps_of steps.now) && has (Nested inner.now outer.now) (steps_of steps.now)) }
+{
+    has(steps, &Sought::Nested(*outer, *inner)) && has(steps, &Sought::Nested(*inner, *outer))
 }
 
 #[cycle(seeking)]
@@ -95,6 +135,12 @@ fn is_sought(step: &Step, sought: &Sought) -> bool
         Sought::Wait => waits(step),
         Sought::Set(name) => sets(step, name),
         Sought::Await(name) => awaits(step, name),
+        Sought::Asking(ask, name) => asks(step, *ask, name),
+        Sought::Close(name) => closes(step, name),
+        Sought::Looped(_) => false,
+        Sought::Nested(_, _) => false,
+        Sought::Held(_, inner) => asks(step, Ask::Acquire, inner),
+        Sought::Inverted(_) => false,
     }
 }
 
@@ -103,13 +149,53 @@ fn is_entered(sought: &Sought, deadline: Deadline) -> bool
     ensures { result ≡ is_entered sought.now deadline }
 {
     match sought {
-        Sought::Cancel(_) => true,
-        Sought::Raise(_) => true,
-        Sought::Fail => true,
-        Sought::Failure => true,
         Sought::Wait => is_never(deadline),
-        Sought::Set(_) => true,
-        Sought::Await(_) => true,
+        _ => true,
+    }
+}
+
+// Returns what is sought in the block of a `repeat`.
+fn in_loop(sought: &Sought) -> Sought
+    ensures { result ≡ in_loop sought.now }
+{
+    match sought {
+        Sought::Looped(name) => Sought::Asking(Ask::Receive, *name),
+        _ => *sought,
+    }
+}
+
+// Returns what is sought in the block of a step that asks the limiter or channel with a name for something.
+fn with_grant(sought: &Sought, ask: Ask, name: &Name) -> Sought
+    ensures { result ≡ with_grant ask name.now sought.now }
+{
+    match sought {
+        Sought::Nested(outer, inner) => match ask {
+            Ask::Acquire => held_if(name == outer, outer, inner),
+            Ask::Send => *sought,
+            Ask::Receive => *sought,
+        },
+        _ => *sought,
+    }
+}
+
+// Returns what is sought where a token of the outer limiter is held, or not yet.
+fn held_if(is_held: bool, outer: &Name, inner: &Name) -> Sought
+    ensures { result ≡ held_if is_held outer.now inner.now }
+{
+    if is_held {
+        Sought::Held(*outer, *inner)
+    } else {
+        Sought::Nested(*outer, *inner)
+    }
+}
+
+// Returns what is sought in a task that is started. It does not hold the tokens of the task that starts it.
+fn in_task(sought: &Sought) -> Sought
+    ensures { result ≡ in_task sought.now }
+{
+    match sought {
+        Sought::Held(outer, inner) => Sought::Nested(*outer, *inner),
+        _ => *sought,
     }
 }
 
@@ -120,75 +206,5 @@ pub(crate) fn is_never(deadline: Deadline) -> bool
         Deadline::Never => true,
         Deadline::After(_) => false,
         Deadline::At(_) => false,
-    }
-}
-
-fn cancels(step: &Step, name: &Name) -> bool
-    ensures { result ≡ cancels name.now (step_of step.now) }
-{
-    match step {
-        Step::Cancel(other) => name == other,
-        _ => false,
-    }
-}
-
-fn raises(step: &Step, name: &Name) -> bool
-    ensures { result ≡ raises name.now (step_of step.now) }
-{
-    match step {
-        Step::Raise(other) => name == other,
-        Step::Need { name: other, .. } => name == other,
-        _ => false,
-    }
-}
-
-fn fails(step: &Step) -> bool
-    ensures { result ≡ fails (step_of step.now) }
-{
-    match step {
-        Step::Scope { fail, .. } => *fail,
-        _ => false,
-    }
-}
-
-fn can_fail(step: &Step) -> bool
-    ensures { result ≡ can_fail (step_of step.now) }
-{
-    match step {
-        Step::Raise(_) => true,
-        Step::Need { .. } => true,
-        Step::Scope { fail, .. } => *fail,
-        _ => false,
-    }
-}
-
-fn waits(step: &Step) -> bool
-    ensures { result ≡ waits (step_of step.now) }
-{
-    match step {
-        Step::Sleep(_) => true,
-        Step::Checkpoint => true,
-        Step::Forever => true,
-        Step::Pace(_) => true,
-        Step::Wait(_) => true,
-        _ => false,
-    }
-}
-
-fn sets(step: &Step, name: &Name) -> bool
-    ensures { result ≡ sets name.now (step_of step.now) }
-{
-    match step {
-        Step::Set(other) => name == other,
-        _ => false,
-    }
-}
-
-fn awaits(step: &Step, name: &Name) -> bool
-    ensures { result ≡ awaits name.now (step_of step.now) }
-{
-    match step {
-        Step::Wait(other) => name == other,
-        _ => false,
     }
 }

@@ -1,4 +1,4 @@
-ghost use Rattle.std.specs.Prelude.{◌≡◌, ◌+◌, ◌≤◌, false, length, IfOk};
+ghost use Rattle.std.specs.Prelude.{◌≡◌, ◌∷◌, ◌+◌, ◌≤◌, false, length, IfOk};
 ghost use Rattle.job_tree.specs.Blocks.{step_of, steps_of, handled_of, cleaned_of};
 ghost use Rattle.job_lint.specs.Openings.{openings_of, openings_in, handled_openings, cleaned_openings, numbered_in};
 ghost use Rattle.job_lint.specs.Opened.{names_opened};
@@ -11,11 +11,11 @@ use crate::own::{
     idle_handler, is_cancelled, is_nursery_cancelled, never_ends_well, push_found, push_own,
 };
 use crate::warning::Warning;
-use job_tree::{Body, Handler, Step};
+use job_tree::{Body, Handler, Name, Step};
 use std::alloc::AllocError;
 
 // Each of these functions appends the warnings of a part of a job. `number` is the number of the first keyword of the part, and
-// `basics` are the places of all keywords. The result is the number of the first keyword after the part.
+// `places` are the places of all keywords. The result is the number of the first keyword after the part.
 
 // Appends the warnings of the steps of a block.
 #[cycle(walking)]
@@ -66,15 +66,7 @@ fn walk_inside(
             ..
         } => {
             let around = around.in_block(*shield, is_cancelled(*name, *deadline, body));
-            let next = walk_steps(
-                body.as_slice(),
-                places,
-                around,
-                &Opened::Block(&*name, &*opened),
-                number,
-                found,
-            )?;
-            Ok(next)
+            walk_opened(name, body, places, around, opened, number, found)
         }
         Step::Nursery {
             name,
@@ -83,28 +75,13 @@ fn walk_inside(
             body,
         } => {
             let around = around.in_block(*shield, is_nursery_cancelled(*name, *deadline, body));
-            let next = walk_steps(
-                body.as_slice(),
-                places,
-                around,
-                &Opened::Block(&*name, &*opened),
-                number,
-                found,
-            )?;
-            Ok(next)
+            walk_opened(name, body, places, around, opened, number, found)
         }
-        Step::Event { body, .. } => {
-            let next = walk_steps(body.as_slice(), places, around, opened, number, found)?;
-            Ok(next)
-        }
-        Step::Start { body, .. } => {
-            let next = walk_steps(body.as_slice(), places, around, opened, number, found)?;
-            Ok(next)
-        }
-        Step::Repeat { body, .. } => {
-            let next = walk_steps(body.as_slice(), places, around, opened, number, found)?;
-            Ok(next)
-        }
+        Step::Ask { body, .. } => walk_body(body, places, around, opened, number, found),
+        Step::Event { body, .. } => walk_body(body, places, around, opened, number, found),
+        Step::Object { body, .. } => walk_body(body, places, around, opened, number, found),
+        Step::Start { body, .. } => walk_body(body, places, around, opened, number, found),
+        Step::Repeat { body, .. } => walk_body(body, places, around, opened, number, found),
         Step::Try {
             body,
             handler,
@@ -117,6 +94,52 @@ fn walk_inside(
         }
         _ => Ok(number),
     }
+}
+
+// Appends the warnings of a block.
+#[cycle(walking)]
+fn walk_body(
+    body: &Body,
+    places: &[usize],
+    around: Around,
+    opened: &Opened,
+    number: usize,
+    found: &mut Vec<Warning>,
+) -> Result<usize, AllocError>
+    requires { number + openings_of body.now ≤ length places.now }
+    ensures { IfOk result (λ next. (next ≡ number + openings_of body.now)
+        × Adds found.old.items found.new.items
+        (warnings_of (numbered_in places.now) around (names_opened opened.now) false number body.now)) }
+{
+    let next = walk_steps(body.as_slice(), places, around, opened, number, found)?;
+    Ok(next)
+}
+
+// Appends the warnings of the block of a scope or nursery with this name.
+#[cycle(walking)]
+fn walk_opened(
+    name: &Name,
+    body: &Body,
+    places: &[usize],
+    around: Around,
+    opened: &Opened,
+    number: usize,
+    found: &mut Vec<Warning>,
+) -> Result<usize, AllocError>
+    requires { number + openings_of body.now ≤ length places.now }
+    ensures { IfOk result (λ next. (next ≡ number + openings_of body.now)
+        × Adds found.old.items found.new.items
+        (warnings_of (numbered_in places.now) around (name.now ∷ names_opened opened.now) false number body.now)) }
+{
+    let next = walk_steps(
+        body.as_slice(),
+        places,
+        around,
+        &Opened::Block(&*name, &*opened),
+        number,
+        found,
+    )?;
+    Ok(next)
 }
 
 // Appends the warnings of the handler of a `try`, if there is one. `tried` is the block of the `try`.

@@ -4,7 +4,7 @@ use Rattle.serde_json.specs.Data.{Data, null, object, member, no_members}
 use Rattle.basics.specs.Places.{line_of, column_of}
 use Rattle.job_lint.specs.Sentences.{sentence_of}
 use Rattle.job_lint.specs.declared.warning.Lint.{Lint}
-use Rattle.job_lint.specs.declared.warning.Lint.TheVariants.{Unreachable, ExposedWait, RaiseInCleanup, ShieldWithoutDeadline, IdleScope, IdleHandler, UnsetEvent, UnawaitedEvent, LateCancel}
+use Rattle.job_lint.specs.declared.warning.Lint.TheVariants.{Unreachable, ExposedWait, RaiseInCleanup, ShieldWithoutDeadline, IdleScope, IdleHandler, UnsetEvent, UnawaitedEvent, UnusedLimiter, OrderInversion, UnsentChannel, UnreceivedChannel, UnclosedChannel, LateCancel}
 use Rattle.job_lint.specs.declared.warning.Warning.{Warning}
 use Rattle.json_story.specs.Values.{integer, word, list_of, text_json}
 
@@ -18,6 +18,11 @@ kind_word IdleScope = codes "idle_scope"
 kind_word IdleHandler = codes "idle_handler"
 kind_word UnsetEvent = codes "unset_event"
 kind_word UnawaitedEvent = codes "unawaited_event"
+kind_word UnusedLimiter = codes "unused_limiter"
+kind_word OrderInversion = codes "order_inversion"
+kind_word UnsentChannel = codes "unsent_channel"
+kind_word UnreceivedChannel = codes "unreceived_channel"
+kind_word UnclosedChannel = codes "unclosed_channel"
 kind_word LateCancel = codes "late_cancel"
 
 abbrev pub name_or_null : Option (List ℕ) → Data

@@ -111,6 +111,11 @@ fn kind_word(lint: Lint) -> &'static str
         Lint::IdleHandler => "idle_handler",
         Lint::UnsetEvent => "unset_event",
         Lint::UnawaitedEvent => "unawaited_event",
+        Lint::UnusedLimiter => "unused_limiter",
+        Lint::OrderInversion => "order_inversion",
+        Lint::UnsentChannel => "unsent_channel",
+        Lint::UnreceivedChannel => "unreceived_channel",
+        Lint::UnclosedChannel => "unclosed_channel",
         Lint::LateCancel => "late_cancel",
     }
 }

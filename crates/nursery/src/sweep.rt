@@ -121,7 +121,7 @@ fn no_place_message(alloc: Global, target: &Target) -> Result<String, AllocError
         Target::At { line, column } => format!(in alloc;
             "error: the job text has no line {line} with a column {column}\n"
         ),
-        Target::DeadlineOf(_) => Ok(String::new(alloc)),
+        Target::NumberOf(_) => Ok(String::new(alloc)),
     }
 }
 
@@ -154,7 +154,7 @@ fn no_block_message(
 // Returns the name of the scope or nursery whose deadline is meant, or nothing if none is.
 fn name_in(target: &Target) -> &str {
     match target {
-        Target::DeadlineOf(name) => shown_word(name.bytes()),
+        Target::NumberOf(name) => shown_word(name.bytes()),
         Target::At { .. } => "",
     }
 }

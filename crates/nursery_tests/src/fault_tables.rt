@@ -123,10 +123,40 @@ const OF_WAITS: &[u8] = b"              as it is    0 done
 4 faults: 1 stuck, 0 cut a cleanup, 0 lost, 0 not reached
 ";
 
+const HOLDS: &str = "trio-job 3\njob m { limiter l 1 { acquire l { sleep 1; } } }";
+
+const OF_HOLDS: &[u8] = b"                 as it is    1 done
+2:23  acquire l  fails       0 raised Fault(m@0)
+2:23  acquire l  fails late  0 raised Fault(m@0)
+2:23  acquire l  hangs       stuck at 100; sleeping forever: m
+2:23  acquire l  cancelled   0 done
+2:35  sleep 1    fails       0 raised Fault(m@0)
+2:35  sleep 1    fails late  1 raised Fault(m@1)
+2:35  sleep 1    hangs       stuck at 100; sleeping forever: m
+2:35  sleep 1    cancelled   0 done
+8 faults: 2 stuck, 0 cut a cleanup, 0 lost, 0 not reached
+";
+
+const SENDS: &str = "trio-job 3\njob m { channel q 1 { send q; receive q { } close q; } }";
+
+const OF_SENDS: &[u8] = b"                 as it is    0 done
+2:23  send q     fails       0 raised Fault(m@0)
+2:23  send q     fails late  0 raised Fault(m@0)
+2:23  send q     hangs       stuck at 100; sleeping forever: m
+2:23  send q     cancelled   0 done
+2:31  receive q  fails       0 raised Fault(m@0)
+2:31  receive q  fails late  0 raised Fault(m@0)
+2:31  receive q  hangs       stuck at 100; sleeping forever: m
+2:31  receive q  cancelled   0 done
+8 faults: 2 stuck, 0 cut a cleanup, 0 lost, 0 not reached
+";
+
 // A job text, the status, and what is written.
 const TABLES: &[(&str, u8, &[u8])] = &[
     (FAILS, 1, OF_FAILS),
     (WAITS, 1, OF_WAITS),
+    (HOLDS, 1, OF_HOLDS),
+    (SENDS, 1, OF_SENDS),
     (CLEANS, 1, OF_CLEANS),
     (
         "trio-job 1\njob m { }",

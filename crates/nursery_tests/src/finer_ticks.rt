@@ -189,6 +189,31 @@ trio-job 3\njob m { event e { set e; wait e; sleep 1; } }\n",
 }
 
 #[test]
+fn a_token_is_asked_for_and_given_back_a_hair_later(rt: HostRuntime) -> Result<(), Fail> {
+    let text = b"trio-job 3\njob m { limiter l 1 { acquire l { try { } finally { } } } }\n";
+    let moved = moved_texts(rt.alloc(), Clock::ByRounds, text)?;
+    same(
+        "the texts moved by a hair",
+        moved.as_slice(),
+        b"trio-job 3\njob m { limiter l 1 { sleep 1; acquire l { try { } finally { } } } }
+trio-job 3\njob m { limiter l 1 { acquire l { try { } finally { } scope hair shield { sleep 1; } } } }\n",
+    )
+}
+
+#[test]
+fn what_is_done_to_a_channel_is_moved_by_a_hair(rt: HostRuntime) -> Result<(), Fail> {
+    let text = b"trio-job 3\njob m { channel q 1 { send q; receive q { } close q; } }\n";
+    let moved = moved_texts(rt.alloc(), Clock::ByRounds, text)?;
+    same(
+        "the texts moved by a hair",
+        moved.as_slice(),
+        b"trio-job 3\njob m { channel q 1 { sleep 1; send q; receive q { } close q; } }
+trio-job 3\njob m { channel q 1 { send q; sleep 1; receive q { } close q; } }
+trio-job 3\njob m { channel q 1 { send q; receive q { } scope hair shield { sleep 1; } close q; } }\n",
+    )
+}
+
+#[test]
 fn a_name_that_is_spelled_as_a_keyword_is_no_step(rt: HostRuntime) -> Result<(), Fail> {
     let text = b"trio-job 3\njob wait { event set { set set; wait set; raise hair; } }\n";
     let moved = moved_texts(rt.alloc(), Clock::ByRounds, text)?;
@@ -197,6 +222,14 @@ fn a_name_that_is_spelled_as_a_keyword_is_no_step(rt: HostRuntime) -> Result<(),
         moved.as_slice(),
         b"trio-job 3\njob wait { event set { scope hair_1 shield { sleep 1; } set set; wait set; raise hair; } }
 trio-job 3\njob wait { event set { set set; wait set; sleep 1; raise hair; } }\n",
+    )?;
+    let text = b"trio-job 3\njob close { limiter acquire 1 { acquire acquire { raise close; } } }\n";
+    let moved = moved_texts(rt.alloc(), Clock::ByRounds, text)?;
+    same(
+        "the texts moved by a hair",
+        moved.as_slice(),
+        b"trio-job 3\njob close { limiter acquire 1 { sleep 1; acquire acquire { raise close; } } }
+trio-job 3\njob close { limiter acquire 1 { acquire acquire { raise close; scope hair shield { sleep 1; } } } }\n",
     )
 }
 

@@ -183,6 +183,84 @@ const EVENTS: &[Row] = &[
     ),
 ];
 
+// Limiters of which nothing asks for a token, or whose tokens are asked for in both orders.
+const LIMITERS: &[Row] = &[
+    (
+        b"trio-job 3\njob m{limiter l 1{}}",
+        b"17 nothing asks for a token of the limiter l: no `acquire l` is in it\n",
+    ),
+    (
+        b"trio-job 3\njob m{limiter l 1{acquire l{sleep 1;}}}",
+        b"",
+    ),
+    (
+        b"trio-job 3\njob m{limiter a 1{limiter b 1{nursery n{start x{acquire a{acquire b{}}}start y{acquire b{acquire a{}}}}}}}",
+        b"17 tokens of a and of a limiter in it are asked for in both orders, each while the other is held: this may deadlock\n",
+    ),
+    (
+        b"trio-job 3\njob m{limiter a 1{limiter b 1{nursery n{start x{acquire b{repeat 2{acquire a{}}}}start y{acquire a{try{}finally{scope s after 1 shield{acquire b{}}}}}}}}}",
+        b"17 tokens of a and of a limiter in it are asked for in both orders, each while the other is held: this may deadlock\n",
+    ),
+    (
+        b"trio-job 3\njob m{limiter a 1{limiter b 1{nursery n{start x{acquire a{acquire b{}}}start y{acquire a{}acquire b{}}}}}}",
+        b"",
+    ),
+    // A task that is started in an `acquire` does not hold its token.
+    (
+        b"trio-job 3\njob m{limiter a 1{limiter b 1{acquire a{nursery n{start x{acquire b{acquire a{}}}}}}}}",
+        b"",
+    ),
+    (
+        b"trio-job 3\njob m{limiter l 1{try{}finally{acquire l{}}}}",
+        b"42 a cleanup that waits here is cut off when its task is cancelled: put the wait into a scope with a deadline and `shield`\n",
+    ),
+];
+
+// Channels from which nothing receives, to which nothing sends, and that nothing closes; and what their steps raise.
+const CHANNELS: &[Row] = &[
+    (
+        b"trio-job 3\njob m{channel q 1{send q;}}",
+        b"17 nothing receives from the channel q: no `receive q` is in it\n",
+    ),
+    (
+        b"trio-job 3\njob m{channel q 0{nursery n{start a{receive q{}}}}}",
+        b"17 nothing sends to the channel q or closes it: neither `send q` nor `close q` is in it\n",
+    ),
+    (
+        b"trio-job 3\njob m{channel q 0{nursery n{start a{repeat 9{receive q{}}}send q;}}}",
+        b"17 nothing closes the channel q, so a `receive q` in a `repeat` may wait for ever: no `close q` is in it\n",
+    ),
+    (
+        b"trio-job 3\njob m{channel q 1{nursery n{repeat 2{start a{receive q{}}}send q;send q;}}}",
+        b"17 nothing closes the channel q, so a `receive q` in a `repeat` may wait for ever: no `close q` is in it\n",
+    ),
+    (
+        b"trio-job 3\njob m{channel q 0{nursery n{start a{try{repeat 9{receive q{}}}except EndOfChannel{}}send q;close q;}}}",
+        b"",
+    ),
+    (
+        b"trio-job 3\njob m{channel q 1{send q;receive q{repeat 2{checkpoint;}}}}",
+        b"",
+    ),
+    // Each pass has a channel of its own.
+    (
+        b"trio-job 3\njob m{repeat 2{channel q 1{send q;receive q{}}}}",
+        b"",
+    ),
+    (
+        b"trio-job 3\njob m{channel q 1{try{send q;}except EndOfChannel{}receive q{}}}",
+        b"41 nothing in this `try` raises EndOfChannel, so its handler never runs\n",
+    ),
+    (
+        b"trio-job 3\njob m{channel q 1{try{send q;receive q{}}except ClosedResourceError{}}}",
+        b"52 nothing in this `try` raises ClosedResourceError: a `send` to a closed channel raises ClosedResource, which `except ClosedResource` handles\n",
+    ),
+    (
+        b"trio-job 3\njob send{channel receive 1{send receive;receive receive{raise close;}}}",
+        b"",
+    ),
+];
+
 // In formats 1 and 2, a `cancel` in a cleanup or handler of what is around that cleanup or handler.
 const LATE: &[Row] = &[
     (
@@ -285,6 +363,16 @@ fn handlers_of_what_nothing_raises(rt: HostRuntime) -> Result<(), Fail> {
 #[test]
 fn events_that_nothing_sets_or_waits_for(rt: HostRuntime) -> Result<(), Fail> {
     assert_lines(rt.alloc(), EVENTS)
+}
+
+#[test]
+fn limiters_that_are_not_used_or_may_deadlock(rt: HostRuntime) -> Result<(), Fail> {
+    assert_lines(rt.alloc(), LIMITERS)
+}
+
+#[test]
+fn channels_that_are_not_used_or_stay_open(rt: HostRuntime) -> Result<(), Fail> {
+    assert_lines(rt.alloc(), CHANNELS)
 }
 
 #[test]

@@ -128,11 +128,26 @@ const OF_LOOPS: &[u8] = b"2:26  start w  copies  w.0 and w.1 meet at 1
 3 hairs: 1 races
 ";
 
+// A channel that is closed in the round in which something is sent.
+const CLOSES: &str = "trio-job 3
+job m{channel q 2{nursery n{start a{send q;}checkpoint;close q;}}}";
+
+const OF_CLOSES: &[u8] = b"2:45  checkpoint  later  m: raised n[ClosedResource(a)] -> done; a: raised ClosedResource(a) -> done
+2:56  close q     later  m: raised n[ClosedResource(a)] -> done; a: raised ClosedResource(a) -> done
+4 hairs: 2 races
+";
+
 // A job text, the status, and what is written.
 const TABLES: &[(&str, u8, &[u8])] = &[
     (MEETS, 1, OF_MEETS),
     (ROUND, 1, OF_ROUND),
     (LOOPS, 1, OF_LOOPS),
+    (CLOSES, 1, OF_CLOSES),
+    (
+        "trio-job 3\njob m { limiter l 1 { acquire l { } } }",
+        0,
+        b"2 hairs: no race\n",
+    ),
     (
         "trio-job 3\njob m { event e { set e; wait e; } }",
         0,

@@ -50,7 +50,7 @@ fn sweep_again<R: Abort + Threads + Sync + AllocGlobal>(
     Ok(answer?)
 }
 
-// The number that is meant: the deadline of a scope or nursery, or the number at a line and a column.
+// The number that is meant: that of a scope, nursery, limiter or channel, or the number at a line and a column.
 #[derive(Clone, Copy)]
 enum Asked {
     Of(&'static str),
@@ -62,7 +62,7 @@ fn target_of(asked: Asked) -> Result<Target, Fail> {
     match asked {
         Asked::Of(name) => {
             let name = Name::new(name.as_bytes()).ok_or("name")?;
-            Ok(Target::DeadlineOf(name))
+            Ok(Target::NumberOf(name))
         }
         Asked::At(line, column) => Ok(Target::At { line, column }),
     }
@@ -106,6 +106,21 @@ fn a_deadline_takes_each_value(rt: HostRuntime) -> Result<(), Fail> {
         same_answer(LATE, &answer, 0, OF_LATE)?;
     }
     Ok(())
+}
+
+const LIMITED: &str =
+    "trio-job 3\njob m { limiter l 1 { nursery n { start t over 2 { acquire l { sleep 2; } } } } }";
+
+const OF_LIMITED: &[u8] = b"as it is  done, ends 4
+0         refused
+1..3      done, ends 2..4
+4 values: 0 stuck, 0 cut a cleanup, 1 refused
+";
+
+#[test]
+fn a_limiter_has_each_number_of_tokens(rt: HostRuntime) -> Result<(), Fail> {
+    let answer = answer_of(&rt, LIMITED, 2, Asked::Of("l"), &[0, 1, 2, 3])?;
+    same_answer(LIMITED, &answer, 0, OF_LIMITED)
 }
 
 #[test]
@@ -166,6 +181,11 @@ const REASONS: &[(&str, Asked, &str)] = &[
     (BLOCKS, Asked::Of("call"), "the nearest is calls"),
     ("trio-job 1\njob m { }", Asked::Of("call"), "none is near"),
     (BLOCKS, Asked::Of("limit"), "no deadline"),
+    (
+        "trio-job 3\njob m { limiter pool 1 { } }",
+        Asked::Of("poll"),
+        "the nearest is pool",
+    ),
     (BLOCKS, Asked::At(3, 1), "no place"),
     (BLOCKS, Asked::At(2, 5), "no number at 15"),
 ];

@@ -5,7 +5,7 @@ ghost use Rattle.job_edits.specs.declared.number.Target.TheVariants as target;
 use crate::missing::Missing;
 use crate::nearest::{is_one_of, nearest_in};
 use basics::place_at;
-use job_edits::{Number, Target, block_names, deadline_of, number_at};
+use job_edits::{Number, Target, block_names, block_number, number_at};
 use job_tokens::Token;
 use job_tree::Name;
 use std::alloc::{AllocError, Global};
@@ -29,7 +29,7 @@ pub(crate) fn number_for(
     ensures { IfOk result (IsFound text.now tokens.now target) }
 {
     match target {
-        Target::DeadlineOf(name) => deadline_for(alloc, text, tokens, name),
+        Target::NumberOf(name) => deadline_for(alloc, text, tokens, name),
         Target::At { line, column } => Ok(number_on(text, tokens, line, column)),
     }
 }
@@ -41,14 +41,14 @@ fn deadline_for(
     tokens: &[Token],
     name: Name,
 ) -> Result<Found, AllocError>
-    ensures { IfOk result (IsFound text.now tokens.now (target.DeadlineOf name)) }
+    ensures { IfOk result (IsFound text.now tokens.now (target.NumberOf name)) }
 {
     let blocks = block_names(alloc, tokens)?;
     if !is_one_of(name, blocks.as_slice()) {
         let nearest = nearest_in(alloc, name, blocks.as_slice())?;
         return Ok(Found::Missing(Missing::NoBlock { nearest }));
     }
-    match deadline_of(name, tokens) {
+    match block_number(name, tokens) {
         Some(number) => Ok(Found::Number(number)),
         None => Ok(Found::Missing(Missing::NoDeadline)),
     }

@@ -6,13 +6,16 @@ use Rattle.job_tokens.specs.Canon.{canon_of}
 use Rattle.job_tokens.specs.declared.token.Shape.TheVariants as shape
 use Rattle.job_tree.specs.declared.deadline.Deadline.{Deadline}
 use Rattle.job_tree.specs.declared.deadline.Deadline.TheVariants.{Never, After, At}
-use Rattle.job_tree.specs.Tree.{Step, sleep, checkpoint, forever, pace, find, head, longest, need, raise, cancel, set_event, wait_for, scope, nursery, event, start, repeat, attempt, Steps, stop, step, Handled, unhandled, except, Cleaned, uncleaned, finally, Tree}
+use Rattle.job_tree.specs.declared.object.ObjectKind.{ObjectKind}
+use Rattle.job_tree.specs.declared.object.ObjectKind.TheVariants.{Limiter, Channel}
+use Rattle.job_tree.specs.declared.object.Ask.TheVariants.{Acquire, Send, Receive}
+use Rattle.job_tree.specs.Tree.{Step, sleep, checkpoint, forever, pace, find, head, longest, need, raise, cancel, set_event, wait_for, ask_for, close_channel, scope, nursery, event, object, start, repeat, attempt, Steps, stop, step, Handled, unhandled, except, Cleaned, uncleaned, finally, Tree}
 use Rattle.trio_text.specs.Names.{name_text}
 use Rattle.trio_text.specs.Uses.{Known, among, known_of, classes_of}
 use Rattle.trio_text.specs.Needs.{uses_of}
 use Rattle.trio_text.specs.Tasks.{tasks_of, tasks_in, handled_tasks, cleaned_tasks, function_head, HasFunction, HasFunctions}
 use Rattle.trio_text.specs.Lines.{margin, deeper, with_line, with_gap, with_used, with_nested_block, with_nested_call}
-use Rattle.trio_text.specs.Statements.{class_of, handled_class, with_call, with_text, with_find, with_need, with_cancel, with_set, with_wait, with_statement, with_plain, is_plain, scope_kind, plain_scope, with_timed_scope, with_scope_call, with_setting, with_scope, with_opened, with_deadline_from, with_deadline, with_nursery, with_event, with_task, with_start, with_cuts, with_starts, with_repeat, with_each_part, with_each_cut, with_handling}
+use Rattle.trio_text.specs.Statements.{raised_class, with_call, with_text, with_find, with_need, with_cancel, with_set, with_wait, with_close, with_statement, with_plain, is_plain, scope_kind, plain_scope, with_timed_scope, with_scope_call, with_setting, with_scope, with_opened, with_deadline_from, with_deadline, with_nursery, with_event, with_object_call, with_object, with_acquire, with_send, with_received, with_receive, with_task, with_start, with_cuts, with_starts, with_repeat, with_each_part, with_each_cut, with_handling}
 use Rattle.trio_text.specs.Program.{IsProgram, header, imports, classes, helpers, footer, with_root, with_start_time}
 use Rattle.trio_text.specs.Blocks.{OrPass, Inside, Tried, Finally, Apart, with_nested_try, with_nested_calls, Writes, WritesStep, WritesHandler, WritesTry}
 
@@ -154,7 +157,7 @@ longer_need : (known : Known) (text name a : List ℕ) → Longer a (with_need k
 unfolding with_need
 longer_need known text name a =
     let b = a ++ codes "need(part, " in
-    more a _ (codes ")") (more a _ (class_of known name) (more a _ (codes ", ")
+    more a _ (codes ")") (more a _ (raised_class known name) (more a _ (codes ", ")
     (along a b _ (more a a (codes "need(part, ") (same a)) (longer_text text b))))
 
 longer_cancel : (is_nursery : Bool) (name a : List ℕ) → Longer a (with_cancel is_nursery name a)
@@ -171,6 +174,10 @@ longer_wait : (name a : List ℕ) → Longer a (with_wait name a)
 unfolding with_wait
 longer_wait name a = more a _ (codes ".wait()") (more a _ (name_text name) (more a a (codes "await ") (same a)))
 
+longer_close : (name a : List ℕ) → Longer a (with_close name a)
+unfolding with_close
+longer_close name a = more a _ (codes ".send_channel.close()") (more a a (name_text name) (same a))
+
 longer_statement : (known : Known) (s : Step) (a : List ℕ) → Longer a (with_statement known s a)
 longer_statement known (sleep n) a = longer_call (codes "await trio.sleep(") n a
 longer_statement known checkpoint a = more a a (codes "await trio.lowlevel.checkpoint()") (same a)
@@ -180,10 +187,11 @@ longer_statement known (find text) a = longer_find text a
 longer_statement known (head n) a = longer_call (codes "head(part, ") n a
 longer_statement known longest a = more a a (codes "longest(part)") (same a)
 longer_statement known (need text name) a = longer_need known text name a
-longer_statement known (raise name) a = more a _ (class_of known name) (more a a (codes "raise ") (same a))
+longer_statement known (raise name) a = more a _ (raised_class known name) (more a a (codes "raise ") (same a))
 longer_statement known (cancel name) a = longer_cancel (among known.nurseries name) name a
 longer_statement known (set_event name) a = longer_set name a
 longer_statement known (wait_for name) a = longer_wait name a
+longer_statement known (close_channel name) a = longer_close name a
 longer_statement known s a = same a
 
 longer_plain : (known : Known) (level : ℕ) (s : Step) (a : List ℕ) → Longer a (with_plain known level s a)
@@ -247,6 +255,36 @@ longer_event : (level : ℕ) (name a : List ℕ) → Longer a (with_event level 
 unfolding with_event
 longer_event level name a = more a _ (codes " = trio.Event()\n") (more a _ (name_text name) (more a a (margin level) (same a)))
 
+longer_object_call : (kind : ObjectKind) (a : List ℕ) → Longer a (with_object_call kind a)
+longer_object_call (Limiter tokens) a = longer_call (codes " = trio.CapacityLimiter(") tokens a
+longer_object_call (Channel places) a = longer_call (codes " = Channel(") places a
+
+longer_object : (level : ℕ) (name : List ℕ) (kind : ObjectKind) (a : List ℕ) → Longer a (with_object level name kind a)
+unfolding with_object
+longer_object level name kind a =
+    let b = (a ++ margin level) ++ name_text name in
+    more a _ (codes "\n") (along a b _ (more a _ (name_text name) (more a a (margin level) (same a))) (longer_object_call kind b))
+
+longer_acquire : (level : ℕ) (name a : List ℕ) → Longer a (with_acquire level name a)
+unfolding with_acquire
+longer_acquire level name a =
+    more a _ (codes "):\n") (more a _ (name_text name) (more a _ (codes "async with token_of(") (more a a (margin level) (same a))))
+
+longer_send : (level : ℕ) (name a : List ℕ) → Longer a (with_send level name a)
+unfolding with_send
+longer_send level name a =
+    more a _ (codes ".send_channel.send(part)\n") (more a _ (name_text name) (more a _ (codes "await ") (more a a (margin level) (same a))))
+
+longer_received : (level : ℕ) (a : List ℕ) → Longer a (with_received level a)
+unfolding with_received
+longer_received level a = along a (with_gap a) _ (longer_gap a) (longer_line level (codes "async def received(part):") (with_gap a))
+
+longer_receive : (level : ℕ) (name a : List ℕ) → Longer a (with_receive level name a)
+unfolding with_receive
+longer_receive level name a =
+    more a _ (codes ".receive_channel.receive())\n") (more a _ (name_text name) (more a _ (codes "await received(await ")
+    (more a _ (margin level) (more a a (codes "\n") (same a)))))
+
 longer_start : (level : ℕ) (around name end a : List ℕ) → Longer a (with_start level around name end a)
 unfolding with_start
 longer_start level around name end a =
@@ -289,7 +327,7 @@ unfolding with_handling
 longer_handling known level name a =
     let b = with_line level (codes "except BaseException as error:") a in
     along a b _ (longer_line level (codes "except BaseException as error:") a)
-    (more b _ (codes ", error):\n") (more b _ (handled_class known name) (more b _ (codes "with handling(") (more b b (margin (deeper level)) (same b)))))
+    (more b _ (codes ", error):\n") (more b _ (raised_class known name) (more b _ (codes "with handling(") (more b b (margin (deeper level)) (same b)))))
 
 -- ---- the functions of tasks
 
@@ -410,6 +448,21 @@ mutual
   step_grows known around (event name body) level a b is =
       then_grows (tasks_of body) a is.middle b (adds a (with_event level name a) is.middle (longer_event level name a) is.starts)
       (writes_grow known around body level is.middle b is.ends)
+  step_grows known around (object name kind body) level a b is =
+      then_grows (tasks_of body) a is.middle b (adds a (with_object level name kind a) is.middle (longer_object level name kind a) is.starts)
+      (writes_grow known around body level is.middle b is.ends)
+  step_grows known around (ask_for name Acquire body) level a b is =
+      then_grows (tasks_of body) a is.middle b (adds a (with_acquire level name a) is.middle (longer_acquire level name a) is.starts)
+      (block body (Writes known around body) (writes_grow known around body) (deeper level) is.middle b is.ends)
+  step_grows known around (ask_for name Send body) level a b is =
+      then_grows (tasks_of body) a is.middle b (adds a (with_send level name a) is.middle (longer_send level name a) is.starts)
+      (writes_grow known around body level is.middle b is.ends)
+  step_grows known around (ask_for name Receive body) level a b is =
+      let inner = is.ends in
+      then_grows (tasks_of body) a is.middle b (adds a (with_received level a) is.middle (longer_received level a) is.starts)
+      (grows_then (tasks_of body) is.middle inner.middle b
+      (block body (Writes known around body) (writes_grow known around body) (deeper level) is.middle inner.middle inner.starts)
+      (adds inner.middle (with_receive level name inner.middle) b (longer_receive level name inner.middle) inner.ends))
   step_grows known around (start name over body) level a b is =
       let inner = is.ends in
       let P : List ℕ → Type 0 = λ x. Grows (name ∷ []) a x in

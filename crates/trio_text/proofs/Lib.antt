@@ -3,3 +3,4 @@ pub mod Growing
 pub mod Naming
 pub mod Needing
 pub mod Passing
+pub mod Raising

@@ -11,6 +11,8 @@ unfolding any_use
 any_use_assoc a b d =
     rw (
       or_assoc a.handling b.handling d.handling,
+      or_assoc a.acquire b.acquire d.acquire,
+      or_assoc a.channel b.channel d.channel,
       or_assoc a.pace b.pace d.pace,
       or_assoc a.find b.find d.find,
       or_assoc a.head b.head d.head,
@@ -25,6 +27,8 @@ unfolding any_use
 any_use_none a =
     rw (
       or-false a.handling,
+      or-false a.acquire,
+      or-false a.channel,
       or-false a.pace,
       or-false a.find,
       or-false a.head,

@@ -1,11 +1,12 @@
 -- What the program has for the steps of a block: a piece of text for each of them, in order. Whether a block or a cleanup gets a
 -- function of its own, as deeply nested ones do, is left open.
 use Rattle.std.specs.Prelude.{ℕ, true, false, List, ◌++◌, ◌⊎◌, codes}
-use Rattle.job_tree.specs.Tree.{Step, scope, nursery, event, start, repeat, attempt, Steps, stop, step, Handled, unhandled, except, Cleaned, uncleaned, finally}
+use Rattle.job_tree.specs.declared.object.Ask.TheVariants.{Acquire, Send, Receive}
+use Rattle.job_tree.specs.Tree.{Step, ask_for, scope, nursery, event, object, start, repeat, attempt, Steps, stop, step, Handled, unhandled, except, Cleaned, uncleaned, finally}
 use Rattle.trio_text.specs.Uses.{Known}
 use Rattle.trio_text.specs.Pieces.{Adds, AddsNothing, Then}
 use Rattle.trio_text.specs.Lines.{deeper, with_line, with_nested_block, with_nested_call}
-use Rattle.trio_text.specs.Statements.{with_plain, with_scope, with_nursery, with_event, with_task, with_starts, with_repeat, with_each_part, with_each_cut, with_handling}
+use Rattle.trio_text.specs.Statements.{with_plain, with_scope, with_nursery, with_event, with_object, with_acquire, with_send, with_received, with_receive, with_task, with_starts, with_repeat, with_each_part, with_each_cut, with_handling}
 
 -- the steps of a block, or `pass` where it has none
 abbrev pub OrPass : Steps → (ℕ → List ℕ → List ℕ → Type 0) → ℕ → List ℕ → List ℕ → Type 0
@@ -51,8 +52,17 @@ abbrev mutual
       Then (Adds (with_scope level name deadline shield fail)) (Inside (OrPass body (Writes known around body)) (deeper level))
   WritesStep known around (nursery name deadline shield body) level =
       Then (Adds (with_nursery level name deadline shield)) (Inside (OrPass body (Writes known name body)) (deeper level))
-  -- an event is no block of Python: its steps follow it
+  -- an event, limiter or channel is no block of Python: its steps follow it
   WritesStep known around (event name body) level = Then (Adds (with_event level name)) (Writes known around body level)
+  WritesStep known around (object name kind body) level = Then (Adds (with_object level name kind)) (Writes known around body level)
+  WritesStep known around (ask_for name Acquire body) level =
+      Then (Adds (with_acquire level name)) (Inside (OrPass body (Writes known around body)) (deeper level))
+  -- the block of a `send` is empty
+  WritesStep known around (ask_for name Send body) level = Then (Adds (with_send level name)) (Writes known around body level)
+  -- what is done with a part that is received is a function, which has it as its part
+  WritesStep known around (ask_for name Receive body) level =
+      Then (Adds (with_received level)) (Then (Inside (OrPass body (Writes known around body)) (deeper level))
+      (Adds (with_receive level name)))
   WritesStep known around (start name over body) level =
       Then (Adds (with_task level name over)) (Then (Inside (OrPass body (Writes known around body)) (deeper level))
       (Adds (with_starts level around name over)))

@@ -1,4 +1,4 @@
--- The names of a job's tasks, scopes, nurseries and events in its Python program.
+-- The names of a job's tasks, and of what its steps open, in its Python program.
 use Rattle.std.specs.Prelude.{ℕ, Bool, not, ◌&&◌, List, ◌++◌, codes, nat_eq, if◌then◌else◌}
 use Rattle.std.specs.List.{list_any, ends_with}
 use Rattle.std.specs.Str.{bytes_eq}
@@ -16,6 +16,6 @@ is_free word = not (ends_with nat_eq word (codes "_")) && not (is_taken word)
 unfoldable pub name_text : List ℕ → List ℕ
 name_text name = if is_free name then name else name ++ codes "_"
 
--- the class of an exception: its name, with `_` before it if it is not free, or if a task, scope, nursery or event has it
+-- the class of an exception: its name, with `_` before it if it is not free, or if a task has it, or what a step opens
 unfoldable pub class_text : Bool → List ℕ → List ℕ
 class_text is_given name = if is_free name && not is_given then name else codes "_" ++ name

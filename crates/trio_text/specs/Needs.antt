@@ -2,16 +2,33 @@
 use Rattle.std.specs.Prelude.{Bool, true, false, ◌||◌, is_some}
 use Rattle.job_tree.specs.declared.deadline.Deadline.{Deadline}
 use Rattle.job_tree.specs.declared.deadline.Deadline.TheVariants.{Never, After, At}
-use Rattle.job_tree.specs.Tree.{Step, pace, find, head, longest, need, scope, nursery, event, start, repeat, attempt, Steps, stop, step, Handled, unhandled, except, Cleaned, uncleaned, finally}
+use Rattle.job_tree.specs.declared.object.ObjectKind.{ObjectKind}
+use Rattle.job_tree.specs.declared.object.ObjectKind.TheVariants.{Limiter, Channel}
+use Rattle.job_tree.specs.declared.object.Ask.{Ask}
+use Rattle.job_tree.specs.declared.object.Ask.TheVariants.{Acquire, Send, Receive}
+use Rattle.job_tree.specs.Tree.{Step, pace, find, head, longest, need, ask_for, scope, nursery, event, object, start, repeat, attempt, Steps, stop, step, Handled, unhandled, except, Cleaned, uncleaned, finally}
 use Rattle.trio_text.specs.declared.uses.Uses.{Uses}
 
 abbrev pub no_uses : Uses
-no_uses = record { handling = false; pace = false; find = false; head = false; longest = false; need = false; over = false; start = false }
+no_uses = record {
+  handling = false;
+  acquire = false;
+  channel = false;
+  pace = false;
+  find = false;
+  head = false;
+  longest = false;
+  need = false;
+  over = false;
+  start = false;
+}
 
 -- what the first or the second needs
 unfoldable pub any_use : Uses → Uses → Uses
 any_use a b = record {
   handling = a.handling || b.handling;
+  acquire = a.acquire || b.acquire;
+  channel = a.channel || b.channel;
   pace = a.pace || b.pace;
   find = a.find || b.find;
   head = a.head || b.head;
@@ -31,6 +48,16 @@ deadline_use Never = no_uses
 deadline_use (After ticks) = no_uses
 deadline_use (At tick) = record no_uses { start = true }
 
+-- a channel needs a name for both of its ends, and a token a holder
+abbrev pub object_use : ObjectKind → Uses
+object_use (Limiter tokens) = no_uses
+object_use (Channel places) = record no_uses { channel = true }
+
+abbrev pub ask_use : Ask → Uses
+ask_use Acquire = record no_uses { acquire = true }
+ask_use Send = no_uses
+ask_use Receive = no_uses
+
 -- a step without a block
 abbrev pub plain_uses : Step → Uses
 plain_uses (pace k) = record no_uses { pace = true }
@@ -49,6 +76,8 @@ abbrev mutual
   uses_in (scope name deadline shield fail body) = any_use (deadline_use deadline) (uses_of body)
   uses_in (nursery name deadline shield body) = any_use (deadline_use deadline) (uses_of body)
   uses_in (event name body) = uses_of body
+  uses_in (object name kind body) = any_use (object_use kind) (uses_of body)
+  uses_in (ask_for name ask body) = any_use (ask_use ask) (uses_of body)
   uses_in (start name over body) = any_use (record no_uses { over = is_some over }) (uses_of body)
   uses_in (repeat count over body) = any_use (record no_uses { over = over }) (uses_of body)
   uses_in (attempt body handler cleanup) = any_use (any_use (uses_of body) (handled_uses handler)) (cleaned_uses cleanup)

@@ -10,7 +10,7 @@ use Rattle.trio_text.specs.Statements.{class_of}
 use Rattle.trio_text.specs.Blocks.{OrPass, Writes}
 use Rattle.trio_text.specs.Needs.{shows, uses_of}
 use Rattle.trio_text.specs.declared.uses.Uses.{Uses}
-use Rattle.trio_text.specs.declared.texts.TheConstants.{HEADER, HARNESS, FIRST_IMPORTS, IMPORT_FOR_HANDLING, LAST_IMPORTS, HANDLING, PACE, FIND, HEAD, LONGEST, NEED, OVER, LINES_OF, SHOW_LINES}
+use Rattle.trio_text.specs.declared.texts.TheConstants.{HEADER, HARNESS, FIRST_IMPORTS, IMPORT_CONTEXTLIB, LAST_IMPORTS, HANDLING, TOKEN_OF, CHANNEL, PACE, FIND, HEAD, LONGEST, NEED, OVER, LINES_OF, SHOW_LINES}
 
 -- the first lines: the name of the job, and how to run the program
 abbrev pub header : List ℕ → List ℕ
@@ -30,13 +30,14 @@ classes known names = flat_map (class_lines known) names
 
 -- the imports, for these helpers
 unfoldable pub imports : Uses → List ℕ
-imports uses = with_used uses.handling IMPORT_FOR_HANDLING.now FIRST_IMPORTS.now ++ LAST_IMPORTS.now
+imports uses = with_used (uses.handling || uses.acquire) IMPORT_CONTEXTLIB.now FIRST_IMPORTS.now ++ LAST_IMPORTS.now
 
 -- these helpers
 unfoldable pub helpers : Uses → List ℕ
 helpers uses = with_used (shows uses) SHOW_LINES.now (with_used (uses.pace || shows uses) LINES_OF.now
     (with_used uses.over OVER.now (with_used uses.need NEED.now (with_used uses.longest LONGEST.now (with_used uses.head HEAD.now
-    (with_used uses.find FIND.now (with_used uses.pace PACE.now (with_used uses.handling HANDLING.now []))))))))
+    (with_used uses.find FIND.now (with_used uses.pace PACE.now (with_used uses.channel CHANNEL.now (with_used uses.acquire TOKEN_OF.now
+    (with_used uses.handling HANDLING.now []))))))))))
 
 -- the lines that begin the function of the root task
 unfoldable pub with_root : List ℕ → List ℕ → List ℕ

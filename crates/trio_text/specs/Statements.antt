@@ -4,18 +4,27 @@ use Rattle.job_tokens.specs.Canon.{canon_of}
 use Rattle.job_tokens.specs.declared.token.Shape.TheVariants as shape
 use Rattle.job_tree.specs.declared.deadline.Deadline.{Deadline}
 use Rattle.job_tree.specs.declared.deadline.Deadline.TheVariants.{Never, After, At}
-use Rattle.job_tree.specs.Tree.{Step, sleep, checkpoint, forever, pace, find, head, longest, need, raise, cancel, set_event, wait_for}
+use Rattle.job_tree.specs.declared.object.ObjectKind.{ObjectKind}
+use Rattle.job_tree.specs.declared.object.ObjectKind.TheVariants.{Limiter, Channel}
+use Rattle.job_tree.specs.Tree.{Step, sleep, checkpoint, forever, pace, find, head, longest, need, raise, cancel, set_event, wait_for, close_channel}
 use Rattle.trio_text.specs.Names.{name_text, class_text}
-use Rattle.trio_text.specs.Uses.{Known, among, is_too_slow}
+use Rattle.trio_text.specs.Uses.{Known, among, is_too_slow, is_end_of_channel, is_in_trio}
 use Rattle.trio_text.specs.Lines.{margin, deeper, with_line, with_gap, with_used}
 
--- the class of an exception
+-- the class that the program has for exceptions of a name
 unfoldable pub class_of : Known → List ℕ → List ℕ
 class_of known name = class_text (among known.given name) name
 
--- the class of the exceptions that a handler handles
-unfoldable pub handled_class : Known → List ℕ → List ℕ
-handled_class known name = if is_too_slow name then codes "trio.TooSlowError" else class_of known name
+-- Trio's class for an exception that Trio raises
+abbrev pub trio_class : List ℕ → List ℕ
+trio_class name =
+    if is_too_slow name then codes "trio.TooSlowError"
+    else if is_end_of_channel name then codes "trio.EndOfChannel"
+    else codes "trio.ClosedResourceError"
+
+-- the class of the exceptions of a name, which a step raises or a handler handles
+unfoldable pub raised_class : Known → List ℕ → List ℕ
+raised_class known name = if is_in_trio name then trio_class name else class_of known name
 
 -- a call whose last argument is a number
 unfoldable pub with_call : List ℕ → ℕ → List ℕ → List ℕ
@@ -29,7 +38,7 @@ unfoldable pub with_find : List ℕ → List ℕ → List ℕ
 with_find text before = with_text text (before ++ codes "find(part, ") ++ codes ")"
 
 unfoldable pub with_need : Known → List ℕ → List ℕ → List ℕ → List ℕ
-with_need known text name before = with_text text (before ++ codes "need(part, ") ++ codes ", " ++ class_of known name ++ codes ")"
+with_need known text name before = with_text text (before ++ codes "need(part, ") ++ codes ", " ++ raised_class known name ++ codes ")"
 
 unfoldable pub with_cancel : Bool → List ℕ → List ℕ → List ℕ
 with_cancel is_nursery name before = with_used is_nursery (codes ".cancel_scope") (before ++ name_text name) ++ codes ".cancel()"
@@ -39,6 +48,9 @@ with_set name before = before ++ name_text name ++ codes ".set()"
 
 unfoldable pub with_wait : List ℕ → List ℕ → List ℕ
 with_wait name before = before ++ codes "await " ++ name_text name ++ codes ".wait()"
+
+unfoldable pub with_close : List ℕ → List ℕ → List ℕ
+with_close name before = before ++ name_text name ++ codes ".send_channel.close()"
 
 -- the statement of a step without a block
 abbrev pub with_statement : Known → Step → List ℕ → List ℕ
@@ -50,10 +62,11 @@ with_statement known (find text) before = with_find text before
 with_statement known (head n) before = with_call (codes "head(part, ") n before
 with_statement known longest before = before ++ codes "longest(part)"
 with_statement known (need text name) before = with_need known text name before
-with_statement known (raise name) before = before ++ codes "raise " ++ class_of known name
+with_statement known (raise name) before = before ++ codes "raise " ++ raised_class known name
 with_statement known (cancel name) before = with_cancel (among known.nurseries name) name before
 with_statement known (set_event name) before = with_set name before
 with_statement known (wait_for name) before = with_wait name before
+with_statement known (close_channel name) before = with_close name before
 with_statement known s before = before
 
 -- its line
@@ -118,6 +131,32 @@ with_nursery level name deadline shield before = with_setting (deeper level) shi
 unfoldable pub with_event : ℕ → List ℕ → List ℕ → List ℕ
 with_event level name before = before ++ margin level ++ name_text name ++ codes " = trio.Event()\n"
 
+-- what makes a limiter or a channel
+abbrev pub with_object_call : ObjectKind → List ℕ → List ℕ
+with_object_call (Limiter tokens) before = with_call (codes " = trio.CapacityLimiter(") tokens before
+with_object_call (Channel places) before = with_call (codes " = Channel(") places before
+
+-- the line that makes it
+unfoldable pub with_object : ℕ → List ℕ → ObjectKind → List ℕ → List ℕ
+with_object level name kind before = with_object_call kind (before ++ margin level ++ name_text name) ++ codes "\n"
+
+-- the line that takes a token for a block
+unfoldable pub with_acquire : ℕ → List ℕ → List ℕ → List ℕ
+with_acquire level name before = before ++ margin level ++ codes "async with token_of(" ++ name_text name ++ codes "):\n"
+
+-- the line that sends the task's part
+unfoldable pub with_send : ℕ → List ℕ → List ℕ → List ℕ
+with_send level name before = before ++ margin level ++ codes "await " ++ name_text name ++ codes ".send_channel.send(part)\n"
+
+-- the line that begins the function of what is done with a part that is received
+unfoldable pub with_received : ℕ → List ℕ → List ℕ
+with_received level before = with_line level (codes "async def received(part):") (with_gap before)
+
+-- the line that receives a part and calls it
+unfoldable pub with_receive : ℕ → List ℕ → List ℕ → List ℕ
+with_receive level name before =
+    before ++ codes "\n" ++ margin level ++ codes "await received(await " ++ name_text name ++ codes ".receive_channel.receive())\n"
+
 -- the parameters of a started task: one of several copies gets its part of the input
 abbrev pub parameters : Option ℕ → List ℕ
 parameters None = codes "():\n"
@@ -156,4 +195,4 @@ with_each_cut level count before = with_line (deeper level) (codes "await each_p
 -- the lines that begin a handler
 unfoldable pub with_handling : Known → ℕ → List ℕ → List ℕ → List ℕ
 with_handling known level name before = with_line level (codes "except BaseException as error:") before
-    ++ margin (deeper level) ++ codes "with handling(" ++ handled_class known name ++ codes ", error):\n"
+    ++ margin (deeper level) ++ codes "with handling(" ++ raised_class known name ++ codes ", error):\n"

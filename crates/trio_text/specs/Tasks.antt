@@ -1,6 +1,6 @@
 -- The tasks of a job, and the functions of tasks in a text.
 use Rattle.std.specs.Prelude.{◌≡◌, ℕ, List, [], ◌∷◌, ◌++◌, codes}
-use Rattle.job_tree.specs.Tree.{Step, scope, nursery, event, start, repeat, attempt, Steps, stop, step, Handled, unhandled, except, Cleaned, uncleaned, finally}
+use Rattle.job_tree.specs.Tree.{Step, ask_for, scope, nursery, event, object, start, repeat, attempt, Steps, stop, step, Handled, unhandled, except, Cleaned, uncleaned, finally}
 use Rattle.trio_text.specs.Names.{name_text}
 
 abbrev mutual
@@ -13,6 +13,8 @@ abbrev mutual
   tasks_in (scope name deadline shield fail body) = tasks_of body
   tasks_in (nursery name deadline shield body) = tasks_of body
   tasks_in (event name body) = tasks_of body
+  tasks_in (object name kind body) = tasks_of body
+  tasks_in (ask_for name ask body) = tasks_of body
   tasks_in (start name over body) = name ∷ tasks_of body
   tasks_in (repeat count over body) = tasks_of body
   tasks_in (attempt body handler cleanup) = (tasks_of body ++ handled_tasks handler) ++ cleaned_tasks cleanup

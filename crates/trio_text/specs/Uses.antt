@@ -1,8 +1,8 @@
--- The names that the steps of a job use: of scopes, nurseries, events, tasks and exceptions.
-use Rattle.std.specs.Prelude.{◌≡◌, ℕ, Bool, List, [], ◌∷◌, ◌++◌, codes, fold, if◌then◌else◌}
+-- The names that the steps of a job use: of scopes, nurseries, events, limiters, channels, tasks and exceptions.
+use Rattle.std.specs.Prelude.{◌≡◌, ℕ, Bool, ◌||◌, List, [], ◌∷◌, ◌++◌, codes, fold, if◌then◌else◌}
 use Rattle.std.specs.List.{list_any}
 use Rattle.std.specs.Str.{bytes_eq}
-use Rattle.job_tree.specs.Tree.{Step, need, raise, scope, nursery, event, start, repeat, attempt, Steps, stop, step, Handled, unhandled, except, Cleaned, uncleaned, finally, Tree}
+use Rattle.job_tree.specs.Tree.{Step, need, raise, ask_for, scope, nursery, event, object, start, repeat, attempt, Steps, stop, step, Handled, unhandled, except, Cleaned, uncleaned, finally, Tree}
 use Rattle.job_tree.specs.Names.{names_of, names_in}
 use Rattle.trio_text.specs.declared.words.Words.{Words}
 
@@ -22,9 +22,20 @@ once names = fold noted [] names
 unfoldable pub is_too_slow : List ℕ → Bool
 is_too_slow name = bytes_eq name (codes "TooSlow")
 
--- the exceptions with this name that need a class: Trio has one for `TooSlow`
+-- whether it is the exception that a `receive` raises where the channel is closed, or a `send`
+unfoldable pub is_end_of_channel : List ℕ → Bool
+is_end_of_channel name = bytes_eq name (codes "EndOfChannel")
+
+unfoldable pub is_closed_resource : List ℕ → Bool
+is_closed_resource name = bytes_eq name (codes "ClosedResource")
+
+-- whether it is an exception that Trio raises, for which Trio has a class
+abbrev pub is_in_trio : List ℕ → Bool
+is_in_trio name = (is_too_slow name || is_end_of_channel name) || is_closed_resource name
+
+-- the exceptions with this name that need a class
 abbrev pub class_needed : List ℕ → List (List ℕ)
-class_needed name = if is_too_slow name then [] else name ∷ []
+class_needed name = if is_in_trio name then [] else name ∷ []
 
 -- the exceptions that a step without a block raises
 abbrev pub plain_exceptions : Step → List (List ℕ)
@@ -42,6 +53,8 @@ abbrev mutual
   exceptions_in (scope name deadline shield fail body) = exceptions_of body
   exceptions_in (nursery name deadline shield body) = exceptions_of body
   exceptions_in (event name body) = exceptions_of body
+  exceptions_in (object name kind body) = exceptions_of body
+  exceptions_in (ask_for name ask body) = exceptions_of body
   exceptions_in (start name over body) = exceptions_of body
   exceptions_in (repeat count over body) = exceptions_of body
   exceptions_in (attempt body handler cleanup) = (exceptions_of body ++ handled_exceptions handler) ++ cleaned_exceptions cleanup
@@ -65,6 +78,8 @@ abbrev mutual
   nurseries_in (scope name deadline shield fail body) = nurseries_of body
   nurseries_in (nursery name deadline shield body) = name ∷ nurseries_of body
   nurseries_in (event name body) = nurseries_of body
+  nurseries_in (object name kind body) = nurseries_of body
+  nurseries_in (ask_for name ask body) = nurseries_of body
   nurseries_in (start name over body) = nurseries_of body
   nurseries_in (repeat count over body) = nurseries_of body
   nurseries_in (attempt body handler cleanup) = (nurseries_of body ++ handled_nurseries handler) ++ cleaned_nurseries cleanup
@@ -78,7 +93,7 @@ abbrev mutual
   cleaned_nurseries uncleaned = []
   cleaned_nurseries (finally body) = nurseries_of body
 
--- the names in a program: those of the job's tasks, scopes, nurseries and events, and which of them are nurseries
+-- the names in a program: those of the job's tasks and of what its steps open, and which of them are nurseries
 pub record Known : Type 0 where
   pub given : List (List ℕ)
   pub nurseries : List (List ℕ)

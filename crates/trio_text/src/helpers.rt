@@ -5,8 +5,8 @@ ghost use Rattle.trio_text.specs.Program.{class_lines, classes, helpers, imports
 use crate::names::push_class;
 use crate::pieces::push_if;
 use crate::texts::{
-    FIND, FIRST_IMPORTS, HANDLING, HEAD, IMPORT_FOR_HANDLING, LAST_IMPORTS, LINES_OF, LONGEST,
-    NEED, OVER, PACE, SHOW_LINES,
+    CHANNEL, FIND, FIRST_IMPORTS, HANDLING, HEAD, IMPORT_CONTEXTLIB, LAST_IMPORTS, LINES_OF,
+    LONGEST, NEED, OVER, PACE, SHOW_LINES, TOKEN_OF,
 };
 use crate::uses::Uses;
 use crate::words::Words;
@@ -20,7 +20,7 @@ pub(crate) fn imports_of(alloc: Global, uses: Uses) -> Result<Vec<u8>, AllocErro
 {
     let mut text = Vec::new(alloc);
     text.extend_from_slice(FIRST_IMPORTS)?;
-    push_if(&mut text, uses.handling, IMPORT_FOR_HANDLING)?;
+    push_if(&mut text, uses.handling || uses.acquire, IMPORT_CONTEXTLIB)?;
     text.extend_from_slice(LAST_IMPORTS)?;
     Ok(text)
 }
@@ -53,6 +53,8 @@ pub(crate) fn helpers_of(alloc: Global, uses: Uses) -> Result<Vec<u8>, AllocErro
 {
     let mut text = Vec::new(alloc);
     push_if(&mut text, uses.handling, HANDLING)?;
+    push_if(&mut text, uses.acquire, TOKEN_OF)?;
+    push_if(&mut text, uses.channel, CHANNEL)?;
     push_if(&mut text, uses.pace, PACE)?;
     push_if(&mut text, uses.find, FIND)?;
     push_if(&mut text, uses.head, HEAD)?;

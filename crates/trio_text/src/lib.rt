@@ -13,6 +13,7 @@ mod nested;
 mod pieces;
 mod place;
 mod scopes;
+mod sharing;
 mod statements;
 mod steps;
 mod taken;

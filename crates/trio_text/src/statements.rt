@@ -1,9 +1,9 @@
 ghost use Rattle.std.specs.Prelude.{◌≡◌, OnOk};
 ghost use Rattle.job_tree.specs.Blocks.{step_of};
-ghost use Rattle.trio_text.specs.Statements.{with_call, with_cancel, with_find, with_handling, with_need, with_plain, with_repeat, with_set, with_statement, with_wait};
+ghost use Rattle.trio_text.specs.Statements.{with_call, with_cancel, with_close, with_find, with_handling, with_need, with_plain, with_repeat, with_set, with_statement, with_wait};
 ghost use Rattle.trio_text.specs.Uses.{known_in};
 
-use crate::names::{push_class, push_handled, push_name};
+use crate::names::{push_name, push_raised};
 use crate::pieces::{begin, push_if, push_line, push_text};
 use crate::place::deeper;
 use crate::words::Words;
@@ -41,11 +41,12 @@ fn push_statement(out: &mut Vec<u8>, words: &Words, step: &Step) -> Result<(), A
         Step::Need { text, name } => push_need(out, words, *text, *name),
         Step::Raise(name) => {
             out.extend_from_slice(b"raise ")?;
-            push_class(out, words, *name)
+            push_raised(out, words, *name)
         }
         Step::Cancel(name) => push_cancel(out, words.is_nursery(*name), *name),
         Step::Set(name) => push_set(out, *name),
         Step::Wait(name) => push_wait(out, *name),
+        Step::Close(name) => push_close(out, *name),
         _ => Ok(()),
     }
 }
@@ -76,7 +77,7 @@ fn push_need(out: &mut Vec<u8>, words: &Words, text: Text, name: Name) -> Result
     out.extend_from_slice(b"need(part, ")?;
     push_text(out, text)?;
     out.extend_from_slice(b", ")?;
-    push_class(out, words, name)?;
+    push_raised(out, words, name)?;
     out.extend_from_slice(b")")
 }
 
@@ -106,6 +107,14 @@ fn push_wait(out: &mut Vec<u8>, name: Name) -> Result<(), AllocError>
     out.extend_from_slice(b".wait()")
 }
 
+#[tactic(auto, unfolding(crate::specs::Statements::with_close))]
+fn push_close(out: &mut Vec<u8>, name: Name) -> Result<(), AllocError>
+    ensures { OnOk result (out.new.items ≡ with_close name out.old.items) }
+{
+    push_name(out, name)?;
+    out.extend_from_slice(b".send_channel.close()")
+}
+
 // Appends the line that begins a loop.
 #[tactic(auto, unfolding(crate::specs::Statements::with_repeat))]
 pub(crate) fn push_repeat(out: &mut Vec<u8>, level: usize, count: u64) -> Result<(), AllocError>
@@ -129,6 +138,6 @@ pub(crate) fn push_handling(
     push_line(out, level, b"except BaseException as error:")?;
     begin(out, deeper(level))?;
     out.extend_from_slice(b"with handling(")?;
-    push_handled(out, words, name)?;
+    push_raised(out, words, name)?;
     out.extend_from_slice(b", error):\n")
 }

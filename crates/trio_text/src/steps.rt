@@ -1,6 +1,6 @@
 ghost use Rattle.std.specs.Prelude.{◌≡◌, ◌++◌, OnOk, codes};
 ghost use Rattle.job_tree.specs.Blocks.{cleaned_of, handled_of, step_of, steps_of};
-ghost use Rattle.job_tree.specs.Tree.{repeat};
+ghost use Rattle.job_tree.specs.Tree.{ask_for, repeat, start};
 ghost use Rattle.trio_text.specs.Blocks.{Apart, Inside, OrPass, Tried, Writes, WritesHandler, WritesStep, WritesTry};
 ghost use Rattle.trio_text.specs.Uses.{known_in};
 
@@ -8,10 +8,11 @@ use crate::nested::{push_nested_block, push_nested_call, push_nested_calls, push
 use crate::pieces::push_line;
 use crate::place::Place;
 use crate::scopes::{push_event, push_nursery, push_scope};
+use crate::sharing::{push_acquire, push_object, push_receive, push_received, push_send};
 use crate::statements::{push_handling, push_plain, push_repeat};
 use crate::tasks::{push_each_cut, push_each_part, push_starts, push_task};
 use crate::words::Words;
-use job_tree::{Body, Handler, Step};
+use job_tree::{Ask, Body, Handler, Name, Step};
 use std::alloc::AllocError;
 
 // Appends the statements for the steps of a block at its place.
@@ -100,11 +101,13 @@ fn push_step(out: &mut Vec<u8>, words: &Words, place: &Place, step: &Step) -> Re
             push_each(out, words, place, body.as_slice())?;
             Ok(())
         }
-        Step::Start { name, over, body } => {
-            push_task(out, place.level, *name, *over)?;
-            push_block(out, words, &place.in_function(), body)?;
-            push_starts(out, place.level, place.nursery, *name, *over)
+        Step::Object { name, kind, body } => {
+            push_object(out, place.level, *name, *kind)?;
+            push_each(out, words, place, body.as_slice())?;
+            Ok(())
         }
+        Step::Ask { name, ask, body } => push_ask(out, words, place, *name, *ask, body),
+        Step::Start { name, over, body } => push_child(out, words, place, *name, *over, body),
         Step::Repeat { count, over, body } => push_passes(out, words, place, *count, *over, body),
         Step::Try {
             body,
@@ -112,6 +115,59 @@ fn push_step(out: &mut Vec<u8>, words: &Words, place: &Place, step: &Step) -> Re
             cleanup,
         } => push_try(out, words, place, body, handler, cleanup),
         _ => push_plain(out, words, place.level, step),
+    }
+}
+
+// Appends a `start`: the function of the task, and the lines that start it.
+#[cycle(steps)]
+fn push_child(
+    out: &mut Vec<u8>,
+    words: &Words,
+    place: &Place,
+    name: Name,
+    over: Option<u64>,
+    body: &Body,
+) -> Result<(), AllocError>
+    ensures { OnOk result (WritesStep (known_in words.now) place.now.nursery (start name over body.now) place.now.level
+        out.old.items out.new.items) }
+{
+    push_task(out, place.level, name, over)?;
+    push_block(out, words, &place.in_function(), body)?;
+    push_starts(out, place.level, place.nursery, name, over)?;
+    Ok(())
+}
+
+// Appends what asks a limiter or channel for something, and the block that has it. What is done with a part that is received
+// is a function, whose part it is.
+#[cycle(steps)]
+fn push_ask(
+    out: &mut Vec<u8>,
+    words: &Words,
+    place: &Place,
+    name: Name,
+    ask: Ask,
+    body: &Body,
+) -> Result<(), AllocError>
+    ensures { OnOk result (WritesStep (known_in words.now) place.now.nursery (ask_for name ask body.now) place.now.level
+        out.old.items out.new.items) }
+{
+    match ask {
+        Ask::Acquire => {
+            push_acquire(out, place.level, name)?;
+            push_block(out, words, &place.inside(1), body)?;
+            Ok(())
+        }
+        Ask::Send => {
+            push_send(out, place.level, name)?;
+            push_each(out, words, place, body.as_slice())?;
+            Ok(())
+        }
+        Ask::Receive => {
+            push_received(out, place.level)?;
+            push_block(out, words, &place.in_function(), body)?;
+            push_receive(out, place.level, name)?;
+            Ok(())
+        }
     }
 }
 

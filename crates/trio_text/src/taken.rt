@@ -1,6 +1,6 @@
 // The words that the program uses for something else: words of Python, names that it uses from Python and Trio, and its helpers.
-// Keywords of the job language are not listed: no job can have them as names, except `event`, `set` and `wait`, which the program
-// uses for nothing else.
+// Keywords of the job language are not listed: no job can have them as names, except those of format 3, as `event` and `send`,
+// which the program uses for nothing else.
 pub(crate) const TAKEN: &[&'static [u8]] = &[
     b"False",
     b"None",
@@ -44,6 +44,7 @@ pub(crate) const TAKEN: &[&'static [u8]] = &[
     b"len",
     b"list",
     b"max",
+    b"object",
     b"print",
     b"range",
     b"sorted",
@@ -60,6 +61,7 @@ pub(crate) const TAKEN: &[&'static [u8]] = &[
     b"sys",
     b"threading",
     b"trio",
+    b"Channel",
     b"LIMIT",
     b"Note",
     b"current_note",
@@ -74,9 +76,11 @@ pub(crate) const TAKEN: &[&'static [u8]] = &[
     b"run_watched",
     b"show_lines",
     b"show_version",
+    b"token_of",
     b"each_part",
     b"nested_block",
     b"nested_cleanup",
+    b"received",
     b"cut",
     b"error",
     b"part",

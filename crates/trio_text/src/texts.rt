@@ -16,7 +16,7 @@ pub(crate) const FIRST_IMPORTS: &[u8] = b"import argparse
 import collections
 ";
 
-pub(crate) const IMPORT_FOR_HANDLING: &[u8] = b"import contextlib
+pub(crate) const IMPORT_CONTEXTLIB: &[u8] = b"import contextlib
 ";
 
 pub(crate) const LAST_IMPORTS: &[u8] = b"import contextvars
@@ -52,6 +52,28 @@ def handling(kind, error):
         raise BaseExceptionGroup(\"\", [raised, rest])
     if rest is not None:
         raise rest
+";
+
+pub(crate) const TOKEN_OF: &[u8] = b"
+
+@contextlib.asynccontextmanager
+async def token_of(limiter):
+    \"\"\"A token of the limiter. Its holder is a new object, since one task may hold several.\"\"\"
+    holder = object()
+    await limiter.acquire_on_behalf_of(holder)
+    try:
+        yield
+    finally:
+        limiter.release_on_behalf_of(holder)
+";
+
+pub(crate) const CHANNEL: &[u8] = b"
+
+class Channel:
+    \"\"\"Both ends of a memory channel.\"\"\"
+
+    def __init__(self, places):
+        self.send_channel, self.receive_channel = trio.open_memory_channel(places)
 ";
 
 pub(crate) const LINES_OF: &[u8] = b"
@@ -172,6 +194,8 @@ def exception_text(error):
         return \"Cancelled\"
     if isinstance(error, trio.TooSlowError):
         return \"TooSlow\"
+    if isinstance(error, trio.ClosedResourceError):
+        return \"ClosedResource\"
     if not isinstance(error, BaseExceptionGroup):
         name = type(error).__name__
         return name[1:] if name.startswith(\"_\") else name

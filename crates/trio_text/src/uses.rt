@@ -2,22 +2,26 @@ ghost use Rattle.std.specs.Prelude.{◌≡◌, is_some, true};
 ghost use Rattle.job_tree.specs.Blocks.{cleaned_of, handled_of, step_of, steps_of};
 ghost use Rattle.trio_text.specs.Needs.{
   any_use,
+  ask_use,
   cleaned_uses,
   deadline_use,
   handled_uses,
   no_uses,
+  object_use,
   plain_uses,
   shows,
   uses_in,
   uses_of,
 };
 
-use job_tree::{Body, Deadline, Handler, Step};
+use job_tree::{Ask, Body, Deadline, Handler, ObjectKind, Step};
 
 // The helpers that the program uses.
 #[derive(Clone, Copy)]
 pub(crate) struct Uses {
     pub handling: bool,
+    pub acquire: bool,
+    pub channel: bool,
     pub pace: bool,
     pub find: bool,
     pub head: bool,
@@ -42,6 +46,8 @@ fn no_uses() -> Uses
 {
     Uses {
         handling: false,
+        acquire: false,
+        channel: false,
         pace: false,
         find: false,
         head: false,
@@ -59,6 +65,8 @@ fn any_use(a: Uses, b: Uses) -> Uses
 {
     Uses {
         handling: a.handling | b.handling,
+        acquire: a.acquire | b.acquire,
+        channel: a.channel | b.channel,
         pace: a.pace | b.pace,
         find: a.find | b.find,
         head: a.head | b.head,
@@ -96,6 +104,8 @@ fn uses_in(step: &Step) -> Uses
             any_use(deadline_use(*deadline), uses_of(body.as_slice()))
         }
         Step::Event { body, .. } => uses_of(body.as_slice()),
+        Step::Object { kind, body, .. } => any_use(object_use(*kind), uses_of(body.as_slice())),
+        Step::Ask { ask, body, .. } => any_use(ask_use(*ask), uses_of(body.as_slice())),
         Step::Start { over, body, .. } => {
             any_use(over_use(over.is_some()), uses_of(body.as_slice()))
         }
@@ -157,6 +167,31 @@ fn deadline_use(deadline: Deadline) -> Uses
         Deadline::Never => {}
         Deadline::After(_) => {}
         Deadline::At(_) => uses.start = true,
+    }
+    uses
+}
+
+// Returns what a limiter or channel needs: a channel needs a name for both of its ends.
+fn object_use(kind: ObjectKind) -> Uses
+    ensures { result ≡ object_use kind }
+{
+    let mut uses = no_uses();
+    match kind {
+        ObjectKind::Limiter(_) => {}
+        ObjectKind::Channel(_) => uses.channel = true,
+    }
+    uses
+}
+
+// Returns what a step needs that asks a limiter or channel for something: a token needs a holder.
+fn ask_use(ask: Ask) -> Uses
+    ensures { result ≡ ask_use ask }
+{
+    let mut uses = no_uses();
+    match ask {
+        Ask::Acquire => uses.acquire = true,
+        Ask::Send => {}
+        Ask::Receive => {}
     }
     uses
 }

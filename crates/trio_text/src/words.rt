@@ -1,6 +1,6 @@
 ghost use Rattle.std.specs.Prelude.{◌≡◌, ◌∷◌, [], IfOk, OnOk, fold};
 ghost use Rattle.job_tree.specs.Blocks.{cleaned_of, handled_of, step_of, steps_of};
-ghost use Rattle.job_tree.specs.Names.{cleaned_names, handled_names};
+ghost use Rattle.job_tree.specs.Names.{cleaned_names, handled_names, names_of};
 ghost use Rattle.trio_text.specs.Uses.{
   Notes,
   NotesStep,
@@ -10,15 +10,17 @@ ghost use Rattle.trio_text.specs.Uses.{
   classes_of,
   cleaned_exceptions,
   cleaned_nurseries,
+  exceptions_of,
   handled_exceptions,
   handled_nurseries,
   known_in,
   known_of,
   noted,
+  nurseries_of,
   plain_exceptions,
 };
 
-use crate::names::is_too_slow;
+use crate::names::is_in_trio;
 use indexmap::IndexSet;
 use job_reader::Job;
 use job_tree::{Body, Handler, Name, Step};
@@ -48,7 +50,7 @@ impl Words {
         Ok(words)
     }
 
-    // Returns whether a task, scope, nursery or event has this name.
+    // Returns whether a task has this name, or what a step opens.
     pub(crate) fn gives(&self, name: Name) -> bool
         ensures { result ≡ among self.now.given.keys name }
     {
@@ -62,15 +64,15 @@ impl Words {
         self.nurseries.contains(&name)
     }
 
-    // Returns the names of the exceptions that are raised or handled, each once, in the order of the steps, without
-    // `TooSlow`.
+    // Returns the names of the exceptions that are raised or handled, each once, in the order of the steps, without those that
+    // Trio raises.
     pub(crate) fn raised_names(&self) -> &[Name]
         ensures { result.now ≡ self.now.raised.keys }
     {
         self.raised.as_slice()
     }
 
-    // Records the name of a task, scope, nursery or event.
+    // Records the name of a task, or of what a step opens.
     fn note_given(&mut self, name: Name) -> Result<(), AllocError>
         ensures { OnOk result (Notes (name ∷ []) [] [] self.old self.new) }
     {
@@ -82,7 +84,7 @@ impl Words {
     fn note_raised(&mut self, name: Name) -> Result<(), AllocError>
         ensures { OnOk result (Notes [] [] (class_needed name) self.old self.new) }
     {
-        if !is_too_slow(name) {
+        if !is_in_trio(name) {
             self.raised.insert(name)?;
         }
         Ok(())
@@ -128,26 +130,19 @@ fn note_step(words: &mut Words, step: &Step) -> Result<(), AllocError>
     ensures { OnOk result (NotesStep (step_of step.now) words.old words.new) }
 {
     match step {
-        Step::Scope { name, body, .. } => {
-            words.note_given(*name)?;
-            note_steps(words, body.as_slice())?;
-            Ok(())
-        }
+        Step::Scope { name, body, .. } => note_named(words, *name, body),
         Step::Nursery { name, body, .. } => {
             words.note_nursery(*name)?;
             note_steps(words, body.as_slice())?;
             Ok(())
         }
-        Step::Event { name, body } => {
-            words.note_given(*name)?;
+        Step::Event { name, body } => note_named(words, *name, body),
+        Step::Object { name, body, .. } => note_named(words, *name, body),
+        Step::Ask { body, .. } => {
             note_steps(words, body.as_slice())?;
             Ok(())
         }
-        Step::Start { name, body, .. } => {
-            words.note_given(*name)?;
-            note_steps(words, body.as_slice())?;
-            Ok(())
-        }
+        Step::Start { name, body, .. } => note_named(words, *name, body),
         Step::Repeat { body, .. } => {
             note_steps(words, body.as_slice())?;
             Ok(())
@@ -167,6 +162,16 @@ fn note_step(words: &mut Words, step: &Step) -> Result<(), AllocError>
             Ok(())
         }
     }
+}
+
+// Records the name of what a step opens, or of the task that it starts, and the names that its block uses.
+#[cycle(noting)]
+fn note_named(words: &mut Words, name: Name, body: &Body) -> Result<(), AllocError>
+    ensures { OnOk result (Notes (name ∷ names_of body.now) (nurseries_of body.now) (exceptions_of body.now) words.old words.new) }
+{
+    words.note_given(name)?;
+    note_steps(words, body.as_slice())?;
+    Ok(())
 }
 
 #[cycle(noting)]

@@ -13,6 +13,12 @@ decreases-has l = weight_of (steps_of l.steps.now)
 abbrev pub decreases-has_inside : goal.decreases-has_inside
 decreases-has_inside l = weight_in (step_of l.step.now)
 
+abbrev pub decreases-object_has : goal.decreases-object_has
+decreases-object_has l = weight_of l.body.now + 2
+
+abbrev pub decreases-is_inverted : goal.decreases-is_inverted
+decreases-is_inverted l = weight_of (steps_of l.steps.now) + 1
+
 abbrev pub decreases-handled_has : goal.decreases-handled_has
 decreases-handled_has l = handled_weight (handled_of l.handler.now) + 1
 

@@ -16,6 +16,12 @@ decreases-walk_steps l = weight_of (steps_of l.steps.now)
 abbrev pub decreases-walk_inside : goal.decreases-walk_inside
 decreases-walk_inside l = weight_in (step_of l.step.now)
 
+abbrev pub decreases-walk_body : goal.decreases-walk_body
+decreases-walk_body l = weight_of l.body.now + 1
+
+abbrev pub decreases-walk_opened : goal.decreases-walk_opened
+decreases-walk_opened l = weight_of l.body.now + 1
+
 abbrev pub decreases-walk_handler : goal.decreases-walk_handler
 decreases-walk_handler l = handled_weight (handled_of l.handler.now) + 1
 

@@ -26,6 +26,12 @@ decreases-push_block l = weight_of l.body.now + 2
 abbrev pub decreases-push_step : goal.decreases-push_step
 decreases-push_step l = weight_in (step_of l.step.now)
 
+abbrev pub decreases-push_child : goal.decreases-push_child
+decreases-push_child l = 3 + weight_of l.body.now
+
+abbrev pub decreases-push_ask : goal.decreases-push_ask
+decreases-push_ask l = 3 + weight_of l.body.now
+
 abbrev pub decreases-push_passes : goal.decreases-push_passes
 decreases-push_passes l = 3 + weight_of l.body.now
 

@@ -18,6 +18,9 @@ decreases-note_steps l = weight_of (steps_of l.steps.now)
 abbrev pub decreases-note_step : goal.decreases-note_step
 decreases-note_step l = weight_in (step_of l.step.now)
 
+abbrev pub decreases-note_named : goal.decreases-note_named
+decreases-note_named l = weight_of l.body.now + 1
+
 abbrev pub decreases-note_handler : goal.decreases-note_handler
 decreases-note_handler l = handled_weight (handled_of l.handler.now) + 1
 
