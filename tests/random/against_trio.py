@@ -36,6 +36,7 @@ import trio._core._run as scheduler
 import trio.testing
 
 from jobs import random_job
+from parts import cuts_of, lines_of
 
 LIMIT = 1_000_000
 FOREVER = 2**40
@@ -92,12 +93,7 @@ class Task:
         return ".".join([name, *map(str, self.indices)])
 
     def lines(self):
-        at, end = self.part
-        while at < end:
-            stop = INPUT.find(b"\n", at, end)
-            stop = end if stop < 0 else stop
-            yield at, INPUT[at:stop]
-            at = stop + 1
+        return lines_of(INPUT, self.part)
 
     def show(self, lines):
         for at, line in lines:
@@ -191,7 +187,7 @@ class Task:
             self.indices = around
 
     async def repeat_over(self, count, body, scopes):
-        part, cuts = self.part, iter(cuts_of(self.part, count))
+        part, cuts = self.part, iter(cuts_of(INPUT, self.part, count))
 
         async def on_its_cut(body, scopes):
             self.part = next(cuts)
@@ -238,7 +234,7 @@ class Task:
         if over is None:
             children = [self.child(self.label_of(name), self.indices, self.part)]
         else:
-            cuts = cuts_of(self.part, over)
+            cuts = cuts_of(INPUT, self.part, over)
             children = [self.child(f"{self.label_of(name)}.{i}", [*self.indices, i], cuts[i]) for i in range(over)]
         self.children += children
         return children
@@ -334,20 +330,6 @@ def unheard():
 def lower(scope):
     """A cancellation is seen from the next tick on."""
     scope.deadline = min(scope.deadline, now() + 1)
-
-
-def cuts_of(part, k):
-    start, end = part
-
-    def point(i):
-        if i in (0, k):
-            return (start, end)[i == k]
-        place = start + i * (end - start) // k
-        while place < end and place > 0 and INPUT[place - 1] != 10:
-            place += 1
-        return place
-
-    return [(point(i), point(i + 1)) for i in range(k)]
 
 
 def by_trio(steps, root_of=Task):
