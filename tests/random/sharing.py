@@ -312,6 +312,10 @@ class Task:
         """Whether a scope is cancelled, as this task sees it."""
         return scope.since <= self.run.now or scope in self.own
 
+    def is_let_go(self):
+        """It goes on after a wait. It may be cancelled in the same round."""
+        self.run.ties += sight(self.scope) == self.run.now
+
     def sees_cancellation(self, scope):
         """Whether it sees a cancellation inside a scope, its own of this round too."""
         return any(self.is_cancelled(level) for level in levels(scope))
@@ -361,6 +365,7 @@ class Task:
                 self.act(names[name].close)
             case ("wait", name):
                 yield from self.wait(wait(now, names[name]))
+                self.is_let_go()
                 self.note(f"wait {names[name].label} {self.tick()}")
             case ("send", name):
                 yield from self.ask("send", names[name], names[name].send)
@@ -443,7 +448,7 @@ class Task:
         except Raised:
             of.leave(ask)
             raise
-        self.run.ties += sight(self.scope) == self.run.now
+        self.is_let_go()
         if isinstance(what, str):
             self.fail(what)
         self.note(f"{word} {of.label} {self.tick()}")
@@ -501,7 +506,7 @@ class Run:
     def __init__(self, name, steps, data, limit=LIMIT):
         self.data, self.limit, self.now = data, limit, start_of(0)
         self.tasks, self.acts = [], []
-        self.ties = 0  # how often a task went on, since something was granted to it or set, in the round in which it was cancelled
+        self.ties = 0  # how often a task was let go in the round in which it was cancelled
         self.root = Task(self, name, [], (0, len(data)), None, ())
         self.root.begin(steps, {}, self.now)
         while self.root.end is None and self.now[0] <= limit:
