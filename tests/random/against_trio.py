@@ -162,8 +162,8 @@ class Task:
             case ("acquire", name, body):
                 await self.acquire(*scopes[name], body, scopes)
             case ("send", name):
-                label, (sender, _) = scopes[name]
-                await self.asked("send", label, sender.send, self.part)
+                label, channel = scopes[name]
+                await self.used("send", label, channel, channel[0].send, self.part)
             case ("receive", name, body):
                 await self.receive(*scopes[name], body, scopes)
             case ("close", name):
@@ -182,15 +182,23 @@ class Task:
     async def asked(self, word, label, ask, *of):
         """Asks something of a limiter or channel. Gives what is granted."""
         with trio.move_on_at(max(FOREVER, now())):
-            try:
-                granted = await ask(*of)
-            except trio.ClosedResourceError:
-                raise Named("ClosedResource", self.label, now()) from None
-            except trio.EndOfChannel:
-                raise Named("EndOfChannel", self.label, now()) from None
+            granted = await ask(*of)
             self.entries.append(f"{word} {label} {now()}")
             return granted
         raise Named("Deadlock", self.label, now())
+
+    async def used(self, word, label, channel, ask, *of):
+        """The same for a channel."""
+        was_closed = channel[0].statistics().open_send_channels == 0
+        try:
+            return await self.asked(word, label, ask, *of)
+        except (trio.ClosedResourceError, trio.EndOfChannel) as exc:
+            if was_closed:
+                await self.found_closed()
+            raise Named(type(exc).__name__.removesuffix("Error"), self.label, now()) from None
+
+    async def found_closed(self):
+        """Trio raises at once."""
 
     async def acquire(self, label, limiter, body, scopes):
         holder = object()
@@ -202,7 +210,7 @@ class Task:
 
     async def receive(self, label, channel, body, scopes):
         part = self.part
-        self.part = await self.asked("receive", label, channel[1].receive)
+        self.part = await self.used("receive", label, channel, channel[1].receive)
         try:
             await self.block(body, scopes)
         finally:
@@ -212,7 +220,7 @@ class Task:
         lower(scope)
 
     def child(self, label, indices, part):
-        return Task(label, indices, part)
+        return type(self)(label, indices, part)
 
     async def scope(self, name, deadline, shield, fail, body, scopes):
         label = self.label_of(name)
@@ -333,9 +341,6 @@ class PlainTask(Task):
     def cancel(self, scope):
         scope.cancel()
 
-    def child(self, label, indices, part):
-        return PlainTask(label, indices, part)
-
     async def spawned(self, steps, scopes):
         """What a nursery starts: its exception is the nursery's."""
         await self.run(steps, scopes, lambda: None)
@@ -366,6 +371,13 @@ class PlainTask(Task):
                     await self.repeat(count, body, scopes, lambda body, scopes: self.items(body, scopes, spawner))
                 case _:
                     await self.step(item, scopes)
+
+
+class PatientTask(PlainTask):
+    """A task of a plain Trio program, but for a channel that is closed already, which raises in the next round."""
+
+    async def found_closed(self):
+        await trio.lowlevel.cancel_shielded_checkpoint()
 
 
 @contextlib.contextmanager
@@ -435,7 +447,7 @@ def comparable(report):
     return "\n".join(lines) + "\n"
 
 
-def in_plain_trio(steps, seeds=8):
+def in_plain_trio(steps, seeds=8, root_of=PlainTask):
     """The outcomes of a job in plain Trio, and how often each was seen."""
     import trio_export  # the end of a nursery as Trio 0.23 has it
 
@@ -444,7 +456,7 @@ def in_plain_trio(steps, seeds=8):
     found = collections.Counter()
     for seed in range(seeds):
         scheduler._r.seed(seed)
-        found[comparable(by_trio(steps, PlainTask))] += 1
+        found[comparable(by_trio(steps, root_of))] += 1
     return found
 
 
@@ -464,6 +476,8 @@ def excuse_for(program, steps, text, ours):
         return "it has a race" if uses and has_race(program, text) else None
     if len(in_plain_trio(steps, MANY)) > 1:
         return f"it has several outcomes under {MANY} seeds"
+    if ours in in_plain_trio(steps, MANY, PatientTask):
+        return "a closed channel raises a round earlier in Trio"
     return "a task goes on in the round in which it is cancelled" if run_of_text(text, INPUT).ties else None
 
 

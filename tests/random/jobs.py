@@ -51,7 +51,7 @@ class Jobs:
         return [self.step(depth, around) for _ in range(self.random.randint(1, most))]
 
     def step(self, depth, around):
-        if self.objects and self.random.random() < 0.4:
+        if self.objects and self.random.random() < 0.5:
             return self.use(depth, around)
         if self.has_objects and depth > 0 and self.random.random() < 0.15:
             return self.object(depth, around)
@@ -109,6 +109,8 @@ class Jobs:
         r = self.random
         if self.events and r.random() < 0.5:
             return (r.choice(["set", "wait", "wait"]), r.choice(self.events))
+        if self.objects and r.random() < 0.5:
+            return ("sleep", r.randint(0, 9))
         pick = r.random()
         if pick < 0.50:
             return ("sleep", r.randint(0, 5))

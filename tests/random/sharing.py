@@ -5,7 +5,8 @@
 
 Prints the report of a feed whose job is known to be one. It is an evaluator of its own: nothing in it comes from the program or from its
 definitions. In each round all tasks that are due go on, in any order, since what one does to others is seen in the next round. Then what
-they did to limiters and channels is carried out, one act after the other, in the order of records.
+they did to limiters and channels is carried out, one act after the other, in the order of records. A wait that nothing ends is endless here:
+no limit reaches the tick in which it would end.
 """
 
 import argparse
@@ -266,7 +267,7 @@ class Task:
         self.label = self.label_of(name)
         self.nursery, self.scope = nursery, nursery  # the scope of the nursery that it is in, and the innermost scope around it
         self.members = None  # the tasks of the innermost nursery that it has open
-        self.place = place  # in the order of records: for its ancestors and itself, the how manieth child it is
+        self.place = place  # in the order of records: the numbers of its ancestors and its own among the children of each one's starter
         self.own = set()  # the scopes that it has cancelled in this round
         self.start = self.end = self.exc = None
         self.entries, self.children = [], []
