@@ -23,7 +23,7 @@ class Jobs:
         self.format = format_ or self.random.choice([1, 2])
         self.has_objects = objects
         self.words = self.random.sample(WORDS + WORDS_OF_OBJECTS, 3) if objects else WORDS
-        self.errors = NAMES + ["TooSlow"] + ERRORS * objects
+        self.errors = NAMES + ["TooSlow"] + (ERRORS if objects else [])
         self.names = 0
         self.events = []  # those around the step that is made next
         self.objects = []  # the limiters and channels around it, each with its kind
