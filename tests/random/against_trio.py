@@ -4,6 +4,7 @@
     python3 tests/random/against_trio.py PROGRAM [JOBS [SEED]]
     python3 tests/random/against_trio.py PROGRAM [JOBS [SEED]] --format 3
     python3 tests/random/against_trio.py PROGRAM --format 3 --job JOB
+    python3 tests/random/against_trio.py PROGRAM [JOBS [SEED]] --format 3 --objects
 
 PROGRAM is the built executable (crates/nursery/out/nursery after `rt run`). It wants Python 3.11 and Trio 0.22 or later. Each job is
 also run as a Trio program under MockClock: its scopes, shields, deadlines and levels of cancellation are Trio's, its splits of
@@ -18,7 +19,10 @@ eight seeds of Trio's scheduler, and where these have one outcome, it has to be 
 compared sorted, since Trio has them in the order in which tasks ended; and the end of a nursery is no cancel point, as from Trio 0.23
 on. These jobs have no `pace`, which has a rule of its own for no tick. A task that cancels a scope and then sets an event, in one round,
 has another outcome in Trio (docs/RULES.md, "Differences from Trio"): a job with an event may differ if `nursery races` has a line for it.
-The last form shows the outcomes of one job, by its number.
+The third form shows the outcomes of one job, by its number.
+
+With `--objects` the jobs have limiters and channels too, which are Trio's. PROGRAM may be tests/random/sharing.py, which is then run in this
+process. A job may differ from the model if it has several outcomes under more seeds, or if a task goes on in the round in which it is cancelled.
 """
 
 import argparse
@@ -26,6 +30,7 @@ import collections
 import contextlib
 import math
 import os
+import re
 import subprocess
 import sys
 import tempfile
@@ -36,9 +41,13 @@ import trio._core._run as scheduler
 import trio.testing
 
 from jobs import random_job
+from parts import cuts_of, lines_of
+from sharing import run_of_text
 
 LIMIT = 1_000_000
 FOREVER = 2**40
+MANY = 200
+MODEL = "sharing.py"
 INPUT = b"error one\nok\nwarning: error\n\nlast line"
 
 
@@ -92,12 +101,7 @@ class Task:
         return ".".join([name, *map(str, self.indices)])
 
     def lines(self):
-        at, end = self.part
-        while at < end:
-            stop = INPUT.find(b"\n", at, end)
-            stop = end if stop < 0 else stop
-            yield at, INPUT[at:stop]
-            at = stop + 1
+        return lines_of(INPUT, self.part)
 
     def show(self, lines):
         for at, line in lines:
@@ -151,6 +155,19 @@ class Task:
                 with trio.move_on_at(max(FOREVER, now())):
                     await event.wait()
                 self.entries.append(f"wait {label} {now()}")
+            case ("limiter", name, tokens, body):
+                await self.block(body, {**scopes, name: (self.label_of(name), trio.CapacityLimiter(tokens))})
+            case ("channel", name, places, body):
+                await self.block(body, {**scopes, name: (self.label_of(name), trio.open_memory_channel(places))})
+            case ("acquire", name, body):
+                await self.acquire(*scopes[name], body, scopes)
+            case ("send", name):
+                label, channel = scopes[name]
+                await self.used("send", label, channel, channel[0].send, self.part)
+            case ("receive", name, body):
+                await self.receive(*scopes[name], body, scopes)
+            case ("close", name):
+                scopes[name][1][0].close()
             case ("scope", name, deadline, shield, fail, body):
                 await self.scope(name, deadline, shield, fail, body, scopes)
             case ("nursery", name, after, shield, items):
@@ -162,11 +179,48 @@ class Task:
             case ("try", body, handler, cleanup):
                 await self.handled(body, handler, cleanup, scopes)
 
+    async def asked(self, word, label, ask, *of):
+        """Asks something of a limiter or channel. Gives what is granted."""
+        with trio.move_on_at(max(FOREVER, now())):
+            granted = await ask(*of)
+            self.entries.append(f"{word} {label} {now()}")
+            return granted
+        raise Named("Deadlock", self.label, now())
+
+    async def used(self, word, label, channel, ask, *of):
+        """The same for a channel."""
+        was_closed = channel[0].statistics().open_send_channels == 0
+        try:
+            return await self.asked(word, label, ask, *of)
+        except (trio.ClosedResourceError, trio.EndOfChannel) as exc:
+            if was_closed:
+                await self.found_closed()
+            raise Named(type(exc).__name__.removesuffix("Error"), self.label, now()) from None
+
+    async def found_closed(self):
+        """Trio raises at once."""
+
+    async def acquire(self, label, limiter, body, scopes):
+        holder = object()
+        await self.asked("acquire", label, limiter.acquire_on_behalf_of, holder)
+        try:
+            await self.block(body, scopes)
+        finally:
+            limiter.release_on_behalf_of(holder)
+
+    async def receive(self, label, channel, body, scopes):
+        part = self.part
+        self.part = await self.used("receive", label, channel, channel[1].receive)
+        try:
+            await self.block(body, scopes)
+        finally:
+            self.part = part
+
     def cancel(self, scope):
         lower(scope)
 
     def child(self, label, indices, part):
-        return Task(label, indices, part)
+        return type(self)(label, indices, part)
 
     async def scope(self, name, deadline, shield, fail, body, scopes):
         label = self.label_of(name)
@@ -191,7 +245,7 @@ class Task:
             self.indices = around
 
     async def repeat_over(self, count, body, scopes):
-        part, cuts = self.part, iter(cuts_of(self.part, count))
+        part, cuts = self.part, iter(cuts_of(INPUT, self.part, count))
 
         async def on_its_cut(body, scopes):
             self.part = next(cuts)
@@ -238,7 +292,7 @@ class Task:
         if over is None:
             children = [self.child(self.label_of(name), self.indices, self.part)]
         else:
-            cuts = cuts_of(self.part, over)
+            cuts = cuts_of(INPUT, self.part, over)
             children = [self.child(f"{self.label_of(name)}.{i}", [*self.indices, i], cuts[i]) for i in range(over)]
         self.children += children
         return children
@@ -287,9 +341,6 @@ class PlainTask(Task):
     def cancel(self, scope):
         scope.cancel()
 
-    def child(self, label, indices, part):
-        return PlainTask(label, indices, part)
-
     async def spawned(self, steps, scopes):
         """What a nursery starts: its exception is the nursery's."""
         await self.run(steps, scopes, lambda: None)
@@ -322,6 +373,13 @@ class PlainTask(Task):
                     await self.step(item, scopes)
 
 
+class PatientTask(PlainTask):
+    """A task of a plain Trio program, but for a channel that is closed already, which raises in the next round."""
+
+    async def found_closed(self):
+        await trio.lowlevel.cancel_shielded_checkpoint()
+
+
 @contextlib.contextmanager
 def unheard():
     """Waiting at the end of a nursery is no cancel point: up to Trio 0.22 it was one."""
@@ -334,20 +392,6 @@ def unheard():
 def lower(scope):
     """A cancellation is seen from the next tick on."""
     scope.deadline = min(scope.deadline, now() + 1)
-
-
-def cuts_of(part, k):
-    start, end = part
-
-    def point(i):
-        if i in (0, k):
-            return (start, end)[i == k]
-        place = start + i * (end - start) // k
-        while place < end and place > 0 and INPUT[place - 1] != 10:
-            place += 1
-        return place
-
-    return [(point(i), point(i + 1)) for i in range(k)]
 
 
 def by_trio(steps, root_of=Task):
@@ -364,6 +408,8 @@ def by_trio(steps, root_of=Task):
 
 
 def by_nursery(program, text):
+    if program.endswith(MODEL):
+        return run_of_text(text, INPUT).report()
     feed = text.encode() + b"\n%input\n" + INPUT
     run = subprocess.run([program], input=feed, capture_output=True)
     return run.stdout.decode()
@@ -401,7 +447,7 @@ def comparable(report):
     return "\n".join(lines) + "\n"
 
 
-def in_plain_trio(steps, seeds=8):
+def in_plain_trio(steps, seeds=8, root_of=PlainTask):
     """The outcomes of a job in plain Trio, and how often each was seen."""
     import trio_export  # the end of a nursery as Trio 0.23 has it
 
@@ -410,15 +456,29 @@ def in_plain_trio(steps, seeds=8):
     found = collections.Counter()
     for seed in range(seeds):
         scheduler._r.seed(seed)
-        found[comparable(by_trio(steps, PlainTask))] += 1
+        found[comparable(by_trio(steps, root_of))] += 1
     return found
 
 
 def compared_by_rounds(given):
-    """Of a job of format 3: its number, its text, the report, and its outcomes in plain Trio."""
-    program, number = given
-    steps, text = random_job(number, 3)
-    return number, text, comparable(by_nursery(program, text)), in_plain_trio(steps)
+    """Of a job of format 3: its number, its text, the report, its outcomes in plain Trio, and why the report may be another one."""
+    program, objects, number = given
+    steps, text = random_job(number, 3, objects)
+    ours, found = comparable(by_nursery(program, text)), in_plain_trio(steps)
+    excuse = excuse_for(program, steps, text, ours) if len(found) == 1 and ours not in found else None
+    return number, text, ours, found, excuse
+
+
+def excuse_for(program, steps, text, ours):
+    """Why a report may differ from the one outcome that eight seeds show, or None."""
+    if not program.endswith(MODEL):
+        uses = re.search(" (set|acquire|send|receive|close) ", text)
+        return "it has a race" if uses and has_race(program, text) else None
+    if len(in_plain_trio(steps, MANY)) > 1:
+        return f"it has several outcomes under {MANY} seeds"
+    if ours in in_plain_trio(steps, MANY, PatientTask):
+        return "a closed channel raises a round earlier in Trio"
+    return "a task goes on in the round in which it is cancelled" if run_of_text(text, INPUT).ties else None
 
 
 def has_race(program, text):
@@ -432,31 +492,32 @@ def has_race(program, text):
         return subprocess.run([program, "races", job, data, "--deny"], capture_output=True).returncode == 1
 
 
-def by_rounds(program, jobs, seed):
-    """How many jobs of format 3 have another report than the one outcome in plain Trio, and no race by an event."""
-    given = [(program, seed * 1_000_000 + n) for n in range(jobs)]
-    with ProcessPoolExecutor(os.cpu_count()) as pool:
+def by_rounds(program, jobs, seed, objects, processes):
+    """How many jobs of format 3 have another report than the one outcome in plain Trio, without an excuse."""
+    given = [(program, objects, seed * 1_000_000 + n) for n in range(jobs)]
+    with ProcessPoolExecutor(processes) as pool:
         results = list(pool.map(compared_by_rounds, given, chunksize=20))
-    single = [(number, text, ours, found) for number, text, ours, found in results if len(found) == 1]
-    races = differ = 0
-    for number, text, ours, found in single:
-        if ours in found:
-            continue
-        is_race = " set " in text and has_race(program, text)
-        races, differ = races + is_race, differ + (not is_race)
-        print(f"job {number} differs{', and has a race' * is_race}:\n{text}\n-- nursery\n{ours}-- Trio\n{next(iter(found))}")
-    among = sum(ours in found for _, _, ours, found in results if len(found) > 1)
-    print(f"{jobs} jobs: {len(single)} have one outcome in plain Trio under eight seeds, and {differ} of them differ without a race")
-    print(f"{races} of them differ and have an event and a race")
+    single = [(ours, found, excuse) for _, _, ours, found, excuse in results if len(found) == 1]
+    ending = sum(not ours.startswith("limit") for ours, _, _ in single)
+    excuses = [excuse for ours, found, excuse in single if ours not in found]
+    for number, text, ours, found, excuse in results:
+        if len(found) == 1 and ours not in found:
+            print(f"job {number} differs{f', and {excuse}' if excuse else ''}:\n{text}\n-- nursery\n{ours}-- Trio\n{next(iter(found))}")
+    among = sum(ours in found for _, _, ours, found, _ in results if len(found) > 1)
+    print(f"{jobs} jobs: {len(single)} have one outcome in plain Trio under eight seeds, of which {ending} end by the limit")
+    print(f"{len(excuses)} of them differ, {excuses.count(None)} without an excuse")
+    print(*(f"{excuses.count(excuse)} of them: {excuse}\n" for excuse in sorted({*excuses} - {None})), sep="", end="")
     print(f"{jobs - len(single)} have several outcomes, and the report of {among} is one of them")
-    return differ
+    return excuses.count(None)
 
 
-def show(program, number):
-    _, text, ours, found = compared_by_rounds((program, number))
+def show(program, number, objects):
+    _, text, ours, found, excuse = compared_by_rounds((program, objects, number))
     print(f"{text}\n-- nursery\n{ours}")
     for told, times in found.items():
         print(f"-- Trio, {times} of 8\n{told}")
+    if excuse:
+        print(excuse)
     return 0
 
 
@@ -483,11 +544,14 @@ def main():
     words.add_argument("seed", type=int, nargs="?", default=1)
     words.add_argument("--format", type=int, choices=[3])
     words.add_argument("--job", type=int)
+    words.add_argument("--objects", action="store_true")
+    words.add_argument("--processes", type=int, default=os.cpu_count())
     given = words.parse_args()
     if given.job is not None:
-        return show(given.program, given.job)
-    compare = by_rounds if given.format == 3 else by_ticks
-    return 1 if compare(given.program, given.jobs, given.seed) else 0
+        return show(given.program, given.job, given.objects)
+    if given.format == 3:
+        return 1 if by_rounds(given.program, given.jobs, given.seed, given.objects, given.processes) else 0
+    return 1 if by_ticks(given.program, given.jobs, given.seed) else 0
 
 
 if __name__ == "__main__":

@@ -19,64 +19,12 @@ import trio.testing
 
 import against_trio
 import trio_export  # the end of a nursery as Trio 0.23 has it
-from formats import PIECE
+from reading import Reader
 
 assert trio_export
 ROOT = os.path.join(os.path.dirname(os.path.abspath(__file__)), "..", "..")
 SEEDS = 40
 FIRST_LINE = "trio-job 3\n"
-
-
-class Reader:
-    """Reads a job that is known to be one, as the nested tuples of steps that jobs.py makes."""
-
-    def __init__(self, text):
-        pieces = [piece for piece in PIECE.findall(text) if not piece.isspace() and not piece.startswith("#")]
-        self.tokens = pieces[::-1]
-
-    def word(self):
-        return self.tokens.pop()
-
-    def has(self, *words):
-        """Whether the next token is one of these words, which is then taken."""
-        return bool(self.tokens) and self.tokens[-1] in words and bool(self.word())
-
-    def job(self):
-        self.word()
-        return self.word(), self.block()
-
-    def block(self):
-        steps = []
-        self.word()
-        while not self.has("}"):
-            steps.append(self.step())
-        return steps
-
-    def step(self):
-        kind = self.word()
-        if kind == "scope":
-            name = self.word()
-            deadline = (self.word(), int(self.word())) if self.tokens[-1] in ("after", "at") else None
-            return kind, name, deadline, self.has("shield"), self.has("fail"), self.block()
-        if kind == "nursery":
-            name = self.word()
-            after = int(self.word()) if self.has("after") else None
-            return kind, name, after, self.has("shield"), self.block()
-        if kind == "start":
-            return kind, self.word(), int(self.word()) if self.has("over") else None, self.block()
-        if kind == "repeat":
-            over = self.has("over")
-            return "repeat over" if over else kind, int(self.word()), self.block()
-        if kind == "event":
-            return kind, self.word(), self.block()
-        if kind == "try":
-            body = self.block()
-            handler = (self.word(), self.block()) if self.has("except") else None
-            return kind, body, handler, self.block() if self.has("finally") else None
-        words = []
-        while not self.has(";"):
-            words.append(self.word())
-        return kind, *(int(word) if word.isdigit() else word.strip('"') for word in words)
 
 
 def run_once(name, steps, length):

@@ -8,32 +8,53 @@ from formats import TOKEN
 COMMENTS = [" # a note\n", "\n# on its own line: { \" } ; job\n", "#\n", "# one\n\n\t# and another # one\n  "]
 NEEDLES = ["er", "ok", "absent", "l"]
 NAMES = ["A", "B", "C"]
+ERRORS = ["EndOfChannel", "ClosedResource"]
+# Keywords that may be names where no step may begin.
+WORDS = ["event", "set", "wait"]
+WORDS_OF_OBJECTS = ["limiter", "acquire", "channel", "send", "receive", "close"]
 
 
 class Jobs:
     """Random jobs of one format: nested lists of steps, each a tuple whose first part is its keyword. Those of format 3 have events, unless
-    the jobs are wanted without, and start tasks in loops."""
+    the jobs are wanted without, and start tasks in loops. Limiters and channels are made on demand."""
 
-    def __init__(self, seed, format_=None):
+    def __init__(self, seed, format_=None, objects=False):
         self.random = random.Random(seed)
         self.format = format_ or self.random.choice([1, 2])
+        self.has_objects = objects
+        self.words = self.random.sample(WORDS + WORDS_OF_OBJECTS, 3) if objects else WORDS
+        self.errors = NAMES + ["TooSlow"] + (ERRORS if objects else [])
         self.names = 0
         self.events = []  # those around the step that is made next
+        self.objects = []  # the limiters and channels around it, each with its kind
 
     def job(self):
         self.names, self.events = 0, []
+        if self.has_objects:
+            return self.job_with_objects()
         return self.block(5, [], 4)
+
+    def job_with_objects(self):
+        """Most often with an end, since many a task waits for a limiter or channel forever."""
+        around = [self.name("all")] if self.random.random() < 0.7 else []
+        body = [self.object(4, around), *self.block(2, around, 2)]
+        self.random.shuffle(body)
+        return [("scope", name, ("after", self.random.randint(5, 40)), False, False, body) for name in around] or body
 
     def name(self, kind):
         self.names += 1
         if self.format >= 3 and self.names <= 3 and self.random.random() < 0.05:
-            return ["event", "set", "wait"][self.names - 1]  # names, where no step may begin
+            return self.words[self.names - 1]
         return f"{kind}{self.names}"
 
     def block(self, depth, around, most):
         return [self.step(depth, around) for _ in range(self.random.randint(1, most))]
 
     def step(self, depth, around):
+        if self.objects and self.random.random() < 0.5:
+            return self.use(depth, around)
+        if self.has_objects and depth > 0 and self.random.random() < 0.15:
+            return self.object(depth, around)
         pick = self.random.random()
         if depth == 0 or pick < 0.3:
             return self.leaf(around)
@@ -57,10 +78,39 @@ class Jobs:
         self.events.pop()
         return ("event", name, body)
 
+    def object(self, depth, around):
+        """A limiter or channel, most often with tasks that use it."""
+        r = self.random
+        kind = r.choice(["limiter", "channel"])
+        name, size = self.name(kind[0]), r.randint(1, 2) if kind == "limiter" else r.randint(0, 2)
+        self.objects.append((kind, name))
+        body = [self.nursery(depth - 1, around)] if depth > 1 and r.random() < 0.8 else self.block(depth - 1, around, 3)
+        self.objects.pop()
+        return (kind, name, size, body)
+
+    def use(self, depth, around):
+        """Asks something of a limiter or channel, or closes a channel."""
+        r = self.random
+        kind, name = r.choice(self.objects)
+        if kind == "channel" and r.random() < 0.6:
+            return ("send" if r.random() < 0.8 else "close", name)
+        if depth > 0 and r.random() < 0.5:
+            body = self.block(depth - 1, around, 2)
+        else:
+            body = [self.leaf(around)] if r.random() < 0.5 else []
+        if kind == "limiter":
+            return ("acquire", name, body)
+        receive = ("receive", name, body)
+        if r.random() < 0.2:
+            return ("try", [("repeat", r.randint(2, 4), [receive])], ("EndOfChannel", []), None)
+        return receive
+
     def leaf(self, around):
         r = self.random
         if self.events and r.random() < 0.5:
             return (r.choice(["set", "wait", "wait"]), r.choice(self.events))
+        if self.objects and r.random() < 0.5:
+            return ("sleep", r.randint(0, 9))
         pick = r.random()
         if pick < 0.50:
             return ("sleep", r.randint(0, 5))
@@ -111,14 +161,14 @@ class Jobs:
     def handled(self, depth, around):
         r = self.random
         body = self.block(depth - 1, around, 3)
-        handler = (r.choice(NAMES + ["TooSlow"]), self.block(depth - 1, around, 2)) if r.random() < 0.7 else None
+        handler = (r.choice(self.errors), self.block(depth - 1, around, 2)) if r.random() < 0.7 else None
         cleanup = self.block(depth - 1, around, 2) if handler is None or r.random() < 0.5 else None
         return ("try", body, handler, cleanup)
 
 
-def random_job(seed, format_=None):
-    """The steps of a random job, and its text: of format 1 or 2, unless another one is given."""
-    jobs = Jobs(seed, format_)
+def random_job(seed, format_=None, objects=False):
+    """The steps of a random job, and its text: of format 1 or 2, unless another one is given. Those with limiters and channels are of format 3."""
+    jobs = Jobs(seed, format_, objects)
     steps = jobs.job()
     return steps, f"trio-job {jobs.format}\njob main " + text_of_block(steps)
 
@@ -152,8 +202,10 @@ def text_of(step):
             return f"nursery {name} " + (f"after {after} " if after is not None else "") + "shield " * shield + text_of_block(items)
         case ("repeat" | "repeat over" as head, count, body):
             return f"{head} {count} " + text_of_block(body)
-        case ("event", name, body):
-            return f"event {name} " + text_of_block(body)
+        case ("limiter" | "channel" as head, name, size, body):
+            return f"{head} {name} {size} " + text_of_block(body)
+        case ("event" | "acquire" | "receive" as head, name, body):
+            return f"{head} {name} " + text_of_block(body)
         case ("start", name, over, body):
             return f"start {name} " + (f"over {over} " if over else "") + text_of_block(body)
         case ("try", body, handler, cleanup):
