@@ -3,7 +3,9 @@ use Rattle.std.specs.Prelude.{ℕ, ◌/◌, ◌%◌, Bool, true, false, ◌&&◌
 use Rattle.std.specs.List.{flat_map}
 use Rattle.basics.specs.Hex.{hex_digit}
 use Rattle.exceptions.specs.Texts.{label_text, exc_text}
-use Rattle.job_meaning.specs.Shown.{Shown, line_shown, scope_shown, nursery_shown, wait_shown, Ending, well, by_cancellation, with_exception, Row}
+use Rattle.job_tree.specs.declared.object.Ask.{Ask}
+use Rattle.job_tree.specs.declared.object.Ask.TheVariants.{Acquire, Send, Receive}
+use Rattle.job_meaning.specs.Shown.{Shown, line_shown, scope_shown, nursery_shown, wait_shown, grant_shown, Ending, well, by_cancellation, with_exception, Row}
 
 abbrev pub ending_text : Ending → List ℕ
 ending_text well = codes "done"
@@ -24,6 +26,12 @@ abbrev pub caught_text : Bool → List ℕ
 caught_text true = codes " caught\n"
 caught_text false = codes " passed\n"
 
+-- the word of the step that asks this
+abbrev pub ask_word : Ask → List ℕ
+ask_word Acquire = codes "acquire"
+ask_word Send = codes "send"
+ask_word Receive = codes "receive"
+
 -- the line of a report for an entry
 abbrev pub shown_text : Shown → List ℕ
 shown_text (line_shown at text) =
@@ -31,6 +39,8 @@ shown_text (line_shown at text) =
 shown_text (scope_shown label tick caught) = codes "  scope " ++ label_text label ++ codes " " ++ decimal tick ++ caught_text caught
 shown_text (nursery_shown label tick caught) = codes "  nursery " ++ label_text label ++ codes " " ++ decimal tick ++ caught_text caught
 shown_text (wait_shown label tick) = codes "  wait " ++ label_text label ++ codes " " ++ decimal tick ++ codes "\n"
+shown_text (grant_shown ask label tick) =
+    codes "  " ++ ask_word ask ++ codes " " ++ label_text label ++ codes " " ++ decimal tick ++ codes "\n"
 
 -- the lines of a report for a task
 abbrev pub row_text : Row → List ℕ

@@ -11,6 +11,7 @@ use basics::push_number;
 use exceptions::{push_exc, push_label};
 use input_lines::Line;
 use job_runner::{Entry, Outcome, Record};
+use job_tree::Ask;
 use std::alloc::{AllocError, Global};
 
 // Appends the line for an entry.
@@ -42,6 +43,24 @@ fn push_entry(out: &mut Vec<u8>, entry: &Entry<'_>) -> Result<(), AllocError>
             push_label(out, label)?;
             push_tick(out, *tick)
         }
+        Entry::Granted { ask, label, tick } => {
+            out.extend_from_slice(b"  ")?;
+            out.extend_from_slice(ask_word(*ask))?;
+            out.extend_from_slice(b" ")?;
+            push_label(out, label)?;
+            push_tick(out, *tick)
+        }
+    }
+}
+
+// The word of the step that asks this.
+fn ask_word(ask: Ask) -> &'static [u8]
+    ensures { result.now ≡ ask_word ask }
+{
+    match ask {
+        Ask::Acquire => b"acquire",
+        Ask::Send => b"send",
+        Ask::Receive => b"receive",
     }
 }
 
@@ -71,7 +90,7 @@ fn push_left(out: &mut Vec<u8>, tick: u64, caught: bool) -> Result<(), AllocErro
     }
 }
 
-// Appends the tick at which a task went on that waited for an event.
+// Appends the tick at which a task went on that waited for an event, or for a limiter or channel.
 fn push_tick(out: &mut Vec<u8>, tick: u64) -> Result<(), AllocError>
     ensures { OnOk result (out.new.items ≡ out.old.items ++ (codes " " ++ (decimal tick ++ codes "\n"))) }
 {

@@ -31,19 +31,39 @@ impl<'a> Runner<'a> {
         ensures late { IfErr result (IsLate self.entry.job.now self.entry.input.now self.entry.limit) }
     {
         let mut runner = self;
-        let cancel = runner.next_cancel();
-        match runner.clock.jump(cancel) {
+        let next = runner.next_round();
+        match runner.clock.jump(next) {
             Jump::Limit => Err(RunFault::Limit {
                 limit: runner.limit,
             }),
             Jump::To(moment) => {
                 runner.world.set_now(moment);
+                runner.wake_later()?;
                 runner.wake_seen()?;
                 runner.wake_due()?;
                 runner.batch.turn_over();
                 Ok(runner)
             }
         }
+    }
+
+    // Returns the next moment, if a task continues a round later; else the one in which the first sleeper that sees a cancellation
+    // continues, or `None` if none does.
+    fn next_round(&self) -> Option<u64> {
+        if self.later.is_empty() {
+            return self.next_cancel();
+        }
+        Some(self.world.now() + 1)
+    }
+
+    // Each task that continues a round later is ready.
+    fn wake_later(&mut self) -> Result<(), AllocError> {
+        let later = std::mem::replace(&mut self.later, Vec::new(self.alloc));
+        'later: for entry in later {
+            let (id, call) = entry;
+            self.batch.add(id, call)?;
+        }
+        Ok(())
     }
 
     // Returns the moment in which the first sleeper that sees a cancellation continues, or `None` if none does.

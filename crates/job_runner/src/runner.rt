@@ -16,6 +16,8 @@ ghost use Rattle.job_runner.specs.Steps.{SeesOnly, TakesStarted, IsReadied, IsSt
 ghost use Rattle.job_runner.specs.Turns.{GoesOn, TakesTurn, Commits};
 
 use crate::finished::Run;
+use crate::objects_by_label::ObjectTable;
+use crate::serving::RoundAct;
 use crate::limits::last_of;
 use cancel_scopes::stacks_are_chains;
 use clock::{EventWaiters, MockClock, Sleepers, TaskId};
@@ -53,6 +55,11 @@ pub struct Runner<'a> {
     // The tasks that wait for an event that nothing has set.
     pub(crate) waiters: EventWaiters,
     pub(crate) batch: ReadyBatch<'a>,
+    // The tasks that continue a round later, where there are rounds.
+    pub(crate) later: Vec<(TaskId, Call<'a>)>,
+    pub(crate) objects: ObjectTable<'a>,
+    // What was done to limiters and channels in this moment, and asked of them, in the order of turns.
+    pub(crate) round: Vec<RoundAct<'a>>,
     pub(crate) turns: u64,
 }
 
@@ -94,6 +101,9 @@ impl<'a> Runner<'a> {
             sleepers: Sleepers::new(alloc),
             waiters: EventWaiters::new(alloc),
             batch,
+            later: Vec::new(alloc),
+            objects: ObjectTable::new(alloc),
+            round: Vec::new(alloc),
             turns: 0,
         })
     }
@@ -148,6 +158,9 @@ impl<'a> Runner<'a> {
         }
         runner.see_changed()?;
         runner.batch.turn_over();
+        if runner.batch.is_empty() {
+            runner.serve_round()?;
+        }
         Ok(runner)
     }
 
@@ -198,6 +211,7 @@ impl<'a> Runner<'a> {
         self.turns += 1;
         self.take_started(row)?;
         self.take_set()?;
+        self.take_acts(row)?;
         Ok(stop)
     }
 
@@ -220,7 +234,7 @@ impl<'a> Runner<'a> {
     }
 
     // A task that continues a round later is ready. Where a moment is a tick, it is added to the next batch with this call, and
-    // otherwise it has a timer.
+    // otherwise to those that continue in the next moment.
     pub(crate) fn ready(&mut self, id: TaskId, call: Call<'a>) -> Result<(), AllocError>
         requires awake { due_of self.old.clock id ≡ None }
         requires now { now_of self.old.clock ≡ self.old.world.tick }
@@ -229,7 +243,7 @@ impl<'a> Runner<'a> {
     {
         match self.world.clock() {
             Clock::ByTicks => self.batch.add(id, call)?,
-            Clock::ByRounds => self.clock.sleep_until(id, self.world.now() + 1)?,
+            Clock::ByRounds => self.later.push((id, call))?,
         }
         Ok(())
     }

@@ -19,10 +19,10 @@ use cancel_scopes::ScopeId;
 use clock::TaskId;
 use exceptions::Exc;
 use input_lines::Request;
-use job_meaning::Clock;
+use job_meaning::{Clock, FAR};
 use nursery_book::{ChildIndex, NurseryId};
 use std::alloc::{AllocError, Global};
-use task_machine::Stop;
+use task_machine::{ObjectRequest, Stop};
 use task_table::Call;
 
 impl<'a> Runner<'a> {
@@ -42,6 +42,7 @@ impl<'a> Runner<'a> {
             Stop::Ask(request) => self.handle_ask(id, row, request)?,
             Stop::Sleep(due) => self.handle_sleep(id, row, due)?,
             Stop::WaitFor(event) => self.handle_wait_for(id, row, event)?,
+            Stop::Queue(request) => self.handle_queue(id, row, request)?,
             Stop::GiveUp(due) => self.handle_give_up(id, row, due)?,
             Stop::Wait(nursery) => self.handle_wait(id, row, nursery)?,
             Stop::Ended(exc) => self.handle_end(id, row, exc)?,
@@ -91,6 +92,26 @@ impl<'a> Runner<'a> {
         if self.world.set_from(event).is_none() {
             self.waiters.add(id, event)?;
         }
+        Ok(())
+    }
+
+    // What the task asks is served at the end of the moment. It waits for that as long as `forever`, unless it sees a cancellation.
+    fn handle_queue(
+        &mut self,
+        id: TaskId,
+        row: usize,
+        request: ObjectRequest<'a>,
+    ) -> Result<(), AllocError>
+        requires { IsStopping id row (Queue request) self.old }
+        ensures going { OnOk result (IsGoing None self.new) }
+        ensures comes { OnOk result (ComesOf id (Queue request.entry) self.old self.new) }
+        ensures same { OnOk result (IsSameTurn self.old self.new) }
+    {
+        self.keep_ask(row, request)?;
+        let now = self.world.now();
+        let clock = self.world.clock();
+        let last = clock.wakes_at(FAR.saturating_sub(clock.tick_of(now)), now);
+        self.put_to_sleep(id, last)?;
         Ok(())
     }
 

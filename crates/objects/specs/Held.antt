@@ -22,8 +22,8 @@ use Rattle.objects.specs.declared.channel.Sender as held_sender
 use Rattle.objects.specs.declared.channel.Channel as held_channel
 use Rattle.objects.specs.declared.object.Object as held_object
 use Rattle.objects.specs.declared.object.Object.TheVariants as objects
-use Rattle.objects.specs.declared.object.Call.{Call}
-use Rattle.objects.specs.declared.object.Call.TheVariants.{Asks, GivesBack, Closes}
+use Rattle.objects.specs.declared.object.Operation.{Operation}
+use Rattle.objects.specs.declared.object.Operation.TheVariants.{Asks, GivesBack, Closes}
 
 -- ---- what is granted
 
@@ -147,15 +147,15 @@ abbrev pub new_object : ObjectKind → ObjectOf
 new_object (kinds.Limiter tokens) = a_limiter (new_limiter tokens)
 new_object (kinds.Channel places) = a_channel (new_channel places)
 
--- what a call is to a limiter, and to a channel: nothing where it cannot be done to it
-abbrev pub to_limiter : Call → List (LimiterAct Ticket)
+-- what an operation is to a limiter, and to a channel: nothing where it cannot be done to it
+abbrev pub to_limiter : Operation → List (LimiterAct Ticket)
 to_limiter (Asks who Acquire part) = acquires who ∷ []
 to_limiter (Asks who Send part) = []
 to_limiter (Asks who Receive part) = []
 to_limiter GivesBack = gives_back ∷ []
 to_limiter Closes = []
 
-abbrev pub to_channel : Call → List (ChannelAct Ticket Range)
+abbrev pub to_channel : Operation → List (ChannelAct Ticket Range)
 to_channel (Asks who Acquire part) = []
 to_channel (Asks who Send part) = sends who (range_of part) ∷ []
 to_channel (Asks who Receive part) = receives who ∷ []
@@ -167,26 +167,26 @@ pub record ObjectServed : Type 0 where
   pub object : ObjectOf
   pub granted : List Gets
 
-abbrev pub serve : (Ticket → Bool) → ObjectOf → Call → ObjectServed
-serve waits (a_limiter l) call =
-    let served = limiters.after_acts l (to_limiter call) in
+abbrev pub serve : (Ticket → Bool) → ObjectOf → Operation → ObjectServed
+serve waits (a_limiter l) operation =
+    let served = limiters.after_acts l (to_limiter operation) in
     record { object = a_limiter (limiter_left waits served.limiter); granted = map gets_token served.granted }
-serve waits (a_channel c) call =
-    let served = channels.after_acts c (to_channel call) in
+serve waits (a_channel c) operation =
+    let served = channels.after_acts c (to_channel operation) in
     record { object = a_channel (channel_left waits served.channel); granted = map gets_by served.granted }
 
--- an object served a call
-pub record Serves (waits : Ticket → Bool) (old new : held_object.Object) (call : Call) (before after : List Given) : Type 0 where
-  pub object : object_in waits new ≡ (serve waits (object_in waits old) call).object
-  pub granted : AreGranted (serve waits (object_in waits old) call).granted before after
+-- an object served an operation
+pub record Serves (waits : Ticket → Bool) (old new : held_object.Object) (operation : Operation) (before after : List Given) : Type 0 where
+  pub object : object_in waits new ≡ (serve waits (object_in waits old) operation).object
+  pub granted : AreGranted (serve waits (object_in waits old) operation).granted before after
 
 abbrev pub IsObjectOf : List ℕ → held_object.Object → Type 0
 IsObjectOf input (objects.Limiter l) = Unit {0}
 IsObjectOf input (objects.Channel c) = IsOf input c
 
-abbrev pub IsCallOf : List ℕ → Call → Type 0
-IsCallOf input (Asks who ask part) = buffer_of part ≡ input
-IsCallOf input _ = Unit {0}
+abbrev pub IsOperationOf : List ℕ → Operation → Type 0
+IsOperationOf input (Asks who ask part) = buffer_of part ≡ input
+IsOperationOf input _ = Unit {0}
 
 -- the first was taken, or there was none
 abbrev pub TakesFirst : {A : Type 0} → List A → Option A → List A → Type 0

@@ -1,7 +1,7 @@
 //! Limiters and channels: what is asked of them, and how they serve it.
 //!
 //! An `Object` is a limiter, as Trio's `CapacityLimiter`, or a channel of parts of an input, as Trio's memory channel. It serves what
-//! is done to it (`Call`) one after the other, first come, first served, and tells what it grants by that (`Given`). A task that
+//! is done to it (`Operation`) one after the other, first come, first served, and tells what it grants by that (`Given`). A task that
 //! waits has a `Ticket`. One that leaves the queue, since it is cancelled, is not taken out of it: when its ticket comes to the head,
 //! it is passed over, since `Queues` knows that it waits no more. So to leave costs nothing, however long the queue is.
 //!
@@ -17,5 +17,5 @@ mod ticket;
 
 pub use given::{Given, Grant};
 pub use laws::{law_channels, law_limiters};
-pub use object::{Call, Object};
+pub use object::{Operation, Object};
 pub use ticket::{Queues, Ticket};

@@ -1,6 +1,6 @@
 ghost use Rattle.std.specs.Prelude.{◌≡◌, ℕ, Bool, List, OnOk};
 ghost use Rattle.objects.specs.Channels.{after_acts as after_parts};
-ghost use Rattle.objects.specs.Held.{channel_in, limiter_in, object_in, new_object, to_channel, to_limiter, AreGivenOf, IsCallOf, IsObjectOf, IsOf, PartsServed, Serves, TokensServed};
+ghost use Rattle.objects.specs.Held.{channel_in, limiter_in, object_in, new_object, to_channel, to_limiter, AreGivenOf, IsOperationOf, IsObjectOf, IsOf, PartsServed, Serves, TokensServed};
 ghost use Rattle.objects.specs.Limiters.{after_acts as after_tokens};
 ghost use Rattle.objects.specs.declared.ticket.Ticket.{Ticket as TicketOf};
 
@@ -23,7 +23,7 @@ pub enum Object<'a> {
 
 /// What is done to a limiter or channel.
 #[derive(Clone, Copy)]
-pub enum Call<'a> {
+pub enum Operation<'a> {
     /// A task asks for something.
     Asks {
         /// The task, and the moment in which it asks.
@@ -52,21 +52,21 @@ impl<'a> Object<'a> {
     }
 
     /// Serves what is done to it, by what the queues know of who still waits, and adds what it grants to `given`, in order. A limiter
-    /// cannot be sent to, received from or closed, and a channel has no tokens: such a call does nothing. The only error is that
+    /// cannot be sent to, received from or closed, and a channel has no tokens: such an operation does nothing. The only error is that
     /// memory runs out, after which the object can only be dropped.
     pub fn serve<Q: Queues>(
         &mut self,
-        call: Call<'a>,
+        operation: Operation<'a>,
         queues: &Q,
         given: &mut Vec<Given<'a>>,
     ) -> Result<(), AllocError>
-        ensures serves { OnOk result (Serves (Q.waits queues.now) self.old self.new call.entry given.old.items given.new.items) }
-        ensures lent { OnOk result ((input : List ℕ) → IsObjectOf input self.old → IsCallOf input call.entry → AreGivenOf input given.old.items →
+        ensures serves { OnOk result (Serves (Q.waits queues.now) self.old self.new operation.entry given.old.items given.new.items) }
+        ensures lent { OnOk result ((input : List ℕ) → IsObjectOf input self.old → IsOperationOf input operation.entry → AreGivenOf input given.old.items →
             IsObjectOf input self.new × AreGivenOf input given.new.items) }
     {
         match self {
-            Object::Limiter(limiter) => serve_tokens(limiter, call, queues, given),
-            Object::Channel(channel) => serve_parts(channel, call, queues, given),
+            Object::Limiter(limiter) => serve_tokens(limiter, operation, queues, given),
+            Object::Channel(channel) => serve_parts(channel, operation, queues, given),
         }
     }
 }
@@ -74,45 +74,45 @@ impl<'a> Object<'a> {
 // What is done to a limiter.
 fn serve_tokens<'a, Q: Queues>(
     limiter: &mut Limiter,
-    call: Call<'a>,
+    operation: Operation<'a>,
     queues: &Q,
     given: &mut Vec<Given<'a>>,
 ) -> Result<(), AllocError>
     ensures serves { OnOk result (TokensServed (Q.waits queues.now)
-        (after_tokens (limiter_in (Q.waits queues.now) limiter.old) (to_limiter call.entry)) limiter.new given.old.items given.new.items) }
+        (after_tokens (limiter_in (Q.waits queues.now) limiter.old) (to_limiter operation.entry)) limiter.new given.old.items given.new.items) }
     ensures lent { OnOk result ((input : List ℕ) → AreGivenOf input given.old.items → AreGivenOf input given.new.items) }
 {
-    match call {
-        Call::Asks {
+    match operation {
+        Operation::Asks {
             who,
             ask: Ask::Acquire,
             ..
         } => limiter.acquire(who, given),
-        Call::Asks { .. } => Ok(()),
-        Call::GivesBack => limiter.give_back(queues, given),
-        Call::Closes => Ok(()),
+        Operation::Asks { .. } => Ok(()),
+        Operation::GivesBack => limiter.give_back(queues, given),
+        Operation::Closes => Ok(()),
     }
 }
 
 // What is done to a channel.
 fn serve_parts<'a, Q: Queues>(
     channel: &mut Channel<'a>,
-    call: Call<'a>,
+    operation: Operation<'a>,
     queues: &Q,
     given: &mut Vec<Given<'a>>,
 ) -> Result<(), AllocError>
     ensures serves { OnOk result (PartsServed (Q.waits queues.now)
-        (after_parts (channel_in (Q.waits queues.now) channel.old) (to_channel call.entry)) channel.new given.old.items given.new.items) }
-    ensures lent { OnOk result ((input : List ℕ) → IsCallOf input call.entry → IsOf input channel.old → AreGivenOf input given.old.items →
+        (after_parts (channel_in (Q.waits queues.now) channel.old) (to_channel operation.entry)) channel.new given.old.items given.new.items) }
+    ensures lent { OnOk result ((input : List ℕ) → IsOperationOf input operation.entry → IsOf input channel.old → AreGivenOf input given.old.items →
         IsOf input channel.new × AreGivenOf input given.new.items) }
 {
-    match call {
-        Call::Asks { who, ask, part } => match ask {
+    match operation {
+        Operation::Asks { who, ask, part } => match ask {
             Ask::Acquire => Ok(()),
             Ask::Send => channel.send(who, part, queues, given),
             Ask::Receive => channel.receive(who, queues, given),
         },
-        Call::GivesBack => Ok(()),
-        Call::Closes => channel.close(queues, given),
+        Operation::GivesBack => Ok(()),
+        Operation::Closes => channel.close(queues, given),
     }
 }

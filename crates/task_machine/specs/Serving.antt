@@ -1,11 +1,18 @@
 -- What tasks do to limiters and channels, which is served at the end of a round.
-use Rattle.std.specs.Prelude.{List, [], ◌∷◌}
+use Rattle.std.specs.Prelude.{ℕ, Option, Some, None, List, [], ◌∷◌}
 use Rattle.exceptions.specs.Exceptions.{Label}
 use Rattle.job_meaning.specs.Log.{Act, opens, asks, gives_back, closes}
 use Rattle.job_meaning.specs.Rest.{Event, acts}
+use Rattle.task_machine.specs.declared.stop.TaskState.{TaskState}
+use Rattle.task_machine.specs.declared.stop.TaskState.TheVariants.{Queued}
 use Rattle.task_machine.specs.declared.serving.ObjectAct.{ObjectAct}
 use Rattle.task_machine.specs.declared.serving.Act as held
 use Rattle.task_machine.specs.declared.serving.Act.TheVariants.{Opens, GivesBack, Closes}
+
+-- the moment in which a task asked the limiter or channel for which it waits, if it waits for one
+abbrev pub queued_since : TaskState → Option ℕ
+queued_since (Queued object ask since body) = Some since
+queued_since _ = None
 
 -- an act on the limiter or channel of a label
 pub record Acted : Type 0 where

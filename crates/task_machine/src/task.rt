@@ -5,6 +5,7 @@ ghost use Rattle.job_meaning.specs.declared.limits.TheConstants.{MAX_INPUT};
 ghost use Rattle.job_meaning.specs.Rest.{steps_left};
 ghost use Rattle.task_machine.specs.Fitting.{blocks_of, block_in, received_in, received_inside};
 ghost use Rattle.task_machine.specs.Frames.{frame_of, frames_of};
+ghost use Rattle.task_machine.specs.Serving.{queued_since};
 ghost use Rattle.task_machine.specs.Tasks.{scope_of, home_of, home_scope};
 ghost use Rattle.task_machine.specs.declared.stop.TaskState.TheVariants.{ToBegin};
 
@@ -129,6 +130,16 @@ impl<'a> Task<'a> {
         match &self.home {
             Some(home) => Some((home.nursery, home.index)),
             None => None,
+        }
+    }
+
+    /// Returns the moment in which the task asked the limiter or channel for which it waits, or `None` if it waits for none.
+    pub fn queued_since(&self) -> Option<u64>
+        ensures { result ≡ queued_since self.now.task_state }
+    {
+        match &self.task_state {
+            TaskState::Queued { since, .. } => Some(*since),
+            _ => None,
         }
     }
 

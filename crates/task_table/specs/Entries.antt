@@ -7,7 +7,7 @@ use Rattle.input_lines.specs.declared.answers.Answer.{Answer}
 use Rattle.task_machine.specs.declared.stop.Wake.{Wake}
 use Rattle.task_machine.specs.declared.stop.Wake.TheVariants as wakes
 use Rattle.task_table.specs.declared.entry.Call.{Call}
-use Rattle.task_table.specs.declared.entry.Call.TheVariants.{Begin, Due, Seen, Settled, Ask}
+use Rattle.task_table.specs.declared.entry.Call.TheVariants.{Begin, Due, Seen, Settled, Granted, Ask}
 use Rattle.task_table.specs.declared.entry.Entry.{Entry}
 
 -- what was added of an entry: its task, and why the task is ready
@@ -27,6 +27,7 @@ request_in Begin = None
 request_in Due = None
 request_in Seen = None
 request_in Settled = None
+request_in (Granted grant) = None
 request_in (Ask r) = Some r
 
 -- the requests that entries make, in order
@@ -73,4 +74,5 @@ wake_of Begin answer = Some wakes.Begin
 wake_of Due answer = Some wakes.Due
 wake_of Seen answer = Some wakes.Seen
 wake_of Settled answer = Some wakes.Settled
+wake_of (Granted grant) answer = Some (wakes.Granted grant)
 wake_of (Ask r) answer = option_map wakes.Answer answer

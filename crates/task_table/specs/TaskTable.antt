@@ -1,6 +1,6 @@
 -- The tasks of a run as the runner keeps them: the tasks that have not ended by their ids, and a row for each task
 -- ever started.
-use Rattle.std.specs.Prelude.{◌≡◌, ◌≢◌, ℕ, ◌+◌, ◌<◌, Option, Some, None, List, [], ◌∷◌, ◌++◌, length, slice_get}
+use Rattle.std.specs.Prelude.{◌≡◌, ◌≢◌, ◌==◌, ℕ, zero, suc, ◌+◌, ◌<◌, if◌then◌else◌, Option, Some, None, List, [], ◌∷◌, ◌++◌, length, slice_get}
 use Rattle.std.specs.Option.{option_map}
 use Rattle.exceptions.specs.Held.{exc_of}
 use Rattle.exceptions.specs.declared.exc.Exc as held
@@ -17,7 +17,11 @@ use Rattle.task_machine.specs.Frames.{unboxed_exc}
 use Rattle.task_machine.specs.Standing.{TurnsAs}
 use Rattle.task_machine.specs.Waking.{IsInRangeTaskState, WakesFrom}
 use Rattle.task_machine.specs.Waiters.{KeepsRest}
+use Rattle.exceptions.specs.Exceptions.{Label}
+use Rattle.objects.specs.Whats.{What}
+use Rattle.objects.specs.declared.object.Object.{Object}
 use Rattle.run_refinement.specs.RunState.{RunState, EndedTask}
+use Rattle.run_refinement.specs.Sharing.{RoundAct}
 use Rattle.task_table.specs.declared.rows.TaskRow.{TaskRow}
 use Rattle.task_table.specs.declared.rows.Ended.{Ended}
 use Rattle.task_table.specs.declared.task_table.Running.{Running}
@@ -96,10 +100,38 @@ parent_of r p = parent_by (row_at r p)
 abbrev pub id_of : TaskTable → ℕ → ℕ
 id_of r p = id_by (row_at r p)
 
+-- the rows from the root's to one, of which there are at most the given number
+abbrev pub path_by : ℕ → (ℕ → ℕ) → ℕ → List ℕ
+path_by zero parent p = p ∷ []
+path_by (suc n) parent p = if p == 0 then 0 ∷ [] else path_by n parent (parent p) ++ p ∷ []
+
+-- each was started by a task of an earlier row
+abbrev pub path_of : TaskTable → ℕ → List ℕ
+path_of r p = path_by p (parent_of r) p
+
+-- what is known of the limiters and channels of a run
+pub record Sharing : Type 0 where
+  pub through : ℕ
+  pub object : Label → Option Object
+  pub round : List RoundAct
+  pub granted : ℕ → Option What
+
 -- the tasks of the program in this world, after the given number of turns
-abbrev pub run_state : TaskTable → World → ℕ → RunState
-run_state r world turns =
-    record { world = world; turns = turns; task = task_of r; ended_task = ended_task_of r; start = start_of r; children = children_of r }
+abbrev pub run_state : TaskTable → World → ℕ → Sharing → RunState
+run_state r world turns shared =
+    record {
+      world = world;
+      turns = turns;
+      task = task_of r;
+      ended_task = ended_task_of r;
+      start = start_of r;
+      children = children_of r;
+      path = path_of r;
+      through = shared.through;
+      object = shared.object;
+      round = shared.round;
+      granted = shared.granted;
+    }
 
 -- ---- rows and ids agree
 
@@ -122,6 +154,8 @@ pub record IsTaskTable (r : TaskTable) : Type 0 where
   pub rows : (id : ℕ) (x : Running) → running_at r id ≡ Some x → HasRow r x.row id
   pub lives : (p : ℕ) (row : TaskRow) → row_at r p ≡ Some row → row.end ≡ None → Lives r p row
   pub tree : ChildrenAreApart r.rows.items
+  -- each task but the root was started by one of an earlier row
+  pub earlier : (p : ℕ) → 0 < p → p < task_count r → parent_of r p < p
 
 -- ---- changes
 

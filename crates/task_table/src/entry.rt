@@ -3,6 +3,7 @@ ghost use Rattle.task_table.specs.Entries.{HasAnswer, request_in, wake_of};
 
 use clock::TaskId;
 use input_lines::{Answer, Request};
+use objects::Grant;
 use task_machine::Wake;
 
 /// Why a task is ready.
@@ -10,12 +11,14 @@ use task_machine::Wake;
 pub enum Call<'a> {
     /// It was started, and has its first turn.
     Begin,
-    /// The tick until which it slept has come.
+    /// The moment until which it waited has come.
     Due,
-    /// It sees a cancellation while it sleeps.
+    /// It sees a cancellation while it waits.
     Seen,
     /// The nursery that it waited for is settled.
     Settled,
+    /// A limiter or channel granted this.
+    Granted(Grant<'a>),
     /// It requests a kernel's answer.
     Ask(Request<'a>),
 }
@@ -37,6 +40,7 @@ pub(crate) fn request_in<'a>(call: Call<'a>) -> Option<Request<'a>>
         Call::Due => None,
         Call::Seen => None,
         Call::Settled => None,
+        Call::Granted(_) => None,
         Call::Ask(request) => Some(request),
     }
 }
@@ -51,6 +55,7 @@ pub(crate) fn wake_for<'a>(call: Call<'a>, answer: Option<Answer<'a>>) -> Wake<'
         Call::Due => Wake::Due,
         Call::Seen => Wake::Seen,
         Call::Settled => Wake::Settled,
+        Call::Granted(grant) => Wake::Granted(grant),
         Call::Ask(_) => match answer {
             Some(answer) => Wake::Answer(answer),
             None => unreachable!(),

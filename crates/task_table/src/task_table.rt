@@ -5,7 +5,8 @@ ghost use Rattle.task_machine.specs.Events.{WaitsWithin, is_wait_over};
 ghost use Rattle.task_machine.specs.Tasks.{scope_of, home_of};
 ghost use Rattle.task_machine.specs.Worlds.{event_at};
 ghost use Rattle.task_table.specs.Rows.{IsNewRow};
-ghost use Rattle.task_table.specs.TaskTable.{running_at, task_count, row_at, ended_task_of, id_of, parent_of, IsTaskTable, HasRoot, Starts, MayTurn, HasTurn, Ends};
+ghost use Rattle.run_refinement.specs.Sharing.{waits_in};
+ghost use Rattle.task_table.specs.TaskTable.{running_at, task_count, row_at, task_of, ended_task_of, id_of, parent_of, path_of, IsTaskTable, HasRoot, Starts, MayTurn, HasTurn, Ends};
 
 use crate::Live;
 use crate::rows::{Ended, TaskRow};
@@ -13,6 +14,7 @@ use cancel_scopes::ScopeId;
 use clock::TaskId;
 use exceptions::Exc;
 use nursery_book::{ChildIndex, NurseryId};
+use objects::{Queues, Ticket};
 use std::alloc::{AllocError, Global};
 use task_machine::{Stop, Task, Wake, World, box_exc};
 
@@ -170,6 +172,32 @@ impl<'a> TaskTable<'a> {
         self.rows[parent].task
     }
 
+    /// Returns the id that the task of this row has, or had. The caller must ensure that the row exists.
+    pub fn id(&self, row: usize) -> TaskId
+        requires { row < task_count self.now }
+        ensures { result ≡ id_of self.now row }
+    {
+        self.rows[row].task
+    }
+
+    /// Returns the rows from the root's to this one, each of the task that started the next: tasks are in the order of records by the
+    /// lexicographic order of these. The caller must ensure that the row exists. The only error is that memory runs out.
+    pub fn path(&self, row: usize) -> Result<Vec<usize>, AllocError>
+        requires row { row < task_count self.now }
+        requires agree { IsTaskTable self.now }
+        ensures { IfOk result (λ path. path.items ≡ path_of self.now row) }
+    {
+        let mut path = Vec::new(self.alloc);
+        let mut at = row;
+        'upwards: while at != 0 {
+            path.push(at)?;
+            at = self.rows[at].parent;
+        }
+        path.push(0)?;
+        path.reverse();
+        Ok(path)
+    }
+
     /// Returns whether the root has ended. The caller must ensure that the table has a task.
     pub fn is_over(&self) -> bool
         requires { 0 < task_count self.now }
@@ -184,6 +212,26 @@ impl<'a> TaskTable<'a> {
     {
         let TaskTable { rows, .. } = self;
         rows
+    }
+}
+
+// Who waits for a limiter or channel is known by its blocked state.
+impl<'a> Queues for TaskTable<'a> {
+    ghost waits = { λ r ticket. waits_in (task_of r) ticket };
+
+    fn waits(&self, ticket: Ticket) -> bool
+        ensures { result ≡ waits_in (task_of self.now) ticket }
+    {
+        let Some(row) = self.rows.get(ticket.row) else {
+            return false;
+        };
+        if row.end.is_some() {
+            return false;
+        }
+        match self.live.get(row.task) {
+            Some(running) => running.task.queued_since() == Some(ticket.since),
+            None => false,
+        }
     }
 }
 
