@@ -177,5 +177,6 @@ fn entry_room(entry: &Entry<'_>) -> usize {
         Entry::Scope { .. } => 128,
         Entry::Nursery { .. } => 128,
         Entry::Wait { .. } => 128,
+        Entry::Granted { .. } => 128,
     }
 }

@@ -124,6 +124,6 @@ fn in_record_order<'a>(
         let path = task_table.path(act.row)?;
         placed.push(PlacedAct { path, act })?;
     }
-    placed.sort_by(alloc, |a, b| a.path.cmp(&b.path))?;
+    placed.sort_by(|a: &PlacedAct, b: &PlacedAct| a.path.cmp(&b.path))?;
     Ok(placed)
 }
