@@ -8,24 +8,31 @@ use crate::numbers::numbers;
 use crate::{Bar, Column};
 use std::alloc::{AllocError, Global};
 
-// Appends so many panels of `size` columns, one below the other.
+// Columns that are cut into so many panels of `size` columns.
+#[derive(Clone, Copy)]
+pub(crate) struct Panels<'c> {
+    pub columns: &'c [Column],
+    pub size: usize,
+    pub count: usize,
+}
+
+// Appends panels, one below the other.
 #[tactic(auto, using(crate::proofs::PanelByPanel::all_panels))]
 pub(crate) fn push_panels(
     alloc: Global,
     out: &mut Vec<u8>,
     sheet: Sheet,
     bars: &[Bar<'_, '_>],
-    size: usize,
-    count: usize,
-    columns: &[Column],
+    panels: &Panels<'_>,
 ) -> Result<(), AllocError>
     ensures { OnOk result (out.new.items ≡ out.old.items
-        ++ panels_text sheet.clock sheet.width sheet.last sheet.less sheet.names (map bar_of bars.now) size count (map column_of columns.now)) }
+        ++ panels_text sheet.clock sheet.width sheet.last sheet.less sheet.names (map bar_of bars.now) panels.now.size panels.now.count
+        (map column_of panels.now.columns.now)) }
 {
-    let mut left = count;
-    let mut rest = columns;
+    let mut left = panels.count;
+    let mut rest = panels.columns;
     'panels: while left > 0 {
-        let (panel, others) = rest.split_at(panel_end(size, rest.len()));
+        let (panel, others) = rest.split_at(panel_end(panels.size, rest.len()));
         push_panel(alloc, out, sheet, bars, panel)?;
         rest = others;
         left -= 1;

@@ -5,7 +5,7 @@ ghost use Rattle.chart.specs.HeldColumns.{column_of};
 ghost use Rattle.chart.specs.Text.{limit_text, panel_size, panel_count, panels_text, chart_text};
 
 use crate::lines::{Sheet, push_limit};
-use crate::panels::push_panels;
+use crate::panels::{Panels, push_panels};
 use crate::widths::{longest_name, room_for};
 use crate::{Bar, Column, all_ticks, columns_of, fits_less, last_tick, less_for};
 use basics::digit_count;
@@ -78,8 +78,12 @@ fn text_in_panels(
         (panel_count size (length columns.now)) (map column_of columns.now) ++ limit_text sheet.width until) }
 {
     let mut out = Vec::new(alloc);
-    let count = columns.len().div_ceil(size);
-    push_panels(alloc, &mut out, sheet, bars, size, count, columns)?;
+    let panels = Panels {
+        columns,
+        size,
+        count: columns.len().div_ceil(size),
+    };
+    push_panels(alloc, &mut out, sheet, bars, &panels)?;
     push_limit(alloc, &mut out, sheet.width, until)?;
     Ok(out)
 }

@@ -6,7 +6,7 @@ use Rattle.std.specs.Prelude.{IsTrue, IsSome, IfSome, MatchOption, ◌↔◌, le
 use Rattle.std.specs.Option.{option_copied}
 use Rattle.std.specs.Cmp.{nat_cmp_is}
 use Rattle.std.specs.declared.cmp.Ordering.TheVariants.{Less, Equal, Greater}
-use Rattle.std.specs.Ordering.{nat_cmp, is_gt}
+use Rattle.std.specs.Ordering.{nat_cmp, is_gt, is_lt}
 use Rattle.std.specs.BTreeMap.{is_at}
 use Rattle.std.specs.BTreeSet as sorted
 use Rattle.std.specs.BTreeSet.{BTreeSet, contains}
@@ -34,6 +34,15 @@ cases_cmp a b =
           ]
     ]
 
+-- a number that is not greater than another
+pub le_from_cmp : (a b : ℕ) → is_lt (nat_cmp b a) ≡ false → a ≤ b
+le_from_cmp a b upto =
+    elim (cases_cmp a b) [
+      | inl less ↦ omega (arith, less)
+      | inr (inl same) ↦ omega (arith, same)
+      | inr (inr more) ↦ absurd (let before : is_lt (nat_cmp b a) ≡ true = rw (cmp-less b a more) refl in cc)
+    ]
+
 -- a key is not found under another key
 at_other : (a b : ℕ) → b ≢ a → is_at (nat_cmp a) b ≡ false
 at_other a b apart =
@@ -44,7 +53,7 @@ at_other a b apart =
     ]
 
 -- a tick with a key is not found under another tick or another key
-at_other_tick : (tick key later other : ℕ) → later ≢ tick → is_at (pair_cmp (tick, key)) (later, other) ≡ false
+pub at_other_tick : (tick key later other : ℕ) → later ≢ tick → is_at (pair_cmp (tick, key)) (later, other) ≡ false
 at_other_tick tick key later other apart =
     elim (cases_cmp tick later) [
       | inl less ↦ rw (cmp-less tick later less) refl
@@ -52,7 +61,7 @@ at_other_tick tick key later other apart =
       | inr (inr more) ↦ rw (cmp-greater tick later more) refl
     ]
 
-at_other_key : (tick key later other : ℕ) → other ≢ key → is_at (pair_cmp (tick, key)) (later, other) ≡ false
+pub at_other_key : (tick key later other : ℕ) → other ≢ key → is_at (pair_cmp (tick, key)) (later, other) ≡ false
 at_other_key tick key later other apart =
     elim (cases_cmp tick later) [
       | inl less ↦ rw (cmp-less tick later less) refl
@@ -61,7 +70,7 @@ at_other_key tick key later other apart =
     ]
 
 -- a pair that is not before another has a later tick, or the same tick with a key that is not less
-tick_upto : (tick key later other : ℕ) → is_gt (pair_cmp (tick, key) (later, other)) ≡ false → tick ≤ later
+pub tick_upto : (tick key later other : ℕ) → is_gt (pair_cmp (tick, key) (later, other)) ≡ false → tick ≤ later
 tick_upto tick key later other upto =
     elim (cases_cmp tick later) [
       | inl less ↦ omega (arith, less)
@@ -70,7 +79,7 @@ tick_upto tick key later other upto =
           cc)
     ]
 
-key_upto : (tick key later other : ℕ) → is_gt (pair_cmp (tick, key) (later, other)) ≡ false → later ≤ tick → key ≤ other
+pub key_upto : (tick key later other : ℕ) → is_gt (pair_cmp (tick, key) (later, other)) ≡ false → later ≤ tick → key ≤ other
 key_upto tick key later other upto by =
     elim (cases_lt other key) [
       | inl less ↦
@@ -80,13 +89,13 @@ key_upto tick key later other upto by =
       | inr more ↦ more
     ]
 
-is_tick-same : (tick : ℕ) → is_tick (Some tick) tick ≡ true
+pub is_tick-same : (tick : ℕ) → is_tick (Some tick) tick ≡ true
 is_tick-same tick = eq-eqb tick tick refl
 
 is_tick-other : (own tick : ℕ) → tick ≢ own → is_tick (Some own) tick ≡ false
 is_tick-other own tick apart = ne_eqb own tick (λ e. apart (sym e))
 
-is_tick-is : (o : Option ℕ) (tick : ℕ) → is_tick o tick ≡ true → o ≡ Some tick
+pub is_tick-is : (o : Option ℕ) (tick : ℕ) → is_tick o tick ≡ true → o ≡ Some tick
 is_tick-is None tick e = absurd (cc)
 is_tick-is (Some own) tick e = ap Some (eqb-true own tick e)
 

@@ -1,8 +1,8 @@
 ghost use Rattle.std.specs.Prelude.{◌≡◌, ℕ, ◌<◌, ◌^◌, ◌≤◌, Some, None, OnOk, OnErr, IsSome, MatchOption};
 ghost use Rattle.clock.specs.KeptTimers.{earlier_of};
 
-use crate::TickQueue;
 use crate::task_id::TaskId;
+use crate::timers::Timers;
 use std::alloc::{AllocError, Global};
 use std::marker::Model;
 
@@ -20,7 +20,7 @@ pub enum Jump {
 pub struct MockClock {
     tick: u64,
     limit: u64,
-    timers: TickQueue,
+    timers: Timers,
 }
 
 impl Model for MockClock {
@@ -49,7 +49,7 @@ impl MockClock {
         MockClock {
             tick: 0,
             limit,
-            timers: TickQueue::new(alloc),
+            timers: Timers::new(alloc),
         }
     }
 
@@ -71,7 +71,7 @@ impl MockClock {
         ensures time { OnOk result (SameTime self.old self.new) }
         ensures err { OnErr result (IsUnchanged self.old self.new) }
     {
-        self.timers.add(task.key(), due)?;
+        self.timers.add(task.key(), due, self.tick + 1)?;
         Ok(())
     }
 
@@ -97,7 +97,7 @@ impl MockClock {
         requires later { (cancel : ℕ) → next_cancel ≡ Some cancel → now_of self.old < cancel }
         ensures { Jumps self.old next_cancel result self.new }
     {
-        let (due, _) = self.timers.first().unwrap();
+        let due = self.timers.first_tick().unwrap();
         let next = earlier_of(due, next_cancel);
         if next > self.limit {
             return Jump::Limit;
@@ -111,12 +111,9 @@ impl MockClock {
     pub fn take_due(&mut self) -> Option<TaskId>
         ensures { MatchOption result (NoneDue self.old self.new) (λ task. TakesDue self.old task self.new) }
     {
-        let Some((due, task)) = self.timers.first() else {
+        let Some((_, task)) = self.timers.first_by(self.tick) else {
             return None;
         };
-        if due > self.tick {
-            return None;
-        }
         self.timers.remove(task);
         Some(TaskId::of(task))
     }

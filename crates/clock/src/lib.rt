@@ -35,10 +35,12 @@
 
 mod clock;
 mod event_waiters;
+mod key_list;
 mod queue;
 mod sleep_slots;
 mod sleepers;
 mod task_id;
+mod timers;
 
 pub use clock::{Jump, MockClock};
 pub use event_waiters::EventWaiters;

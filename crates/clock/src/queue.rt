@@ -87,7 +87,7 @@ impl TickQueue {
 }
 
 // Extends the table so that the key has an entry in it. No key's tick changes. Returns `AllocError` if memory runs out.
-fn grow_to(ticks: &mut Vec<Option<u64>>, key: usize) -> Result<(), AllocError>
+pub(crate) fn grow_to(ticks: &mut Vec<Option<u64>>, key: usize) -> Result<(), AllocError>
     ensures room { OnOk result (key < length ticks.new.items) }
     ensures same { IsSame ticks.old.items ticks.new.items }
 {

@@ -15,30 +15,31 @@ use job_story::Event;
 use json_story::story_json;
 use std::alloc::{AllocError, Global};
 use story_index::{nearest_task, task_named};
+use story_text::ShownStory;
 
 // Returns the verdict on a story with these events, and its document: of all tasks, or of what concerns the one that is
 // requested.
 #[tactic(auto, using(crate::proofs::Explained::story_about_all))]
-pub(crate) fn story_about(
+pub(crate) fn story_about<'e>(
     alloc: Global,
     job: &Job,
-    story: &Story,
-    walked: &[&Event],
+    story: &'e Story,
+    walked: &[&'e Event],
     task: Option<&[u8]>,
 ) -> Result<Answer<StoryVerdict>, AllocError>
-    ensures { IfOk result (λ answer. IsStoryAbout story.now.clock job.now.name (table_in story.now.table) story.now.until story.now.ending
+    ensures { IfOk result (λ answer. IsStoryAbout story.entry.now.clock job.now.name (table_in story.entry.now.table) story.entry.now.until
+        story.entry.now.ending
         (option_copied task.entry) (map event_in walked.now) answer.verdict answer.bytes.items) }
 {
     let Some(text) = task else {
-        let bytes = story_json(
-            alloc,
-            story.clock,
-            job.name(),
-            story.until,
+        let shown = ShownStory {
+            clock: story.clock,
+            until: story.until,
             walked,
-            &story.table,
-            None,
-        )?;
+            table: &story.table,
+            task: None,
+        };
+        let bytes = story_json(alloc, job.name(), &shown)?;
         return Ok(Answer {
             verdict: story.ending.verdict(),
             bytes,
@@ -50,14 +51,15 @@ pub(crate) fn story_about(
 
 // Returns the same for what concerns the task whose label has this text. If there is none, the document is empty.
 #[tactic(auto, using(crate::proofs::Explained::story_about_one, crate::proofs::Explained::story_about_none))]
-fn story_about_task(
+fn story_about_task<'e>(
     alloc: Global,
     job: &Job,
-    story: &Story,
-    walked: &[&Event],
+    story: &'e Story,
+    walked: &[&'e Event],
     text: &[u8],
 ) -> Result<Answer<StoryVerdict>, AllocError>
-    ensures { IfOk result (λ answer. IsStoryAbout story.now.clock job.now.name (table_in story.now.table) story.now.until story.now.ending
+    ensures { IfOk result (λ answer. IsStoryAbout story.entry.now.clock job.now.name (table_in story.entry.now.table) story.entry.now.until
+        story.entry.now.ending
         (Some text.now) (map event_in walked.now) answer.verdict answer.bytes.items) }
 {
     let named = task_named(alloc, walked, text)?;
@@ -68,15 +70,14 @@ fn story_about_task(
             bytes: Vec::new(alloc),
         });
     };
-    let bytes = story_json(
-        alloc,
-        story.clock,
-        job.name(),
-        story.until,
+    let shown = ShownStory {
+        clock: story.clock,
+        until: story.until,
         walked,
-        &story.table,
-        Some(label),
-    )?;
+        table: &story.table,
+        task: Some(label),
+    };
+    let bytes = story_json(alloc, job.name(), &shown)?;
     Ok(Answer {
         verdict: story.ending.verdict(),
         bytes,

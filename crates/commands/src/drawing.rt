@@ -13,18 +13,18 @@ use job_story::{CancelledFrom, Event};
 use std::alloc::{AllocError, Global};
 use story_index::Causes;
 use story_text::in_order;
-use svg::chart_svg;
+use svg::{Picture, chart_svg};
 
 // Returns the chart of a story with these events in the order of the walk, and this table.
-pub(crate) fn chart_of(
+pub(crate) fn chart_of<'e>(
     alloc: Global,
     clock: Clock,
     form: ChartForm,
-    walked: &[&Event],
-    cancelled_from: &CancelledFrom,
+    walked: &[&'e Event],
+    cancelled_from: &'e CancelledFrom,
     until: Option<u64>,
 ) -> Result<Vec<u8>, AllocError>
-    ensures chart { IfOk result (λ bytes. bytes.items ≡ chart_of clock form (table_in cancelled_from.now) until (map event_in walked.now)) }
+    ensures chart { IfOk result (λ bytes. bytes.items ≡ chart_of clock form (table_in cancelled_from.entry.now) until (map event_in walked.now)) }
     ensures well { IfOk result (λ bytes. IsInForm form bytes.items) }
 {
     let index = StoryIndex::of(alloc, walked)?;
@@ -38,43 +38,31 @@ pub(crate) fn chart_of(
             walked,
             bars.as_slice(),
         ),
-        ChartForm::Svg { width } => svg(
-            alloc,
-            clock,
-            width,
-            until,
-            walked,
-            cancelled_from,
-            bars.as_slice(),
-        ),
+        ChartForm::Svg { width } => {
+            let picture = Picture {
+                clock,
+                width,
+                until,
+                walked,
+                cancelled_from,
+            };
+            svg(alloc, &picture, bars.as_slice())
+        }
     }
 }
 
-// Returns the same chart as an SVG document, with these bars.
+// Returns the chart that shows this as an SVG document, with these bars.
 fn svg<'e>(
     alloc: Global,
-    clock: Clock,
-    width: usize,
-    until: Option<u64>,
-    walked: &[&'e Event],
-    cancelled_from: &'e CancelledFrom,
+    picture: &Picture<'_, 'e>,
     bars: &[Bar<'_, 'e>],
 ) -> Result<Vec<u8>, AllocError>
     ensures chart { IfOk result (λ bytes. bytes.items
-        ≡ svg.chart_svg clock width (table_in cancelled_from.entry.now) until (map event_in walked.now) (map bar_of bars.now)) }
+        ≡ svg.chart_svg picture.now.clock picture.now.width (table_in picture.now.cancelled_from.now) picture.now.until
+        (map event_in picture.now.walked.now) (map bar_of bars.now)) }
     ensures well { IfOk result (λ bytes. IsDocument bytes.items) }
 {
-    let sorted = in_order(alloc, walked)?;
-    let causes = Causes::of(alloc, sorted.as_slice(), cancelled_from)?;
-    chart_svg(
-        alloc,
-        clock,
-        width,
-        until,
-        walked,
-        sorted.as_slice(),
-        cancelled_from,
-        &causes,
-        bars,
-    )
+    let sorted = in_order(alloc, picture.walked)?;
+    let causes = Causes::of(alloc, sorted.as_slice(), picture.cancelled_from)?;
+    chart_svg(alloc, picture, bars, sorted.as_slice(), &causes)
 }

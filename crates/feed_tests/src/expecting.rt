@@ -78,6 +78,16 @@ fn outputs_of<R: Threads + Sync + AllocGlobal>(
     })
 }
 
+// A line of a file of expectations.
+#[derive(Clone, Copy)]
+struct KeptLine<'l> {
+    // The name of the file, as messages show it.
+    name: &'l str,
+    // The number of the line, counted from 1.
+    number: usize,
+    bytes: &'l [u8],
+}
+
 // Returns the lines about what is not as expected; none if all is. A file that demands nothing is not as expected.
 fn unmet_lines<R: Threads + Sync + AllocGlobal>(
     rt: &R,
@@ -92,16 +102,13 @@ fn unmet_lines<R: Threads + Sync + AllocGlobal>(
         return Ok(format!(in rt.alloc(); "{name}: failed: no line of it is an expectation\n")?);
     }
     let mut lines = String::new(rt.alloc());
-    'lines: for (i, line) in expectations.split(|b| *b == b'\n').enumerate() {
-        push_unmet(
-            rt,
-            feed,
-            &mut lines,
+    'lines: for (i, bytes) in expectations.split(|b| *b == b'\n').enumerate() {
+        let line = KeptLine {
             name,
-            outputs,
-            i.saturating_add(1),
-            line,
-        )?;
+            number: i.saturating_add(1),
+            bytes,
+        };
+        push_unmet(rt, feed, &mut lines, outputs, &line)?;
     }
     Ok(lines)
 }
@@ -111,16 +118,14 @@ fn push_unmet<R: Threads + Sync + AllocGlobal>(
     rt: &R,
     feed: &Feed<'_, '_>,
     lines: &mut String,
-    name: &str,
     outputs: &Outputs,
-    number: usize,
-    line: &[u8],
+    line: &KeptLine<'_>,
 ) -> Result<(), TestStop>
     requires { length feed.now.question.input.now ≤ MAX_INPUT }
 {
-    let alloc = rt.alloc();
-    let said = shown_line(alloc, line)?;
-    match read_expectation(alloc, outputs.names.as_slice(), line)? {
+    let (alloc, name, number) = (rt.alloc(), line.name, line.number);
+    let said = shown_line(alloc, line.bytes)?;
+    match read_expectation(alloc, outputs.names.as_slice(), line.bytes)? {
         ExpectLine::Nothing => Ok(()),
         ExpectLine::Faulty(fault) => {
             let text = fault_line(alloc, name, number, said.as_str(), fault)?;

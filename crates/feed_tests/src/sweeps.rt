@@ -19,6 +19,17 @@ use std::alloc::{AllocError, Global};
 use std::rt::Files;
 use std::thread::Threads;
 
+// A file that is kept of the sweep of a feed.
+#[derive(Clone, Copy)]
+struct KeptSweep<'k> {
+    // Its name.
+    name: &'k str,
+    // The words of the sweep, which are its first line.
+    words: &'k [u8],
+    // Its bytes.
+    bytes: &'k [u8],
+}
+
 // Compares the sweep of a feed with the file that is kept of it, whose first line has the words of the sweep, and returns what
 // that came to, or `None` if there is no such file.
 pub(crate) fn test_sweep<R: Files + Print + Eprint + Threads + Sync + AllocGlobal>(
@@ -38,16 +49,13 @@ pub(crate) fn test_sweep<R: Files + Print + Eprint + Threads + Sync + AllocGloba
         bytes,
     } = file;
     let words = first_line(bytes.as_slice());
+    let kept = KeptSweep {
+        name: name.as_str(),
+        words,
+        bytes: bytes.as_slice(),
+    };
     let outcome = match asked_sweep(rt.alloc(), words, feed.question.settings) {
-        Ok(args) => test_asked(
-            rt,
-            feed,
-            &args,
-            name.as_str(),
-            target,
-            words,
-            bytes.as_slice(),
-        )?,
+        Ok(args) => test_asked(rt, feed, &args, &kept, target)?,
         Err(CommandFault::Refused { text }) => {
             tell_refused(rt, name.as_str(), words, text.as_str())?
         }
@@ -64,20 +72,19 @@ fn first_line(text: &[u8]) -> &[u8] {
     }
 }
 
-// Compares the sweep that these words ask for with the file that is kept of it, and returns what that came to.
+// Compares the sweep that the words of a file ask for with the file, and returns what that came to. The target is the file as it
+// was before it was read.
 fn test_asked<R: Files + Print + Eprint + Threads + Sync + AllocGlobal>(
     rt: &R,
     feed: &Feed<'_, '_>,
     args: &SweepArgs,
-    name: &str,
+    kept: &KeptSweep<'_>,
     target: Result<Target, ReplaceFault>,
-    words: &[u8],
-    kept: &[u8],
 ) -> Result<Outcome, TestStop>
     requires { length feed.now.question.input.now ≤ MAX_INPUT }
     ensures { IfOk result (λ outcome. (bytes : Option (List ℕ))
         × IsSwept (form_of args.now.json) feed.now.question.text.now feed.now.question.input.now args.now.settings.limit args.now.target args.now.values.items bytes
-        × ComparesSweep feed.now.accept words.now kept.now bytes outcome) }
+        × ComparesSweep feed.now.accept kept.now.words.now kept.now.bytes.now bytes outcome) }
 {
     let (alloc, form) = (rt.alloc(), form_of(args.json));
     let values = args.values.as_slice();
@@ -87,30 +94,29 @@ fn test_asked<R: Files + Print + Eprint + Threads + Sync + AllocGlobal>(
         settings: args.settings,
     };
     let swept = sweep_of(rt, alloc, &question, args.target, values, form)?;
-    let outcome = test_swept(rt, feed.accept, name, target, words, kept, swept)?;
+    let outcome = test_swept(rt, feed.accept, kept, target, swept)?;
     Ok(outcome)
 }
 
-// Compares the bytes that a sweep writes with the file that is kept of it, and returns what that came to.
+// Compares the bytes that a sweep writes with the file that is kept of it, and returns what that came to. The target is the file
+// as it was before it was read.
 fn test_swept<R: Files + Print + Eprint + AllocGlobal>(
     rt: &R,
     accept: bool,
-    name: &str,
+    kept: &KeptSweep<'_>,
     target: Result<Target, ReplaceFault>,
-    words: &[u8],
-    kept: &[u8],
     swept: Option<Vec<u8>>,
 ) -> Result<Outcome, TestStop>
-    ensures { IfOk result (ComparesSweep accept words.now kept.now (option_map (λ bytes. bytes.items) swept)) }
+    ensures { IfOk result (ComparesSweep accept kept.now.words.now kept.now.bytes.now (option_map (λ bytes. bytes.items) swept)) }
 {
     match swept {
         Some(bytes) => {
-            let now = below_words(rt.alloc(), words, bytes.as_slice())?;
-            let outcome = compare(rt, accept, name, target, kept, now.as_slice())?;
+            let now = below_words(rt.alloc(), kept.words, bytes.as_slice())?;
+            let outcome = compare(rt, accept, kept.name, target, kept.bytes, now.as_slice())?;
             Ok(outcome)
         }
         None => {
-            let outcome = tell_no_number(rt, name, words)?;
+            let outcome = tell_no_number(rt, kept.name, kept.words)?;
             Ok(outcome)
         }
     }

@@ -17,6 +17,7 @@ use job_runner::{Gate, Pick};
 use job_story::Event;
 use std::alloc::{AllocError, Global};
 use std::thread::Threads;
+use story_text::ShownStory;
 
 // Returns the verdict on a job that was read, with its bytes.
 pub(crate) fn job_verdict<R: Threads + Sync, P: Pick, G: Gate + Sync>(
@@ -40,32 +41,39 @@ pub(crate) fn job_verdict<R: Threads + Sync, P: Pick, G: Gate + Sync>(
 
 // Returns the verdict on a story, whose events as far as the limit shows them are given, and its text.
 #[tactic(auto, using(crate::proofs::Stories::story_about_all, crate::proofs::Stories::story_about_one, crate::proofs::Stories::story_about_none))]
-fn story_about(
+fn story_about<'e>(
     alloc: Global,
-    story: &Story,
-    walked: &[&Event],
+    story: &'e Story,
+    walked: &[&'e Event],
     task: Option<&[u8]>,
 ) -> Result<Answer<StoryVerdict>, AllocError>
-    ensures { IfOk result (λ answer. IsStoryAbout story.now.clock (table_in story.now.table) story.now.until story.now.ending (option_copied task.entry)
-        (map event_in walked.now) answer.verdict answer.bytes.items) }
+    ensures { IfOk result (λ answer. IsStoryAbout story.entry.now.clock (table_in story.entry.now.table) story.entry.now.until story.entry.now.ending
+        (option_copied task.entry) (map event_in walked.now) answer.verdict answer.bytes.items) }
 {
     match about_of(alloc, walked, task)? {
         About::All => {
-            let bytes = text_of_story(alloc, story.clock, walked, &story.table, None, story.until)?;
+            let shown = ShownStory {
+                clock: story.clock,
+                until: story.until,
+                walked,
+                table: &story.table,
+                task: None,
+            };
+            let bytes = text_of_story(alloc, &shown)?;
             Ok(Answer {
                 verdict: story.ending.verdict(),
                 bytes,
             })
         }
         About::Task(label) => {
-            let bytes = text_of_story(
-                alloc,
-                story.clock,
+            let shown = ShownStory {
+                clock: story.clock,
+                until: story.until,
                 walked,
-                &story.table,
-                Some(label),
-                story.until,
-            )?;
+                table: &story.table,
+                task: Some(label),
+            };
+            let bytes = text_of_story(alloc, &shown)?;
             Ok(Answer {
                 verdict: story.ending.verdict(),
                 bytes,

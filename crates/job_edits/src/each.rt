@@ -11,6 +11,13 @@ use job_tokens::Token;
 use job_tree::Name;
 use std::alloc::{AllocError, Global};
 
+// A waiting step with the faults that are tried at it.
+#[derive(Clone, Copy)]
+struct FaultyStep<'f> {
+    step: &'f Waiting,
+    faults: &'f [Fault],
+}
+
 /// Returns the first faults in single copies and passes of the job text with these tokens, `most` of them at most: each fault of
 /// each waiting step, as `variants` returns it, in each copy of each `start .. over` and in each pass of each `repeat` that the
 /// step is in. They are in the order of the places of the steps, and for each step the outer blocks come first. `has_input` says
@@ -30,14 +37,11 @@ pub fn each_variants(
     let mut variants = Vec::new(alloc);
     'steps: for step in steps.as_slice() {
         let faults = faults_of(alloc, names, step.wait)?;
-        push_in_blocks(
-            &mut variants,
-            most,
-            has_input,
-            blocks.as_slice(),
+        let faulty = FaultyStep {
             step,
-            faults.as_slice(),
-        )?;
+            faults: faults.as_slice(),
+        };
+        push_in_blocks(&mut variants, most, has_input, blocks.as_slice(), &faulty)?;
     }
     Ok(variants)
 }
@@ -68,15 +72,14 @@ fn push_in_blocks(
     most: usize,
     has_input: bool,
     blocks: &[RepeatedBlock],
-    step: &Waiting,
-    faults: &[Fault],
+    faulty: &FaultyStep<'_>,
 ) -> Result<(), AllocError>
     requires { length variants.old.items ≤ most }
-    ensures { OnOk result (variants.new.items ≡ take most (variants.old.items ++ each_in_blocks has_input 0 blocks.now step.now faults.now)) }
+    ensures { OnOk result (variants.new.items ≡ take most (variants.old.items ++ each_in_blocks has_input 0 blocks.now faulty.now.step.now faulty.now.faults.now)) }
 {
     let mut number = 0;
     'blocks: for block in blocks {
-        push_in_block(variants, most, has_input, number, block, step, faults)?;
+        push_in_block(variants, most, has_input, number, block, faulty)?;
         number += 1;
     }
     Ok(())
@@ -90,20 +93,19 @@ fn push_in_block(
     has_input: bool,
     number: usize,
     block: &RepeatedBlock,
-    step: &Waiting,
-    faults: &[Fault],
+    faulty: &FaultyStep<'_>,
 ) -> Result<(), AllocError>
     requires { length variants.old.items ≤ most }
-    ensures { OnOk result (variants.new.items ≡ take most (variants.old.items ++ each_in_block has_input number block.now step.now faults.now)) }
+    ensures { OnOk result (variants.new.items ≡ take most (variants.old.items ++ each_in_block has_input number block.now faulty.now.step.now faulty.now.faults.now)) }
 {
-    if !is_in(block, step.from) || (has_input && block.is_divided()) {
+    if !is_in(block, faulty.step.from) || (has_input && block.is_divided()) {
         return Ok(());
     }
     let count = block.number.value;
     let mut index = 0;
     'parts: while index < count && variants.len() < most {
         let part = part_of(number, block, index);
-        push_in_part(variants, most, &part, step, faults)?;
+        push_in_part(variants, most, &part, faulty)?;
         index += 1;
     }
     Ok(())
@@ -138,14 +140,13 @@ fn push_in_part(
     variants: &mut Vec<Variant>,
     most: usize,
     part: &BlockPart,
-    step: &Waiting,
-    faults: &[Fault],
+    faulty: &FaultyStep<'_>,
 ) -> Result<(), AllocError>
     requires { length variants.old.items ≤ most }
-    ensures { OnOk result (variants.new.items ≡ take most (variants.old.items ++ variants_with (Some part.now) step.now faults.now)) }
+    ensures { OnOk result (variants.new.items ≡ take most (variants.old.items ++ variants_with (Some part.now) faulty.now.step.now faulty.now.faults.now)) }
 {
-    'faults: for fault in faults {
-        push_until(variants, most, part, step, *fault)?;
+    'faults: for fault in faulty.faults {
+        push_until(variants, most, part, faulty.step, *fault)?;
     }
     Ok(())
 }

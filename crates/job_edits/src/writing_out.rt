@@ -11,6 +11,14 @@ use job_tokens::Token;
 use job_tree::Name;
 use std::alloc::{AllocError, Global};
 
+// A job text with its tokens and their roles.
+#[derive(Clone, Copy)]
+struct Parsed<'t> {
+    text: &'t [u8],
+    tokens: &'t [Token],
+    roles: &'t [Role],
+}
+
 /// Returns whether a step that begins at this place is in a block that runs several times.
 pub fn is_in(block: &RepeatedBlock, from: usize) -> bool
     ensures { result ≡ is_in block.now from }
@@ -43,8 +51,13 @@ pub fn written_out(
     let mut out = Vec::new(alloc);
     out.extend_from_slice(front_of(text, block.from))?;
     push_earlier(&mut out, text, block, index)?;
-    push_single(alloc, &mut out, text, tokens, roles, block, index)?;
-    push_later(alloc, &mut out, text, tokens, roles, block, index)?;
+    let parsed = Parsed {
+        text,
+        tokens,
+        roles,
+    };
+    push_single(alloc, &mut out, &parsed, block, index)?;
+    push_later(alloc, &mut out, &parsed, block, index)?;
     out.extend_from_slice(rest_from(text, block.closing))?;
     Ok(out)
 }
@@ -97,39 +110,35 @@ fn count_change(block: &RepeatedBlock, count: u64) -> Change
 fn push_single(
     alloc: Global,
     out: &mut Vec<u8>,
-    text: &[u8],
-    tokens: &[Token],
-    roles: &[Role],
+    parsed: &Parsed<'_>,
     block: &RepeatedBlock,
     index: u64,
 ) -> Result<(), AllocError>
-    ensures { OnOk result (out.new.items ≡ out.old.items ++ single text.now tokens.now roles.now block.now index) }
+    ensures { OnOk result (out.new.items ≡ out.old.items ++ single parsed.now.text.now parsed.now.tokens.now parsed.now.roles.now block.now index) }
 {
     let end = Piece::Single(index);
-    let changes = part_changes(alloc, &end, 1, block, tokens, roles)?;
-    push_part(out, text, block, changes.as_slice())
+    let changes = part_changes(alloc, &end, 1, block, parsed)?;
+    push_part(out, parsed.text, block, changes.as_slice())
 }
 
 // Appends the copies or passes after the one that is written out.
 fn push_later(
     alloc: Global,
     out: &mut Vec<u8>,
-    text: &[u8],
-    tokens: &[Token],
-    roles: &[Role],
+    parsed: &Parsed<'_>,
     block: &RepeatedBlock,
     index: u64,
 ) -> Result<(), AllocError>
-    ensures { OnOk result (out.new.items ≡ out.old.items ++ later text.now tokens.now roles.now block.now index) }
+    ensures { OnOk result (out.new.items ≡ out.old.items ++ later parsed.now.text.now parsed.now.tokens.now parsed.now.roles.now block.now index) }
 {
     let left = left_after(block, index);
     if left == 0 {
         return Ok(());
     }
     let end = Piece::After(index);
-    let changes = part_changes(alloc, &end, left, block, tokens, roles)?;
+    let changes = part_changes(alloc, &end, left, block, parsed)?;
     out.extend_from_slice(b"} ")?;
-    push_part(out, text, block, changes.as_slice())
+    push_part(out, parsed.text, block, changes.as_slice())
 }
 
 // Returns how many copies or passes there are after one.
@@ -146,11 +155,11 @@ fn part_changes(
     end: &Piece,
     count: u64,
     block: &RepeatedBlock,
-    tokens: &[Token],
-    roles: &[Role],
+    parsed: &Parsed<'_>,
 ) -> Result<Vec<Change>, AllocError>
-    ensures { IfOk result (λ changes. changes.items ≡ part_changes end.now count block.now tokens.now roles.now) }
+    ensures { IfOk result (λ changes. changes.items ≡ part_changes end.now count block.now parsed.now.tokens.now parsed.now.roles.now) }
 {
+    let (tokens, roles) = (parsed.tokens, parsed.roles);
     let given = given_in(alloc, block.from, block.closing, tokens, roles)?;
     let names = given.as_slice();
     let head = (block.from, block.number.from);

@@ -61,15 +61,10 @@ pub(crate) fn put_happening(
             label,
             deadline,
             shield,
-        } => put_enters(
-            members,
-            alloc,
-            known.clock,
-            *kind,
-            label,
-            *deadline,
-            *shield,
-        ),
+        } => {
+            put_kind(members, alloc, *kind, label)?;
+            put_deadline_and_shield(members, alloc, known.clock, *deadline, *shield)
+        }
         Happening::EntersEvent { label } => put_label(members, alloc, label),
         Happening::Sleeps { until } => {
             put(members, alloc, "until", moment_value(known.clock, *until))
@@ -127,21 +122,18 @@ fn put_kind(
     }
 }
 
-// Adds how a scope or nursery is entered.
-fn put_enters(
+// Adds the deadline and the shield with which a scope or nursery is entered.
+fn put_deadline_and_shield(
     members: &mut Map<String, Value>,
     alloc: Global,
     clock: Clock,
-    kind: Kind,
-    label: &Label,
     deadline: Option<u64>,
     shield: bool,
 ) -> Result<(), AllocError>
     ensures { OnOk result (members_view members.new.entries
         ≡ with_member (codes "shield") (boolean shield) (with_member (codes "deadline") (moment_json clock deadline)
-        (with_member (kind_key (kind_of kind)) (label_json label.now) (members_view members.old.entries)))) }
+        (members_view members.old.entries))) }
 {
-    put_kind(members, alloc, kind, label)?;
     put(members, alloc, "deadline", moment_value(clock, deadline))?;
     put(members, alloc, "shield", Value::Bool(shield))
 }

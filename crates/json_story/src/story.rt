@@ -4,7 +4,6 @@ ghost use Rattle.serde_json.specs.View.{view};
 ghost use Rattle.serde_json.specs.Written.{compact_text, members_text};
 ghost use Rattle.job_story.specs.Focus.{concerned_tasks, of_tasks};
 ghost use Rattle.job_story.specs.CancelledFrom.{table_in};
-ghost use Rattle.story_index.specs.Knows.{Knows};
 ghost use Rattle.story_index.specs.Seen.{event_in};
 ghost use Rattle.story_index.specs.Holds.{label_seen};
 ghost use Rattle.json_story.specs.Values.{document, list_of};
@@ -19,67 +18,52 @@ use crate::running::running_values;
 use crate::{push_key, push_member, text_value};
 use exceptions::Label;
 use job_meaning::Clock;
-use job_story::{CancelledFrom, Event};
+use job_story::Event;
 use job_tree::Name;
 use serde_json::Value;
 use std::alloc::{AllocError, Global};
 use story_index::{Causes, Tasks, concerned_tasks, of_tasks};
-use story_text::in_order;
+use story_text::{ShownStory, in_order};
 
-/// Returns the story of a job as one JSON document, in compact form and with a newline, given the clock of its moments, its
-/// events in the order of the walk and the table with the moment from which each scope and nursery is cancelled: of all tasks, or
-/// of what concerns `task`. With `until`, the tick of the limit, it is the story of a job that ends later, and includes what each
-/// task that has not ended is doing. The only error is that memory runs out.
-pub fn story_json<'e>(
+/// Returns what is shown of the story of the job with this name as one JSON document, in compact form and with a newline. If the
+/// story is cut off at a limit, the document includes what each task that has not ended is doing. The only error is that memory
+/// runs out.
+pub fn story_json(
     alloc: Global,
-    clock: Clock,
     job: Name,
-    until: Option<u64>,
-    walked: &[&'e Event],
-    table: &'e CancelledFrom,
-    task: Option<&'e Label>,
+    shown: &ShownStory<'_, '_>,
 ) -> Result<Vec<u8>, AllocError>
     ensures { IfOk result (λ bytes. bytes.items
-        ≡ document (story_json clock job until (table_in table.entry.now) (label_seen task.entry) (map event_in walked.now))) }
+        ≡ document (story_json shown.now.clock job shown.now.until (table_in shown.now.table.now) (label_seen shown.now.task)
+        (map event_in shown.now.walked.now))) }
 {
+    let (clock, until, walked) = (shown.clock, shown.until, shown.walked);
     let all = in_order(alloc, walked)?;
-    let causes = Causes::of(alloc, all.as_slice(), table)?;
-    let known = Known::new(clock, all.as_slice(), table, &causes);
-    match task {
-        Some(task) => concerned_json(
-            alloc,
-            job,
-            until,
-            &known,
-            all.as_slice(),
-            walked,
-            &causes,
-            task,
-        ),
+    let causes = Causes::of(alloc, all.as_slice(), shown.table)?;
+    let known = Known::new(clock, all.as_slice(), shown.table, &causes);
+    match shown.task {
+        Some(task) => concerned_json(alloc, job, until, &known, walked, task),
         None => kept_json(alloc, job, until, &known, all.as_slice(), walked),
     }
 }
 
-// Returns the events that concern one task as a document, from the events of the story in order and in the order of the walk, and
-// their index.
+// Returns the events that concern one task of a story as a document. `walked` are the events of the story in the order of the
+// walk.
 fn concerned_json<'e>(
     alloc: Global,
     job: Name,
     until: Option<u64>,
     known: &Known<'_, 'e>,
-    all: &[&'e Event],
     walked: &[&'e Event],
-    causes: &Causes<'e>,
     task: &'e Label,
 ) -> Result<Vec<u8>, AllocError>
-    requires { Knows causes.now (cancelled_from_in known.now) (map event_in all.now) }
     ensures { IfOk result (λ bytes. bytes.items
         ≡ document (kept_json (clock_in known.now) job until (cancelled_from_in known.now) (events_in known.now)
-        (of_tasks (concerned_tasks (cancelled_from_in known.now) (map event_in all.now) task.entry.now) (map event_in all.now))
-        (of_tasks (concerned_tasks (cancelled_from_in known.now) (map event_in all.now) task.entry.now) (map event_in walked.now)))) }
+        (of_tasks (concerned_tasks (cancelled_from_in known.now) (events_in known.now) task.entry.now) (events_in known.now))
+        (of_tasks (concerned_tasks (cancelled_from_in known.now) (events_in known.now) task.entry.now) (map event_in walked.now)))) }
 {
-    let tasks = concerned_tasks(alloc, all, causes, task)?;
-    let sorted = of_tasks(alloc, all, &tasks)?;
+    let tasks = concerned_tasks(alloc, known.events, known.causes, task)?;
+    let sorted = of_tasks(alloc, known.events, &tasks)?;
     let walked = of_tasks(alloc, walked, &tasks)?;
     let bytes = kept_json(
         alloc,

@@ -16,6 +16,13 @@ use race_text::{Difference, Found, Line, hairs_not_tried_in, races_in, step_of};
 use serde_json::{Value, json};
 use std::alloc::{AllocError, Global};
 
+// Where a step of the text begins, as line and column, counted from 1.
+#[derive(Clone, Copy)]
+struct Position {
+    line: usize,
+    column: usize,
+}
+
 /// Returns one JSON document with each line of the table of races that is shown, in their order and with all differences, and
 /// with how many hairs there are, with how many of them nothing was compared, and how many lines are races. The document is
 /// compact and ends with a newline. Returns `AllocError` if memory runs out.
@@ -87,7 +94,11 @@ fn line_value(alloc: Global, line: &Line) -> Result<Value, AllocError>
             found,
             ..
         } => {
-            let value = moved_value(alloc, *line, *column, *hair, found, step.as_slice())?;
+            let position = Position {
+                line: *line,
+                column: *column,
+            };
+            let value = moved_value(alloc, position, *hair, found, step.as_slice())?;
             Ok(value)
         }
         Line::Copies {
@@ -98,7 +109,11 @@ fn line_value(alloc: Global, line: &Line) -> Result<Value, AllocError>
             tick,
             ..
         } => {
-            let value = copies_value(alloc, *line, *column, one, other, *tick, step.as_slice())?;
+            let position = Position {
+                line: *line,
+                column: *column,
+            };
+            let value = copies_value(alloc, position, one, other, *tick, step.as_slice())?;
             Ok(value)
         }
     }
@@ -116,20 +131,19 @@ fn finer_ticks_value(alloc: Global, found: &Found) -> Result<Value, AllocError>
 // Returns the line of a place that is moved, with its step.
 fn moved_value(
     alloc: Global,
-    line: usize,
-    column: usize,
+    position: Position,
     hair: Hair,
     found: &Found,
     step: &[u8],
 ) -> Result<Value, AllocError>
-    ensures { IfOk result (λ value. view value ≡ moved_json line column hair (found_held found.now) step.now) }
+    ensures { IfOk result (λ value. view value ≡ moved_json position.line position.column hair (found_held found.now) step.now) }
 {
     let text = text_value(alloc, step)?;
     let differences = difference_values(alloc, found)?;
     let not_tried = refusal_value(alloc, found)?;
     json!(in alloc; {
-        "line": line,
-        "column": column,
+        "line": position.line,
+        "column": position.column,
         "step": text,
         "hair": hair_word(hair),
         "not_tried": not_tried,
@@ -140,20 +154,19 @@ fn moved_value(
 // Returns the line of copies that meet, with the step that starts them.
 fn copies_value(
     alloc: Global,
-    line: usize,
-    column: usize,
+    position: Position,
     one: &Label,
     other: &Label,
     tick: u64,
     step: &[u8],
 ) -> Result<Value, AllocError>
-    ensures { IfOk result (λ value. view value ≡ copies_json line column one.now other.now tick step.now) }
+    ensures { IfOk result (λ value. view value ≡ copies_json position.line position.column one.now other.now tick step.now) }
 {
     let text = text_value(alloc, step)?;
     let tasks = pair_value(alloc, one, other)?;
     json!(in alloc; {
-        "line": line,
-        "column": column,
+        "line": position.line,
+        "column": position.column,
         "step": text,
         "hair": "copies",
         "tasks": tasks,

@@ -342,9 +342,16 @@ fn is_child(task: &Task<'_>, name: &[u8], place: usize, scope: ScopeId) -> bool 
 // whether the children are taken in the order of their starts.
 fn starts_two(alloc: Global, job: &Job) -> Result<(bool, bool), Fail> {
     let mut turned = first_turn(alloc, job, 0)?;
-    match scope_around(&turned) {
-        Some(outer) => Ok((true, takes_two(&mut turned.world, outer))),
-        None => Ok((false, false)),
+    let outer = scope_around(&turned);
+    let in_order = takes_two_in(&mut turned.world, outer);
+    Ok((outer.is_some(), in_order))
+}
+
+// Whether there is a scope around the nursery, in which two children are taken in the order of their starts.
+fn takes_two_in(world: &mut World<'_>, outer: Option<ScopeId>) -> bool {
+    match outer {
+        Some(scope) => takes_two(world, scope),
+        None => false,
     }
 }
 

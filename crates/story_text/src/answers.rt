@@ -1,17 +1,21 @@
-ghost use Rattle.std.specs.Prelude.{◌≡◌, map};
+ghost use Rattle.std.specs.Prelude.{◌≡◌, map, IfOk};
 ghost use Rattle.std.specs.Option.{option_map};
+ghost use Rattle.exceptions.specs.Exceptions as tree;
 ghost use Rattle.job_story.specs.Causes.{entering_of, cause_of};
+ghost use Rattle.job_story.specs.Focus.{concerned_tasks, is_among};
 ghost use Rattle.job_story.specs.CancelledFrom.{table_in};
 ghost use Rattle.story_index.specs.Found.{entering_in_code, cause_in_code};
 ghost use Rattle.story_index.specs.Knows.{Knows};
 ghost use Rattle.story_index.specs.Seen.{event_in};
+ghost use Rattle.story_index.specs.Holds.{holds};
 ghost use Rattle.story_text.specs.Known.{clock_in, events_in, cancelled_from_in};
 
 use crate::known::Known;
 use exceptions::Label;
 use job_meaning::Clock;
 use job_story::{CancelledFrom, Event};
-use story_index::{Cause, Causes, Entering};
+use std::alloc::{AllocError, Global};
+use story_index::{Cause, Causes, Entering, TaskSet, concerned_tasks};
 
 impl<'k, 'e> Known<'k, 'e> {
     /// Puts together the clock of a story's moments, its events in order, the table of cancellations, and the index of both. The
@@ -33,6 +37,22 @@ impl<'k, 'e> Known<'k, 'e> {
             cancelled_from,
             causes,
         }
+    }
+
+    /// Returns the events of the story, in order.
+    pub fn events(&self) -> &'k [&'e Event]
+        ensures { map event_in result.now ≡ events_in self.now }
+    {
+        self.events
+    }
+
+    /// Returns the tasks that concern a task of the story, as `concerned_tasks` of `story_index` finds them. Returns `AllocError`
+    /// if memory runs out.
+    pub fn concerned_tasks(&self, alloc: Global, task: &'e Label) -> Result<TaskSet<'e>, AllocError>
+        ensures { IfOk result (λ tasks. (l : tree.Label) →
+            holds tasks l ≡ is_among l (concerned_tasks (cancelled_from_in self.now) (events_in self.now) task.entry.now)) }
+    {
+        concerned_tasks(alloc, self.events, self.causes, task)
     }
 
     // Returns how a scope or nursery was first entered, or `None` if it never was.

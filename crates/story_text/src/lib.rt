@@ -13,9 +13,11 @@ mod limit;
 mod lines;
 mod order;
 mod sentences;
+mod shown_story;
 mod ticks;
 
 pub use known::Known;
 pub use limit::{kept_text_to, running_text};
 pub use lines::kept_text;
 pub use order::in_order;
+pub use shown_story::ShownStory;

@@ -36,37 +36,47 @@ use std::alloc::{AllocError, Global};
 use story_index::Causes;
 use story_text::Known;
 
-/// Returns a chart as an SVG document, which is always well formed. The story is given by the clock of its moments, its events in
-/// the order of the walk (`walked`), the same events in order (`sorted`), the table with the moments from which scopes and
-/// nurseries are cancelled and events of the job set (`cancelled_from`), the index of the sorted events and this table
-/// (`causes`), and the bars of the events. The caller must ensure that `sorted` is `in_order` of `walked`, and that `causes` is
-/// that index.
+/// The story that a chart shows, and the width of the chart.
+#[derive(Clone, Copy)]
+pub struct Picture<'w, 'e> {
+    /// The clock of the story's moments.
+    pub clock: Clock,
+    /// The gaps between columns are as much smaller as in a text chart of this many characters.
+    pub width: usize,
+    /// The limit at which the story is cut off, or `None` for a whole story.
+    pub until: Option<u64>,
+    /// Its events in the order of the walk.
+    pub walked: &'w [&'e Event],
+    /// The table with the moments from which its scopes and nurseries are cancelled, and the events of the job set.
+    pub cancelled_from: &'e CancelledFrom,
+}
+
+/// Returns a chart as an SVG document, which is always well formed. `picture` is what it shows, `bars` are the bars of its events,
+/// `sorted` are these events in order, and `causes` is the index of the sorted events and the table of cancellations. The caller
+/// must ensure that `sorted` is `in_order` of the events in the order of the walk, and that `causes` is that index.
 ///
-/// There is a column for each tick at which something happens. The gaps between them are as much smaller as in a text chart of
-/// `width` characters, but not so small that the numbers above them overlap. A note says so if they are not to scale. `until` is
-/// the limit at which the story is cut off, or `None` for a whole story. At most 2,000 rows are drawn, and a note says how many
-/// are left out. Returns `AllocError` if memory runs out.
+/// There is a column for each tick at which something happens. The gaps between them are never so small that the numbers above
+/// them overlap. A note says so if they are not to scale, and another one at which limit the story is cut off. At most 2,000 rows
+/// are drawn, and a note says how many are left out. Returns `AllocError` if memory runs out.
 pub fn chart_svg<'e>(
     alloc: Global,
-    clock: Clock,
-    width: usize,
-    until: Option<u64>,
-    walked: &[&'e Event],
-    sorted: &[&'e Event],
-    cancelled_from: &CancelledFrom,
-    causes: &Causes<'e>,
+    picture: &Picture<'_, 'e>,
     bars: &[Bar<'_, 'e>],
+    sorted: &[&'e Event],
+    causes: &Causes<'e>,
 ) -> Result<Vec<u8>, AllocError>
-    requires knows { Knows causes.now (table_in cancelled_from.now) (map event_in sorted.now) }
-    requires sorted { map event_in sorted.now ≡ in_order (map event_in walked.now) }
+    requires knows { Knows causes.now (table_in picture.now.cancelled_from.now) (map event_in sorted.now) }
+    requires sorted { map event_in sorted.now ≡ in_order (map event_in picture.now.walked.now) }
     ensures drawing { IfOk result (λ svg. svg.items
-        ≡ chart_svg clock width (table_in cancelled_from.now) until (map event_in walked.now) (map bar_of bars.now)) }
+        ≡ chart_svg picture.now.clock picture.now.width (table_in picture.now.cancelled_from.now) picture.now.until
+        (map event_in picture.now.walked.now) (map bar_of bars.now)) }
     ensures well_formed { IfOk result (λ svg. IsDocument svg.items) }
 {
-    let ticks = all_ticks(alloc, clock, walked, until)?;
+    let (clock, until) = (picture.clock, picture.until);
+    let ticks = all_ticks(alloc, clock, picture.walked, until)?;
     let columns = columns_of(alloc, ticks.as_slice())?;
-    let less = less_to_fit(alloc, width, columns.as_slice(), bars)?;
-    let known = Known::new(clock, sorted, cancelled_from, causes);
+    let less = less_to_fit(alloc, picture.width, columns.as_slice(), bars)?;
+    let known = Known::new(clock, sorted, picture.cancelled_from, causes);
     let sheet = Sheet {
         names: longest_name(alloc, bars)?,
         columns: columns.as_slice(),

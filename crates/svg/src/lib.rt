@@ -38,7 +38,7 @@ mod ticks;
 mod titles;
 mod waits;
 
-pub use document::{chart_svg, shown_rows};
+pub use document::{Picture, chart_svg, shown_rows};
 pub use laws::law_escaped;
 pub use layout::MAX_ROWS;
 pub use names::{Attr, Tag};

@@ -4,8 +4,8 @@ use Rattle.job_edits.proofs.each.push_in_block.Given as goal
 
 abbrev pub invariant-parts : goal.invariant-parts
 invariant-parts l =
-    (take l.most (l.variants.items ++ each_from l.number l.block l.step l.faults (l.count - l.index) l.index)
-    ≡ take l.most (l.fn.variants.items ++ each_from l.number l.block l.step l.faults l.block.number.value 0))
+    (take l.most (l.variants.items ++ each_from l.number l.block l.faulty.step.now l.faulty.faults.now (l.count - l.index) l.index)
+    ≡ take l.most (l.fn.variants.items ++ each_from l.number l.block l.faulty.step.now l.faulty.faults.now l.block.number.value 0))
     × (length l.variants.items ≤ l.most) × (l.index ≤ l.count)
 
 abbrev pub decreases-parts : goal.decreases-parts

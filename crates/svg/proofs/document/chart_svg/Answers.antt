@@ -14,8 +14,9 @@ returns-clause-drawing c =
     let all = c.as_slice-2.result.now in
     IfOk-weaker c.document.result _ _
     (λ svg p.
-    drawing_is c.args.clock c.args.width
-    (table_in c.args.cancelled_from.now) c.args.until (map event_in c.args.walked.now) (map bar_of c.args.bars.now)
+    drawing_is c.args.picture.now.clock c.args.picture.now.width
+    (table_in c.args.picture.now.cancelled_from.now) c.args.picture.now.until
+    (map event_in c.args.picture.now.walked.now) (map bar_of c.args.bars.now)
     c.in_ok-longest_name.field-0 c.in_ok-less.less c.as_slice.result.now (map column_of all) (map column_of c.as_slice-3.result.now)
     (clock_in known) (cancelled_from_in known) (events_in known)
     (map event_in c.args.sorted.now) svg.items (c.as_slice.ensures.value ∙ c.in_ok-ticks.ensures)
