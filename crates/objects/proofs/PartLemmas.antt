@@ -16,10 +16,16 @@ use Rattle.objects.specs.declared.channel.Channel.{Channel}
 use Rattle.objects.specs.declared.channel.Sender.{Sender}
 use Rattle.objects.proofs.Waiting.{filter_again, filter_more, granted_one}
 
--- nobody leaves whom the queues do not have
+-- those who wait to send
+abbrev senders_in : (Ticket → Bool) → Channel → List (channels.Sender Ticket Range)
+senders_in waits c = filter (waits_to_send waits) (map sender_in c.senders.items)
+
+senders_again : (waits : Ticket → Bool) (c : Channel) → filter (waits_to_send waits) (senders_in waits c) ≡ senders_in waits c
+senders_again waits c = filter_again (waits_to_send waits) (map sender_in c.senders.items)
+
+-- nobody leaves who still waits
 channel_again : (waits : Ticket → Bool) (c : Channel) → channel_in waits c ≡ channel_left waits (channel_in waits c)
-channel_again waits c =
-    rw (filter_again (waits_to_send waits) (map sender_in c.senders.items), filter_again waits c.receivers.items) refl
+channel_again waits c = rw (senders_again waits c, filter_again waits c.receivers.items) refl
 
 -- two grants, one after the other
 granted_two : (before between after : List Given) (g h : Given) → between ≡ before ++ g ∷ [] → after ≡ between ++ h ∷ [] →
@@ -57,7 +63,7 @@ part_put waits old new who part before after room places buffer closed senders r
     rw has_room
     (record {
       channel =
-          rw (places, granted_one range_of old.buffer.items new.buffer.items part buffer, closed, senders, receivers, filter_again waits old.receivers.items, filter_again (waits_to_send waits) (map sender_in old.senders.items))
+          rw (places, granted_one range_of old.buffer.items new.buffer.items part buffer, closed, senders, receivers, filter_again waits old.receivers.items, senders_again waits old)
           refl;
       granted = granted_one gets_in before after _ more;
     })
@@ -81,8 +87,7 @@ part_passed waits old new first who part before between after is_open head place
     rw (is_open, head)
     (record {
       channel =
-          rw (places, buffer, closed, senders, is_open, filter_again waits new.receivers.items, filter_again (waits_to_send waits) (map sender_in old.senders.items))
-          refl;
+          rw (places, buffer, closed, senders, is_open, filter_again waits new.receivers.items, senders_again waits old) refl;
       granted = granted_two before between after _ _ one two;
     })
 
@@ -104,16 +109,16 @@ part_awaited waits old new who given is_open places buffer closed senders more =
     rw is_open
     (record {
       channel =
-          rw (places, buffer, closed, senders, is_open, filter_more waits old.receivers.items new.receivers.items who more, filter_again (waits_to_send waits) (map sender_in old.senders.items))
+          rw (places, buffer, closed, senders, is_open, filter_more waits old.receivers.items new.receivers.items who more, senders_again waits old)
           refl;
       granted = sym (append-nil (map gets_in given));
     })
 
 -- a place that came free, where nobody waits to send
 pub place_kept : (waits : Ticket → Bool) (old new : Channel) (given : List Given) →
-    filter (waits_to_send waits) (map sender_in old.senders.items) ≡ [] → filter (waits_to_send waits) (map sender_in new.senders.items) ≡ [] →
+    senders_in waits old ≡ [] → senders_in waits new ≡ [] →
     new.places ≡ old.places → new.buffer.items ≡ old.buffer.items → new.is_closed ≡ old.is_closed → new.receivers.items ≡ old.receivers.items →
-    PartsServed waits (refilled (channel_in waits old) (filter (waits_to_send waits) (map sender_in old.senders.items))) new given given
+    PartsServed waits (refilled (channel_in waits old) (senders_in waits old)) new given given
 place_kept waits old new given none none_left places buffer closed receivers =
     rw none
     (record {
@@ -123,22 +128,22 @@ place_kept waits old new given none none_left places buffer closed receivers =
 
 -- and where somebody does
 pub place_filled : (waits : Ticket → Bool) (old new : Channel) (first : Sender) (before after : List Given) →
-    filter (waits_to_send waits) (map sender_in old.senders.items) ≡ sender_in first ∷ filter (waits_to_send waits) (map sender_in new.senders.items) →
+    senders_in waits old ≡ sender_in first ∷ senders_in waits new →
     new.places ≡ old.places → new.buffer.items ≡ old.buffer.items ++ first.part ∷ [] → new.is_closed ≡ old.is_closed →
     new.receivers.items ≡ old.receivers.items → after ≡ before ++ record { who = first.who; grant = Sent } ∷ [] →
-    PartsServed waits (refilled (channel_in waits old) (filter (waits_to_send waits) (map sender_in old.senders.items))) new before after
+    PartsServed waits (refilled (channel_in waits old) (senders_in waits old)) new before after
 place_filled waits old new first before after head places buffer closed receivers more =
     rw head
     (record {
       channel =
-          rw (places, granted_one range_of old.buffer.items new.buffer.items first.part buffer, closed, receivers, filter_again waits old.receivers.items, filter_again (waits_to_send waits) (map sender_in new.senders.items))
+          rw (places, granted_one range_of old.buffer.items new.buffer.items first.part buffer, closed, receivers, filter_again waits old.receivers.items, senders_again waits new)
           refl;
       granted = granted_one gets_in before after _ more;
     })
 
 -- a part of the first who waits to send
 pub part_met : (waits : Ticket → Bool) (old new : Channel) (first : Sender) (who : Ticket) (before between after : List Given) →
-    filter (waits_to_send waits) (map sender_in old.senders.items) ≡ sender_in first ∷ filter (waits_to_send waits) (map sender_in new.senders.items) →
+    senders_in waits old ≡ sender_in first ∷ senders_in waits new →
     new.places ≡ old.places → new.buffer.items ≡ old.buffer.items → new.is_closed ≡ old.is_closed → new.receivers.items ≡ old.receivers.items →
     between ≡ before ++ record { who = who; grant = Received first.part } ∷ [] →
     after ≡ between ++ record { who = first.who; grant = Sent } ∷ [] →
@@ -146,9 +151,7 @@ pub part_met : (waits : Ticket → Bool) (old new : Channel) (first : Sender) (w
 part_met waits old new first who before between after head places buffer closed receivers one two =
     rw head
     (record {
-      channel =
-          rw (places, buffer, closed, receivers, filter_again waits old.receivers.items, filter_again (waits_to_send waits) (map sender_in new.senders.items))
-          refl;
+      channel = rw (places, buffer, closed, receivers, filter_again waits old.receivers.items, senders_again waits new) refl;
       granted = granted_two before between after _ _ one two;
     })
 
