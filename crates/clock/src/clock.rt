@@ -89,16 +89,18 @@ impl MockClock {
     /// next cancellation (`None` is never). To be called when every task is blocked. Returns `Jump::Limit`, and changes
     /// nothing, if the next tick is later than the limit.
     ///
-    /// The caller must ensure that there is a timer, that no timer is due yet, and that `next_cancel` is later than the current
-    /// tick. Does not allocate.
+    /// The caller must ensure that there is a timer or a `next_cancel`, that no timer is due yet, and that `next_cancel` is later
+    /// than the current tick. Does not allocate.
     pub fn jump(&mut self, next_cancel: Option<u64>) -> Jump
         requires none_due { AllLater self.old (now_of self.old) }
-        requires some { HasTimer self.old }
+        requires some { HasTimer self.old ⊎ IsSome next_cancel }
         requires later { (cancel : ℕ) → next_cancel ≡ Some cancel → now_of self.old < cancel }
         ensures { Jumps self.old next_cancel result self.new }
     {
-        let due = self.timers.first_tick().unwrap();
-        let next = earlier_of(due, next_cancel);
+        let next = match self.timers.first_tick() {
+            Some(due) => earlier_of(due, next_cancel),
+            None => next_cancel.unwrap(),
+        };
         if next > self.limit {
             return Jump::Limit;
         }

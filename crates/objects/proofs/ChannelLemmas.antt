@@ -1,12 +1,12 @@
 -- How a channel serves acts, one after the other.
-use Rattle.std.proofs.Common.{◌≡◌, ◌⊎◌, ℕ, zero, suc, ◌+◌, ◌<◌, ◌≤◌, List, [], ◌∷◌, ◌++◌, length, Bool, true, false, nat_lt, refl, ap, sym, ◌∙◌, inl, inr, arith, append_assoc, length-append}
+use Rattle.std.proofs.Common.{◌≡◌, ◌⊎◌, ℕ, ◌+◌, ◌<◌, ◌≤◌, List, [], ◌∷◌, ◌++◌, length, Bool, true, false, nat_lt, refl, ap, sym, ◌∙◌, inl, inr, arith, append_assoc, length-append}
 use Rattle.std.proofs.lemmas.List.{append-nil}
 use Rattle.std.proofs.lemmas.Bool.{ltb-true, ltb-false}
 use Rattle.std.specs.Prelude.{IsTrue}
 use Rattle.std.specs.List.{filter}
 use Rattle.objects.specs.Channels.{Sender, Channel, ChannelAct, sends, receives, closes, leaves, Grant, sent, received, closed_resource, end_of_channel, ChannelServed, new_channel, put_part, pass_part, send_to, take_part, await_part, meet_sender, receive_with, refuse_senders, end_receivers, close_of, after_act, after_acts, parts_sent, parts_received, senders_of, senders_served, senders_waiting, receivers_of, receivers_served}
-use Rattle.objects.specs.Laws.{IsSublist, none, with_next, without_next, NobodyIsLeft, ServesParts}
-use Rattle.objects.proofs.Sublists.{sublist_same, sublist_after, sublist_before, sublist_past, sublist_filter, sublist_in_two}
+use Rattle.objects.specs.Laws.{IsSublist, none, NobodyIsLeft, ServesParts}
+use Rattle.objects.proofs.Sublists.{sublist_same, sublist_filter, sublist_in_two}
 
 -- a channel in which nobody waits in vain, and whose buffer has no more than its places
 pub record IsSound {A P : Type 0} (c : Channel A P) : Type 0 where

@@ -1,10 +1,10 @@
 -- How a limiter serves acts, one after the other.
-use Rattle.std.proofs.Common.{◌≡◌, ◌⊎◌, ℕ, zero, suc, ◌+◌, List, [], ◌∷◌, ◌++◌, length, Bool, true, false, refl, ap, sym, ◌∙◌, inl, inr, arith, append_assoc, length-append}
+use Rattle.std.proofs.Common.{◌≡◌, ◌⊎◌, ℕ, zero, suc, ◌+◌, List, [], ◌∷◌, ◌++◌, length, Bool, refl, inl, inr, arith, append_assoc, length-append}
 use Rattle.std.proofs.lemmas.List.{append-nil}
 use Rattle.std.specs.List.{filter}
 use Rattle.objects.specs.Limiters.{Limiter, LimiterAct, acquires, gives_back, leaves, LimiterServed, new_limiter, acquire_of, give_back_to, after_act, after_acts, askers, times_back}
-use Rattle.objects.specs.Laws.{IsSublist, none, with_next, without_next, ServesTokens}
-use Rattle.objects.proofs.Sublists.{sublist_same, sublist_after, sublist_before, sublist_past, sublist_filter, sublist_in_two}
+use Rattle.objects.specs.Laws.{IsSublist, none, with_next, ServesTokens}
+use Rattle.objects.proofs.Sublists.{sublist_same, sublist_filter, sublist_in_two}
 
 -- how a limiter served some acts, whatever was done to it before
 pub record ServesFrom {A : Type 0} (l : Limiter A) (acts : List (LimiterAct A)) (served : LimiterServed A) : Type 0 where

@@ -1,6 +1,5 @@
 -- Sublists: elements in the same order.
 use Rattle.std.proofs.Common.{◌≡◌, List, [], ◌∷◌, ◌++◌, Bool, true, false, refl, append_assoc}
-use Rattle.std.proofs.lemmas.List.{append-nil}
 use Rattle.std.specs.List.{filter}
 use Rattle.objects.specs.Laws.{IsSublist, none, with_next, without_next}
 

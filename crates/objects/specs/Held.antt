@@ -4,7 +4,6 @@ use Rattle.std.specs.List.{filter}
 use Rattle.input_lines.specs.Lines.{Range}
 use Rattle.input_lines.specs.Part.{buffer_of, range_of}
 use Rattle.input_lines.specs.declared.part.Part.{Part}
-use Rattle.job_tree.specs.declared.object.Ask.{Ask}
 use Rattle.job_tree.specs.declared.object.Ask.TheVariants.{Acquire, Send, Receive}
 use Rattle.job_tree.specs.declared.object.ObjectKind.{ObjectKind}
 use Rattle.job_tree.specs.declared.object.ObjectKind.TheVariants as kinds

@@ -1,5 +1,5 @@
 -- What people rely on, whatever is done to a limiter or a channel.
-use Rattle.std.specs.Prelude.{◌≡◌, ◌⊎◌, ℕ, ◌+◌, ◌≤◌, Bool, true, List, [], ◌∷◌, ◌++◌, length, IsTrue}
+use Rattle.std.specs.Prelude.{◌≡◌, ◌⊎◌, ℕ, ◌+◌, ◌≤◌, List, [], ◌∷◌, ◌++◌, length, IsTrue}
 use Rattle.objects.specs.Limiters as limiters
 use Rattle.objects.specs.Limiters.{LimiterAct, LimiterServed, new_limiter, askers, times_back}
 use Rattle.objects.specs.Channels as channels

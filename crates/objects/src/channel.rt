@@ -175,10 +175,7 @@ impl<'a> Channel<'a> {
 }
 
 // Takes the first that still waits to send, if there is one, and those before it.
-fn next_sender<'a, Q: Queues>(
-    senders: &mut VecDeque<Sender<'a>>,
-    queues: &Q,
-) -> Option<Sender<'a>>
+fn next_sender<'a, Q: Queues>(senders: &mut VecDeque<Sender<'a>>, queues: &Q) -> Option<Sender<'a>>
     ensures first { TakesFirst (filter (waits_to_send (Q.waits queues.now)) (map sender_in senders.old.items)) (option_map sender_in result)
         (filter (waits_to_send (Q.waits queues.now)) (map sender_in senders.new.items)) }
     ensures lent { (input : List ℕ) → AreOf input (map part_of senders.old.items) →

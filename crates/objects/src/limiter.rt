@@ -1,7 +1,7 @@
-ghost use Rattle.std.specs.Prelude.{◌≡◌, ◌+◌, Bool, List, [], ◌∷◌, OnOk};
+ghost use Rattle.std.specs.Prelude.{◌≡◌, ℕ, ◌+◌, Bool, List, [], ◌∷◌, OnOk};
 ghost use Rattle.std.specs.List.{filter};
 ghost use Rattle.objects.specs.Limiters.{acquire_of, give_back_to, new_limiter};
-ghost use Rattle.objects.specs.Held.{limiter_in, TakesFirst, TokensServed};
+ghost use Rattle.objects.specs.Held.{limiter_in, AreGivenOf, TakesFirst, TokensServed};
 ghost use Rattle.objects.specs.declared.ticket.Ticket.{Ticket as TicketOf};
 
 use crate::given::{Given, Grant, give};
@@ -33,8 +33,9 @@ impl Limiter {
         who: Ticket,
         given: &mut Vec<Given<'a>>,
     ) -> Result<(), AllocError>
-        ensures { OnOk result ((waits : TicketOf → Bool) → TokensServed waits
+        ensures serves { OnOk result ((waits : TicketOf → Bool) → TokensServed waits
             (acquire_of (limiter_in waits self.old).free (limiter_in waits self.old).waiting who) self.new given.old.items given.new.items) }
+        ensures lent { OnOk result ((input : List ℕ) → AreGivenOf input given.old.items → AreGivenOf input given.new.items) }
     {
         if self.free == 0 {
             self.waiting.push_back(who)?;
@@ -50,9 +51,10 @@ impl Limiter {
         queues: &Q,
         given: &mut Vec<Given<'a>>,
     ) -> Result<(), AllocError>
-        ensures { OnOk result (TokensServed (Q.waits queues.now)
+        ensures serves { OnOk result (TokensServed (Q.waits queues.now)
             (give_back_to (limiter_in (Q.waits queues.now) self.old).free (limiter_in (Q.waits queues.now) self.old).waiting) self.new
             given.old.items given.new.items) }
+        ensures lent { OnOk result ((input : List ℕ) → AreGivenOf input given.old.items → AreGivenOf input given.new.items) }
     {
         let Some(who) = next_waiting(&mut self.waiting, queues) else {
             return self.free_one();
@@ -73,10 +75,7 @@ impl Limiter {
 }
 
 // Takes the first that still waits, if there is one, and those before it.
-pub(crate) fn next_waiting<Q: Queues>(
-    waiting: &mut VecDeque<Ticket>,
-    queues: &Q,
-) -> Option<Ticket>
+pub(crate) fn next_waiting<Q: Queues>(waiting: &mut VecDeque<Ticket>, queues: &Q) -> Option<Ticket>
     ensures { TakesFirst (filter (Q.waits queues.now) waiting.old.items) result (filter (Q.waits queues.now) waiting.new.items) }
 {
     'tickets: while let Some(ticket) = waiting.pop_front() {

@@ -83,12 +83,11 @@ fn serve_tokens<'a, Q: Queues>(
     ensures lent { OnOk result ((input : List ℕ) → AreGivenOf input given.old.items → AreGivenOf input given.new.items) }
 {
     match operation {
-        Operation::Asks {
-            who,
-            ask: Ask::Acquire,
-            ..
-        } => limiter.acquire(who, given),
-        Operation::Asks { .. } => Ok(()),
+        Operation::Asks { who, ask, .. } => match ask {
+            Ask::Acquire => limiter.acquire(who, given),
+            Ask::Send => Ok(()),
+            Ask::Receive => Ok(()),
+        },
         Operation::GivesBack => limiter.give_back(queues, given),
         Operation::Closes => Ok(()),
     }
