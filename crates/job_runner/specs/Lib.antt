@@ -1,6 +1,7 @@
 pub mod Settings
 pub mod Limits
 pub mod Runs
+pub mod Shared
 pub mod Shelves
 pub mod Phases
 pub mod Steps

@@ -15,9 +15,12 @@ use Rattle.job_tree.specs.Tree.{Tree}
 use Rattle.job_tree.specs.Names.{GivesNamesOnce}
 use Rattle.job_tree.specs.Starting.{StartsInNurseries}
 use Rattle.job_tree.specs.InRange.{IsInRange}
-use Rattle.job_meaning.specs.Follow.{IsSettled}
-use Rattle.job_meaning.specs.Log.{Table}
+use Rattle.exceptions.specs.Exceptions.{Label}
+use Rattle.objects.specs.Held.{IsObjectOf}
+use Rattle.turn_semantics.specs.Midway.{Tables}
+use Rattle.interleavings.specs.Laws.{IsSettledBy}
 use Rattle.job_meaning.specs.Moments.{clock_of, a_round_after, wakes_at}
+use Rattle.job_meaning.specs.Walk.{last_grant}
 use Rattle.job_meaning.specs.declared.clock.Clock.{Clock}
 use Rattle.job_meaning.specs.declared.clock.Clock.TheVariants.{ByRounds as by_rounds}
 use Rattle.input_lines.specs.Answers.{IsAnswer}
@@ -26,7 +29,7 @@ use Rattle.nursery_book.specs.Nursery.{Nursery, is_settled}
 use Rattle.nursery_book.specs.Book.{nursery_at}
 use Rattle.nursery_book.specs.declared.book.NurseryBook.{NurseryBook}
 use Rattle.task_machine.specs.declared.stop.TaskState.{TaskState}
-use Rattle.task_machine.specs.declared.stop.TaskState.TheVariants.{ToBegin, Asked, Asleep, Waiting, GivingUp, Awaits, Over}
+use Rattle.task_machine.specs.declared.stop.TaskState.TheVariants.{ToBegin, Asked, Asleep, Waiting, Queued, GivingUp, Awaits, Over}
 use Rattle.task_machine.specs.declared.stop.Wake.{Wake}
 use Rattle.task_machine.specs.declared.task.Task.{Task}
 use Rattle.task_machine.specs.declared.world.World.{World}
@@ -44,7 +47,9 @@ use Rattle.task_table.specs.declared.task_table.Running.{Running}
 use Rattle.job_runner.specs.declared.runner.Runner.{Runner}
 use Rattle.job_runner.specs.Limits.{last_tick, last_of}
 use Rattle.task_table.specs.Rows.{times}
-use Rattle.task_table.specs.TaskTable.{running_at, parent_of, task_count, run_state, IsTaskTable}
+use Rattle.task_table.specs.TaskTable.{Sharing, running_at, parent_of, task_count, run_state, IsTaskTable}
+use Rattle.job_runner.specs.declared.serving.RoundAct as held
+use Rattle.job_runner.specs.Shared.{what_of, sharing_in, ready_calls, object_at, IsDoneOf, IsCallOf}
 
 -- ---- why a task is ready
 
@@ -56,7 +61,7 @@ IsRight call answer = Unit {0}
 -- a task that is ready by this call may continue, with any right answer
 abbrev pub GoesBy : World → Task → Call → Type 0
 GoesBy world task call = (answer : Option Answer) (wake : Wake) → IsRight call answer → wake_of call answer ≡ Some wake →
-    MayGo world task wake
+    MayGo world (what_of call) task wake
 
 -- the task with an id has not ended, and is ready by this call
 abbrev pub IsCalled : TaskTable → World → ℕ → Call → Type 0
@@ -68,6 +73,10 @@ IsCalledEntry task_table world e = IsCalled task_table world e.task e.call
 
 abbrev pub IsCalledAdded : TaskTable → World → Added → Type 0
 IsCalledAdded task_table world a = IsCalled task_table world a.0 a.1
+
+-- the world in the next moment
+abbrev pub a_moment_later : World → World
+a_moment_later world = record world { tick = suc world.tick }
 
 -- ---- tasks with a timer
 
@@ -83,6 +92,7 @@ moment_of clock events book (ToBegin at) = Some at
 moment_of clock events book (Asked kernel purpose) = None
 moment_of clock events book (Asleep paced ticks since) = Some (wakes_at clock ticks since)
 moment_of clock events book (Waiting event since) = Some (wait_ends clock (events event) since)
+moment_of clock events book (Queued object ask since body) = Some (last_grant clock since)
 moment_of clock events book (GivingUp since) = Some (suc since)
 moment_of clock events book (Awaits id since) = left_in clock (nursery_at book id)
 moment_of clock events book Over = None
@@ -98,6 +108,7 @@ DozesIn world scope (ToBegin at) = Unit {0}
 DozesIn world scope (Asked kernel purpose) = Unit {0}
 DozesIn world scope (Asleep paced ticks since) = IsAsleepIn world scope since
 DozesIn world scope (Waiting event since) = IsAsleepIn world scope since
+DozesIn world scope (Queued object ask since body) = IsAsleepIn world scope since
 DozesIn world scope (GivingUp since) = Unit {0}
 DozesIn world scope (Awaits id since) = Unit {0}
 DozesIn world scope Over = Unit {0}
@@ -119,6 +130,7 @@ sleeps_in (ToBegin at) scope = None
 sleeps_in (Asked kernel purpose) scope = None
 sleeps_in (Asleep paced ticks since) scope = scope
 sleeps_in (Waiting event since) scope = scope
+sleeps_in (Queued object ask since body) scope = scope
 sleeps_in (GivingUp since) scope = None
 sleeps_in (Awaits id since) scope = None
 sleeps_in Over scope = None
@@ -166,10 +178,11 @@ abbrev pub timer_times : Option ℕ → ℕ
 timer_times None = 0
 timer_times (Some due) = 1
 
--- how often an id is among entries, what was added, and those with a timer
-abbrev pub times_shelved : Batches → timers.Clock → ℕ → ℕ
-times_shelved batch clock id =
-    times id (map (λ (e : Entry). e.task) batch.current) + times id (map (λ (a : Added). a.0) batch.next) + timer_times (due_of clock id)
+-- how often an id is among entries, what was added, those that continue a round later, and those with a timer
+abbrev pub times_shelved : Batches → List Added → timers.Clock → ℕ → ℕ
+times_shelved batch later clock id =
+    times id (map (λ (e : Entry). e.task) batch.current) + times id (map (λ (a : Added). a.0) batch.next) + times id (map (λ (a : Added). a.0) later)
+    + timer_times (due_of clock id)
 
 -- how often the task of a nursery that is waited for has to be there
 abbrev pub settled_times : Option Nursery → ℕ
@@ -182,6 +195,7 @@ task_state_times book (ToBegin at) = 1
 task_state_times book (Asked kernel purpose) = 1
 task_state_times book (Asleep paced ticks since) = 1
 task_state_times book (Waiting event since) = 1
+task_state_times book (Queued object ask since body) = 1
 task_state_times book (GivingUp since) = 1
 task_state_times book (Awaits id since) = settled_times (nursery_at book id)
 task_state_times book Over = 0
@@ -201,13 +215,14 @@ IsElse (Some away) id = id ≢ away
 -- task and no event that was set waits in the world.
 pub record IsConsistent (task_table : TaskTable) (world : World) (clock : timers.Clock) (last turns : ℕ) : Type 0 where
   pub agree : IsTaskTable task_table
-  pub homes : AreHomesOf (run_state task_table world turns) (parent_of task_table)
+  pub homes : (shared : Sharing) → AreHomesOf (run_state task_table world turns shared) (parent_of task_table)
   pub now : now_of clock ≡ world.tick
   pub limit : limit_of clock ≡ last_of world.clock last
   pub within : world.tick ≤ last_of world.clock last
   pub bounded : last ≤ last_tick world.clock
   pub none_started : world.started.items ≡ []
   pub none_set : world.set.items ≡ []
+  pub none_done : world.acts.items ≡ []
 
 -- What the runner keeps is consistent. The task with one id may be missing: it is having its turn.
 pub record AreShelved (turning : Option ℕ) (r : Runner) : Type 0 where
@@ -216,16 +231,18 @@ pub record AreShelved (turning : Option ℕ) (r : Runner) : Type 0 where
   pub known : AreKnown r.task_table r.world r.clock r.sleepers r.waiters
   pub current : All (IsCalledEntry r.task_table r.world) r.batch.current
   pub next : All (IsCalledAdded r.task_table r.world) r.batch.next
-  pub once : (id : ℕ) → IsElse turning id → times_shelved r.batch r.clock id ≡ running_times r.world.book (running_at r.task_table id)
-  pub away : ForSome turning (λ (id : ℕ). times_shelved r.batch r.clock id ≡ 0)
+  -- those that continue a round later may do so then
+  pub later : All (IsCalledAdded r.task_table (a_moment_later r.world)) r.later.items
+  pub once : (id : ℕ) → IsElse turning id → times_shelved r.batch r.later.items r.clock id ≡ running_times r.world.book (running_at r.task_table id)
+  pub away : ForSome turning (λ (id : ℕ). times_shelved r.batch r.later.items r.clock id ≡ 0)
 
 -- the tasks of the program, as a runner keeps them
 abbrev pub state_in : Runner → RunState
-state_in r = run_state r.task_table r.world r.turns
+state_in r = run_state r.task_table r.world r.turns (sharing_in r)
 
--- For each settled table they are a run of the definitions.
+-- For each settled tables they are a run of the definitions.
 abbrev pub IsRefined : Runner → Type 0
-IsRefined r = (k : Table) → IsSettled k r.job.now r.input.now →
+IsRefined r = (k : Tables) → IsSettledBy k r.job.now r.input.now →
     Refines k r.job.now r.input.now r.world.tick (task_count r.task_table) None (state_in r)
 
 -- the job, the input and the limit stay
@@ -233,6 +250,16 @@ pub record IsSameJob (old new : Runner) : Type 0 where
   pub job : new.job ≡ old.job
   pub input : new.input ≡ old.input
   pub limit : new.limit ≡ old.limit
+
+-- an act that asks with a part of this input
+abbrev pub IsActOf : List ℕ → held.RoundAct → Type 0
+IsActOf input a = IsDoneOf input a.done
+
+-- the parts that limiters and channels hold, those of what was done in this moment, and those that were granted are of the input
+pub record HoldsParts (r : Runner) : Type 0 where
+  pub objects : (l : Label) → ForSome (object_at r.objects l) (IsObjectOf r.input.now)
+  pub round : All (IsActOf r.input.now) r.round.items
+  pub ready : All (λ (a : Added). IsCallOf r.input.now a.1) (ready_calls r)
 
 -- what holds for each job that was read
 pub record IsSoundJob (job : Tree) : Type 0 where
@@ -246,6 +273,13 @@ pub record IsGoing (away : Option ℕ) (r : Runner) : Type 0 where
   pub counts : r.world.clock ≡ clock_of r.job.now.format
   pub shelved : AreShelved away r
   pub interleaving : IsRefined r
+  -- the parts that limiters and channels hold, or that are to be sent, are of the input
+  pub lent : HoldsParts r
+
+-- what was done in a moment is served when no task is ready in it any more
+abbrev pub served_to : List Entry → ℕ → ℕ
+served_to [] t = suc t
+served_to (e ∷ es) t = t
 
 -- A run between two calls of its caller: no answers are placed for its batch, and no task was added to the next one.
 pub record IsUnderway (r : Runner) : Type 0 where
@@ -253,3 +287,4 @@ pub record IsUnderway (r : Runner) : Type 0 where
   pub unchanged : NoneChanged r.world
   pub unplaced : NonePlaced r.batch.current
   pub nothing_added : r.batch.next ≡ []
+  pub served : r.through ≡ served_to r.batch.current r.world.tick

@@ -38,6 +38,7 @@ impl<'a> Runner<'a> {
             }),
             Jump::To(moment) => {
                 runner.world.set_now(moment);
+                runner.through = moment;
                 runner.wake_later()?;
                 runner.wake_seen()?;
                 runner.wake_due()?;

@@ -58,6 +58,8 @@ pub struct Runner<'a> {
     // The tasks that continue a round later, where there are rounds.
     pub(crate) later: Vec<(TaskId, Call<'a>)>,
     pub(crate) objects: ObjectTable<'a>,
+    // The moment before which limiters and channels have served what was done.
+    pub(crate) through: u64,
     // What was done to limiters and channels in this moment, and asked of them, in the order of turns.
     pub(crate) round: Vec<RoundAct<'a>>,
     pub(crate) turns: u64,
@@ -103,6 +105,7 @@ impl<'a> Runner<'a> {
             batch,
             later: Vec::new(alloc),
             objects: ObjectTable::new(alloc),
+            through: 0,
             round: Vec::new(alloc),
             turns: 0,
         })

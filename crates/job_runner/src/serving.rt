@@ -73,6 +73,7 @@ impl<'a> Runner<'a> {
     // Serves what was done to limiters and channels in the present moment. The tasks that are granted something by it continue in
     // the next one.
     pub(crate) fn serve_round(&mut self) -> Result<(), AllocError> {
+        self.through = self.world.now() + 1;
         if self.round.is_empty() {
             return Ok(());
         }

@@ -1,0 +1,80 @@
+-- What a runner holds of limiters and channels, as the tasks of the program have it.
+use Rattle.std.specs.Prelude.{◌≡◌, ◌==◌, ◌&&◌, ℕ, Bool, true, false, Option, Some, None, List, [], ◌∷◌, ◌++◌, map}
+use Rattle.exceptions.specs.Exceptions.{Label}
+use Rattle.indexmap.specs.IndexMap.{get}
+use Rattle.input_lines.specs.Part.{range_of}
+use Rattle.objects.specs.Held.{what_in, IsGrantOf, IsOperationOf}
+use Rattle.objects.specs.Whats.{What}
+use Rattle.objects.specs.declared.object.Object.{Object}
+use Rattle.objects.specs.declared.object.Operation.{Operation}
+use Rattle.objects.specs.declared.object.Operation.TheVariants.{Asks, GivesBack, Closes}
+use Rattle.job_meaning.specs.Log.{Act, opens, asks, gives_back, closes, same_label}
+use Rattle.run_refinement.specs.Sharing.{RoundAct}
+use Rattle.task_table.specs.declared.entry.Call.{Call}
+use Rattle.task_table.specs.declared.entry.Call.TheVariants.{Granted}
+use Rattle.task_table.specs.declared.entry.Entry.{Entry}
+use Rattle.task_table.specs.declared.task_table.Running.{Running}
+use Rattle.task_table.specs.Batch.{Batches}
+use Rattle.task_table.specs.Entries.{Added, added_of}
+use Rattle.task_table.specs.TaskTable.{Sharing, running_at, id_of}
+use Rattle.job_runner.specs.declared.objects_by_label.ObjectTable.{ObjectTable}
+use Rattle.job_runner.specs.declared.serving.RoundAct as held
+use Rattle.job_runner.specs.declared.serving.Done.{Done}
+use Rattle.job_runner.specs.declared.serving.Done.TheVariants.{Opens, Does}
+use Rattle.job_runner.specs.declared.runner.Runner.{Runner}
+
+-- the limiter or channel of a label, if it was opened
+abbrev pub object_at : ObjectTable → Label → Option Object
+object_at objects label = get same_label objects.by_label label
+
+-- what is done, in the terms of the definitions
+abbrev pub act_by : Operation → Act
+act_by (Asks who ask part) = asks ask (range_of part) None
+act_by GivesBack = gives_back
+act_by Closes = closes
+
+abbrev pub act_of : Done → Act
+act_of (Opens kind) = opens kind
+act_of (Does operation) = act_by operation
+
+abbrev pub round_act_of : held.RoundAct → RoundAct
+round_act_of a = record { serial = a.row; object = a.object; act = act_of a.done }
+
+-- the tasks that are ready, in this moment or in the next one, each with its call
+abbrev pub ready_calls : Runner → List Added
+ready_calls r = map added_of r.batch.current ++ (r.batch.next ++ r.later.items)
+
+abbrev pub what_of : Call → Option What
+what_of (Granted grant) = Some (what_in grant)
+what_of _ = None
+
+abbrev pub call_what_if : Bool → Option What → Option What → Option What
+call_what_if true what other = what
+call_what_if false what other = other
+
+-- what the task with an id continues with, if it is ready
+abbrev pub granted_among : ℕ → List Added → Option What
+granted_among id [] = None
+granted_among id (a ∷ added) = call_what_if (a.0 == id) (what_of a.1) (granted_among id added)
+
+-- and the task of a row, if it has not ended
+abbrev pub granted_if : ℕ → List Added → ℕ → Option Running → Option What
+granted_if id calls p None = None
+granted_if id calls p (Some x) = call_what_if (x.row == p) (granted_among id calls) None
+
+abbrev pub granted_in : Runner → ℕ → Option What
+granted_in r p = granted_if (id_of r.task_table p) (ready_calls r) p (running_at r.task_table (id_of r.task_table p))
+
+abbrev pub sharing_in : Runner → Sharing
+sharing_in r =
+    record { through = r.through; object = object_at r.objects; round = map round_act_of r.round.items; granted = granted_in r }
+
+-- ---- of which input the parts are
+
+abbrev pub IsDoneOf : List ℕ → Done → Type 0
+IsDoneOf input (Opens kind) = Unit {0}
+IsDoneOf input (Does operation) = IsOperationOf input operation
+
+abbrev pub IsCallOf : List ℕ → Call → Type 0
+IsCallOf input (Granted grant) = IsGrantOf input grant
+IsCallOf input _ = Unit {0}
