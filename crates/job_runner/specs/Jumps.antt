@@ -8,7 +8,7 @@ use Rattle.task_table.specs.declared.entry.Call.TheVariants.{Due, Seen}
 use Rattle.cancel_scopes.specs.Sight.{Tick, is_reached, sight}
 use Rattle.cancel_scopes.specs.Tree.{outer_of}
 use Rattle.task_machine.specs.declared.stop.TaskState.{TaskState}
-use Rattle.task_machine.specs.declared.stop.TaskState.TheVariants.{ToBegin, Asked, Asleep, Waiting, GivingUp, Awaits, Over}
+use Rattle.task_machine.specs.declared.stop.TaskState.TheVariants.{ToBegin, Asked, Asleep, Waiting, Queued, GivingUp, Awaits, Over}
 use Rattle.task_machine.specs.declared.task.Task.{Task}
 use Rattle.task_machine.specs.declared.world.World.{World}
 use Rattle.task_machine.specs.Events.{is_wait_over}
@@ -38,6 +38,7 @@ sight_asleep world scope (ToBegin at) = None
 sight_asleep world scope (Asked kernel purpose) = None
 sight_asleep world scope (Asleep paced ticks since) = sight (outer_of world.scopes scope)
 sight_asleep world scope (Waiting event since) = sight (outer_of world.scopes scope)
+sight_asleep world scope (Queued object ask since body) = sight (outer_of world.scopes scope)
 sight_asleep world scope (GivingUp since) = None
 sight_asleep world scope (Awaits id since) = None
 sight_asleep world scope Over = None
@@ -56,12 +57,16 @@ pub record IsNextCancel (r : Runner) (cancel : Tick) : Type 0 where
   pub is_first : IsFirst r.sleepers first
   pub is : cancel ≡ option_map (max (suc r.world.tick)) first
 
--- a task continues in this moment: its own has come, or it sleeps and sees a cancellation from then on or since before
-pub record Wakes (r : Runner) (t : ℕ) : Type 0 where
+-- a task with a timer continues in this moment: its own has come, or it waits and sees a cancellation from then on or since before
+pub record WakesByTimer (r : Runner) (t : ℕ) : Type 0 where
   pub id : ℕ
   pub due : ℕ
   pub timer : due_of r.clock id ≡ Some due
   pub on : (due ≡ t) ⊎ (option_map (max (suc r.world.tick)) (sight_in r.task_table r.world id) ≡ Some t)
+
+-- a task continues in this moment: by its timer, or in the next one
+abbrev pub Wakes : Runner → ℕ → Type 0
+Wakes r t = WakesByTimer r t ⊎ ((r.later.items ≢ []) × (t ≡ suc r.world.tick))
 
 -- The moment of the next jump: a task continues in it, and none earlier. There is only one.
 pub record IsNextMoment (r : Runner) (t : ℕ) : Type 0 where
@@ -85,6 +90,7 @@ BeganBefore t (ToBegin at) = Unit {0}
 BeganBefore t (Asked kernel purpose) = Unit {0}
 BeganBefore t (Asleep paced ticks since) = since < t
 BeganBefore t (Waiting event since) = since < t
+BeganBefore t (Queued object ask since body) = since < t
 BeganBefore t (GivingUp since) = Unit {0}
 BeganBefore t (Awaits id since) = Unit {0}
 BeganBefore t Over = Unit {0}
@@ -110,8 +116,10 @@ pub record IsWaking (r : Runner) : Type 0 where
   pub unchanged : NoneChanged r.world
   pub none_current : r.batch.current ≡ []
   pub next : All (IsCalledAdded r.task_table r.world) r.batch.next
-  pub once : (id : ℕ) → times_shelved r.batch r.clock id ≡ running_times r.world.book (running_at r.task_table id)
-  pub someone : (r.batch.next ≢ []) ⊎ IsAnyNow r.task_table r.world r.clock
+  -- those that continue a round later do so in this moment
+  pub later : All (IsCalledAdded r.task_table r.world) r.later.items
+  pub once : (id : ℕ) → times_shelved r.batch r.later.items r.clock id ≡ running_times r.world.book (running_at r.task_table id)
+  pub someone : (r.batch.next ≢ []) ⊎ ((r.later.items ≢ []) ⊎ IsAnyNow r.task_table r.world r.clock)
 
 -- no sleeper is left that sees a cancellation
 abbrev pub NoneSees : Runner → Type 0
@@ -119,6 +127,6 @@ NoneSees r =
     (id due : ℕ) → due_of r.clock id ≡ Some due → IsSomeAnd (running_at r.task_table id)
     (λ (x : Running). is_reached (sight_asleep r.world (scope_of x.task) x.task.task_state) r.world.tick ≡ false)
 
--- nothing but the timers, the sleepers, the tasks that wait for events and the next batch changed
+-- nothing but the timers, the sleepers, the tasks that wait for events, those that continue a round later and the next batch changed
 abbrev pub WakesOnly : Runner → Runner → Type 0
-WakesOnly old new = new ≡ record old { clock = new.clock; sleepers = new.sleepers; waiters = new.waiters; batch = new.batch }
+WakesOnly old new = new ≡ record old { clock = new.clock; sleepers = new.sleepers; waiters = new.waiters; batch = new.batch; later = new.later }

@@ -2,6 +2,7 @@ pub mod Settings
 pub mod Limits
 pub mod Runs
 pub mod Shared
+pub mod Serving
 pub mod Shelves
 pub mod Phases
 pub mod Steps

@@ -1,10 +1,11 @@
 -- What clauses state about a run.
 use Rattle.std.specs.Prelude.{◌≡◌, ℕ, ◌<◌, Bool, true, false, List, [], ◌∷◌, map}
 use Rattle.job_tree.specs.Tree.{Tree}
-use Rattle.job_meaning.specs.Log.{Table}
 use Rattle.job_meaning.specs.Moments.{clock_of}
 use Rattle.job_meaning.specs.Meaning.{From, root_log, records_of, all_entered, cancelled_from_by, meaning_end, meaning_cancelled_from}
-use Rattle.job_meaning.specs.Follow.{follow, IsSettled}
+use Rattle.job_meaning.specs.Follow.{follow}
+use Rattle.turn_semantics.specs.Midway.{Tables}
+use Rattle.interleavings.specs.Laws.{IsSettledBy}
 use Rattle.job_meaning.specs.Shown.{Row, Ending, well, by_cancellation, with_exception, row_of, meaning_rows}
 use Rattle.task_table.specs.declared.record.Record.{Record}
 use Rattle.task_machine.specs.declared.entry.ScopeFrom.{ScopeFrom}
@@ -56,14 +57,16 @@ pub record IsRun (job : Tree) (input : List ℕ) (run : Run) : Type 0 where
   pub slices : AreSlices input (records_in run)
   pub cancelled_from : scopes_cancelled_from_of run ≡ meaning_cancelled_from job input
 
--- And it is the result of following a table: its records, and the moments of cancellation in the table.
-pub record IsFollowed (table : Table) (job : Tree) (input : List ℕ) (run : Run) : Type 0 where
-  pub rows : rows_of run ≡ map (row_of input) (records_of (clock_of job.format) (root_log job (follow table job input)))
-  pub cancelled_from : scopes_cancelled_from_of run ≡ cancelled_from_by table (all_entered (root_log job (follow table job input)))
+-- And it is the result of following tables: its records, and the moments of cancellation in the first table.
+pub record IsFollowed (k : Tables) (job : Tree) (input : List ℕ) (run : Run) : Type 0 where
+  pub rows : rows_of run ≡ map (row_of input) (records_of (clock_of job.format) (root_log job (follow k.cancelled_from k.granted job input)))
+  pub cancelled_from :
+      scopes_cancelled_from_of run
+      ≡ cancelled_from_by k.cancelled_from (all_entered (root_log job (follow k.cancelled_from k.granted job input)))
 
--- for any settled table
+-- for any settled tables
 abbrev pub FollowsEach : Tree → List ℕ → Run → Type 0
-FollowsEach job input run = (table : Table) → IsSettled table job input → IsFollowed table job input run
+FollowsEach job input run = (k : Tables) → IsSettledBy k job input → IsFollowed k job input run
 
 -- `Limit` is returned if the meaning ends later
 abbrev pub IsLate : Tree → List ℕ → ℕ → RunFault → Type 0

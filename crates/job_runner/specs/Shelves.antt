@@ -1,6 +1,6 @@
 -- Where the tasks of a run are kept between their turns: in the current batch or the next one, with a timer, or waiting for a
 -- nursery of which a member runs.
-use Rattle.std.specs.Prelude.{◌≡◌, ◌≢◌, ℕ, ◌⊎◌, ◌+◌, ◌<◌, ◌≤◌, suc, if◌then◌else◌, false, List, Option, Some, None, [], map, All, IsSomeAnd}
+use Rattle.std.specs.Prelude.{◌≡◌, ◌≢◌, ℕ, ◌⊎◌, ◌+◌, ◌<◌, ◌≤◌, suc, if◌then◌else◌, false, List, Option, Some, None, [], ◌∷◌, map, All, IsSomeAnd}
 use Rattle.std.specs.Option.{ForSome}
 use Rattle.clock.specs.Clock.{now_of, limit_of, due_of}
 use Rattle.clock.specs.Clock as timers

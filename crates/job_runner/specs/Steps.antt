@@ -1,6 +1,6 @@
 -- The state after each step of a turn.
 use Rattle.std.specs.Option.{ForSome}
-use Rattle.std.specs.Prelude.{◌≡◌, ◌≢◌, ℕ, zero, suc, ◌+◌, ◌<◌, ◌≤◌, Bool, true, false, Option, Some, None, List, [], ◌∷◌, ◌++◌, length, map, slice_get, IsSomeAnd}
+use Rattle.std.specs.Prelude.{◌≡◌, ◌≢◌, ℕ, suc, ◌+◌, ◌<◌, ◌≤◌, Bool, true, false, Option, Some, None, List, [], ◌∷◌, ◌++◌, length, map, slice_get, All, IsSomeAnd}
 use Rattle.cancel_scopes.specs.Sight.{Tick, sight}
 use Rattle.cancel_scopes.specs.Tree.{stack_of}
 use Rattle.exceptions.specs.Exceptions.{Exc}
@@ -8,8 +8,9 @@ use Rattle.clock.specs.Clock.{due_of, Updates, SameTime}
 use Rattle.task_table.specs.declared.entry.Call.{Call}
 use Rattle.task_table.specs.declared.entry.Call.TheVariants.{Begin, Settled}
 use Rattle.task_table.specs.Entries.{Added}
-use Rattle.job_meaning.specs.Follow.{IsSettled}
-use Rattle.job_meaning.specs.Log.{Table}
+use Rattle.input_lines.specs.Part.{buffer_of}
+use Rattle.turn_semantics.specs.Midway.{Tables}
+use Rattle.interleavings.specs.Laws.{IsSettledBy}
 use Rattle.job_meaning.specs.Moments.{clock_of, tick_of, a_round_after}
 use Rattle.job_meaning.specs.declared.clock.Clock.{Clock}
 use Rattle.job_meaning.specs.declared.clock.Clock.TheVariants.{ByTicks as by_ticks, ByRounds as by_rounds}
@@ -28,7 +29,11 @@ use Rattle.task_table.specs.TaskTable.{running_at, task_of, ended_task_of, start
 use Rattle.task_table.specs.declared.task_table.TaskTable.{TaskTable}
 use Rattle.task_table.specs.declared.task_table.Running.{Running}
 use Rattle.job_runner.specs.declared.runner.Runner.{Runner}
-use Rattle.job_runner.specs.Shelves.{IsSoundJob, AreShelved, state_in}
+use Rattle.task_machine.specs.declared.stop.ObjectRequest.{ObjectRequest}
+use Rattle.task_machine.specs.Worlds.{label_at}
+use Rattle.run_refinement.specs.Sharing.{round_act, asked_of}
+use Rattle.job_runner.specs.Shared.{round_act_of}
+use Rattle.job_runner.specs.Shelves.{IsSoundJob, AreShelved, HoldsParts, IsActOf, state_in}
 
 -- ---- the tasks that a task started
 
@@ -61,24 +66,18 @@ abbrev pub calls_in : Clock → List ℕ → Call → List Added
 calls_in by_ticks ids call = map (λ (id : ℕ). (id, call)) ids
 calls_in by_rounds ids call = []
 
--- the timer of a task that is so often among some which have this moment, and had this timer
-abbrev pub timer_among : ℕ → ℕ → Option ℕ → Option ℕ
-timer_among zero moment due = due
-timer_among (suc n) moment due = Some moment
-
--- the timer of a task afterwards: where there are rounds, each of them has one
-abbrev pub timer_in : Clock → List ℕ → ℕ → ℕ → Option ℕ → Option ℕ
-timer_in by_ticks ids moment id due = due
-timer_in by_rounds ids moment id due = timer_among (times id ids) moment due
+-- what continues in the next moment: where there are rounds, all of them
+abbrev pub calls_later : Clock → List ℕ → Call → List Added
+calls_later by_ticks ids call = []
+calls_later by_rounds ids call = map (λ (id : ℕ). (id, call)) ids
 
 -- The tasks with these ids continue a round later: where a moment is a tick, they were added to the next batch with this call, and
--- otherwise each has a timer.
+-- otherwise to those that continue in the next moment.
 pub record IsReadied (ids : List ℕ) (call : Call) (old new : Runner) : Type 0 where
   pub next : new.batch.next ≡ old.batch.next ++ calls_in old.world.clock ids call
-  pub timers : (id : ℕ) → due_of new.clock id ≡ timer_in old.world.clock ids (suc old.world.tick) id (due_of old.clock id)
-  pub time : SameTime old.clock new.clock
+  pub later : new.later.items ≡ old.later.items ++ calls_later old.world.clock ids call
   pub current : new.batch.current ≡ old.batch.current
-  pub rest : new ≡ record old { batch = new.batch; clock = new.clock }
+  pub rest : new ≡ record old { batch = new.batch; later = new.later }
 
 -- The tasks that waited in the world were taken, and begin a round later.
 pub record TakesStarted (old new : Runner) (parent : ℕ) : Type 0 where
@@ -111,6 +110,22 @@ pub record TakesSet (old new : Runner) : Type 0 where
   pub none_left : new.world.set.items ≡ []
   pub wakes : WakesWaiters old.world.set.items (suc old.world.tick) old (record new { world = old.world })
 
+-- ---- what a task did to limiters and channels
+
+-- What the task of a row did to limiters and channels was taken from the world, and is kept, to be served at the end of the moment.
+pub record TakesActs (old new : Runner) (row : ℕ) : Type 0 where
+  pub world : new.world ≡ record old.world { acts = new.world.acts }
+  pub none_left : new.world.acts.items ≡ []
+  pub kept : map round_act_of new.round.items ≡ map round_act_of old.round.items ++ map (round_act row) old.world.acts.items
+  pub lent : All (IsActOf old.input.now) old.round.items → All (IsActOf old.input.now) new.round.items
+  pub rest : new ≡ record old { world = new.world; round = new.round }
+
+-- What the task of a row asks is kept, where the limiter or channel has a label.
+pub record KeepsAsk (old new : Runner) (row : ℕ) (request : ObjectRequest) : Type 0 where
+  pub kept : map round_act_of new.round.items ≡ map round_act_of old.round.items ++ asked_of row request (label_at old.world request.object)
+  pub lent : buffer_of request.part ≡ old.input.now → All (IsActOf old.input.now) old.round.items → All (IsActOf old.input.now) new.round.items
+  pub rest : new ≡ record old { round = new.round }
+
 -- ---- a task that stays
 
 -- the sleepers know a task by the scope that encloses it, if one does
@@ -135,7 +150,9 @@ pub record IsStopping (id row : ℕ) (stop : Stop) (r : Runner) : Type 0 where
   pub counts : r.world.clock ≡ clock_of r.job.now.format
   pub shelved : AreShelved (Some id) r
   pub lives : IsSomeAnd (running_at r.task_table id) (λ (x : Running). (x.row ≡ row) × StopSays r.world x.task stop)
-  pub interleaving : (k : Table) → IsSettled k r.job.now r.input.now →
+  -- the parts that limiters and channels hold, or that are to be sent, are of the input
+  pub lent : HoldsParts r
+  pub interleaving : (k : Tables) → IsSettledBy k r.job.now r.input.now →
       StoppedIn k r.job.now r.input.now r.world.tick (task_count r.task_table) row stop (state_in r)
 
 -- what does not change when the runner handles a stop

@@ -11,23 +11,25 @@ use Rattle.job_meaning.specs.Moments.{tick_of}
 use Rattle.job_meaning.specs.declared.clock.Clock.{Clock}
 use Rattle.job_meaning.specs.declared.clock.Clock.TheVariants.{ByTicks as by_ticks, ByRounds as by_rounds}
 use Rattle.task_machine.specs.declared.stop.Stop.{Stop}
-use Rattle.task_machine.specs.declared.stop.Stop.TheVariants.{Ask, Sleep, WaitFor, GiveUp, Wait, Ended}
+use Rattle.task_machine.specs.declared.stop.Stop.TheVariants.{Ask, Sleep, WaitFor, Queue, GiveUp, Wait, Ended}
 use Rattle.task_machine.specs.declared.stop.Wake.{Wake}
 use Rattle.task_machine.specs.declared.world.World.{World}
 use Rattle.task_table.specs.declared.task_table.TaskTable.{TaskTable}
 use Rattle.task_table.specs.TaskTable.{HasTurn, Ends}
 use Rattle.job_runner.specs.declared.runner.Runner.{Runner}
-use Rattle.job_runner.specs.Steps.{TakesStarted, TakesSet}
+use Rattle.job_runner.specs.Steps.{TakesStarted, TakesSet, TakesActs}
 
--- The task with an id continued with this wake to its next stop, and the tasks that it started and the events that it set were taken
--- from the world.
+-- The task with an id continued with this wake to its next stop, and the tasks that it started, the events that it set and what it did to
+-- limiters and channels were taken from the world.
 pub record GoesOn (id : ℕ) (wake : Wake) (stop : Stop) (old new : Runner) : Type 0 where
   pub task_table : TaskTable
   pub world : World
   pub turn : HasTurn old.task_table task_table old.world world id wake stop
   pub after : Runner
   pub started : TakesStarted (record old { world = world; task_table = task_table; turns = old.turns + 1 }) after turn.row
-  pub set : TakesSet after new
+  pub woken : Runner
+  pub set : TakesSet after woken
+  pub acts : TakesActs woken new turn.row
 
 abbrev pub at_once : Clock → (sees_now is_due : Bool) → Option Call
 at_once by_rounds sees_now is_due = None
@@ -50,6 +52,7 @@ abbrev pub ComesOf : ℕ → Stop → Runner → Runner → Type 0
 ComesOf id (Ask request) old new = IsSameRunState old new
 ComesOf id (Sleep due) old new = IsSameRunState old new
 ComesOf id (WaitFor event) old new = IsSameRunState old new
+ComesOf id (Queue request) old new = IsSameRunState old new
 ComesOf id (GiveUp due) old new = IsSameRunState old new
 ComesOf id (Wait nursery) old new = IsSameRunState old new
 ComesOf id (Ended exc) old new =
@@ -76,7 +79,8 @@ abbrev pub with_answers : Runner → List Answer → Runner
 with_answers r answers = record r { batch = record { current = answers_placed r.batch.current answers; next = r.batch.next } }
 
 -- Every entry of the current batch had its turn, in the order of the picks, in the same moment. What the turns added is the current
--- batch now, and the sleepers were updated with the effective deadlines that were lowered.
+-- batch now, and the sleepers were updated with the effective deadlines that were lowered. If nothing was added, what was done to limiters
+-- and channels in the moment is served.
 pub record Commits {P : Type 0} (picks : P → ℕ → ℕ → P → Type 0) (old new : Runner) (answers : List Answer) (before after : P) : Type 0 where
   pub last : Runner
   pub turns : TakesTurns picks (with_answers old answers) before last after

@@ -1,4 +1,11 @@
 //! The limiters and channels of a run.
+ghost use Rattle.std.specs.Prelude.{◌≡◌, ℕ, List, None, OnOk};
+ghost use Rattle.std.specs.Option.{ForSome};
+ghost use Rattle.exceptions.specs.Exceptions.{Label as LabelOf};
+ghost use Rattle.objects.specs.Held.{AreGivenOf, IsObjectOf, IsOperationOf};
+ghost use Rattle.job_runner.specs.Serving.{Opens, ServesAt};
+ghost use Rattle.job_runner.specs.Shared.{object_at};
+
 use exceptions::Label;
 use indexmap::IndexMap;
 use job_tree::ObjectKind;
@@ -14,27 +21,38 @@ pub(crate) struct ObjectTable<'a> {
 
 impl<'a> ObjectTable<'a> {
     // Returns an empty table. Takes no memory.
-    pub(crate) fn new(alloc: Global) -> ObjectTable<'a> {
+    pub(crate) fn new(alloc: Global) -> ObjectTable<'a>
+        ensures { (label : LabelOf) → object_at result label ≡ None }
+    {
         ObjectTable {
             alloc,
             by_label: IndexMap::new(alloc),
         }
     }
 
-    // Opens a limiter or channel of that kind, which has a label that none had before.
-    pub(crate) fn open(&mut self, label: Label, kind: ObjectKind) -> Result<(), AllocError> {
+    // Opens a limiter or channel of that kind, which has a label that none had before. After an error the table can only be
+    // dropped.
+    pub(crate) fn open(&mut self, label: Label, kind: ObjectKind) -> Result<(), AllocError>
+        ensures opens { OnOk result (Opens kind label self.old self.new) }
+    {
         self.by_label.insert(label, Object::open(self.alloc, kind))?;
         Ok(())
     }
 
-    // Serves what is done to the limiter or channel of that label, and adds what it grants to `given`.
+    // Serves what is done to the limiter or channel of that label, and adds what it grants to `given`. After an error the table can
+    // only be dropped.
     pub(crate) fn serve<Q: Queues>(
         &mut self,
         label: &Label,
         operation: Operation<'a>,
         queues: &Q,
         given: &mut Vec<Given<'a>>,
-    ) -> Result<(), AllocError> {
+    ) -> Result<(), AllocError>
+        ensures serves { OnOk result (ServesAt (Q.waits queues.now) operation.entry label.now self.old self.new given.old.items given.new.items) }
+        ensures lent { OnOk result ((input : List ℕ) → ((l : LabelOf) → ForSome (object_at self.old l) (IsObjectOf input)) →
+            IsOperationOf input operation.entry → AreGivenOf input given.old.items →
+            ((l : LabelOf) → ForSome (object_at self.new l) (IsObjectOf input)) × AreGivenOf input given.new.items) }
+    {
         match self.by_label.get_mut(label) {
             Some(object) => object.serve(operation, queues, given),
             None => Ok(()),

@@ -1,4 +1,11 @@
 //! What tasks do to limiters and channels in a moment is served at its end, in the order of records.
+ghost use Rattle.std.specs.Prelude.{◌≡◌, ◌<◌, [], All, IfOk, OnOk};
+ghost use Rattle.task_table.specs.TaskTable.{task_count, IsTaskTable};
+ghost use Rattle.job_runner.specs.Rounds.{ServesRound};
+ghost use Rattle.job_runner.specs.Serving.{AreOrdered};
+ghost use Rattle.job_runner.specs.Shelves.{IsGoing};
+ghost use Rattle.job_runner.specs.Steps.{TakesActs, KeepsAsk};
+
 use crate::runner::Runner;
 use exceptions::Label;
 use job_tree::ObjectKind;
@@ -31,7 +38,9 @@ struct PlacedAct<'a> {
 
 impl<'a> Runner<'a> {
     // Takes what the task of a row did to limiters and channels in its turn from the world.
-    pub(crate) fn take_acts(&mut self, row: usize) -> Result<(), AllocError> {
+    pub(crate) fn take_acts(&mut self, row: usize) -> Result<(), AllocError>
+        ensures { OnOk result (TakesActs self.old self.new row) }
+    {
         'acts: while let Some(act) = self.world.take_act() {
             let done = match act.act {
                 Act::Opens(kind) => Done::Opens(kind),
@@ -52,7 +61,9 @@ impl<'a> Runner<'a> {
         &mut self,
         row: usize,
         request: ObjectRequest<'a>,
-    ) -> Result<(), AllocError> {
+    ) -> Result<(), AllocError>
+        ensures { OnOk result (KeepsAsk self.old self.new row request.entry) }
+    {
         let Some(label) = self.world.label_of(request.object) else {
             return Ok(());
         };
@@ -72,7 +83,13 @@ impl<'a> Runner<'a> {
 
     // Serves what was done to limiters and channels in the present moment. The tasks that are granted something by it continue in
     // the next one.
-    pub(crate) fn serve_round(&mut self) -> Result<(), AllocError> {
+    pub(crate) fn serve_round(&mut self) -> Result<(), AllocError>
+        requires going { IsGoing None self.old }
+        requires unserved { self.old.through ≡ self.old.world.tick }
+        requires none_ready { (self.old.batch.current ≡ []) × (self.old.batch.next ≡ []) }
+        ensures going { OnOk result (IsGoing None self.new) }
+        ensures served { OnOk result (ServesRound self.old self.new) }
+    {
         self.through = self.world.now() + 1;
         if self.round.is_empty() {
             return Ok(());
@@ -119,7 +136,11 @@ fn in_record_order<'a>(
     alloc: Global,
     round: Vec<RoundAct<'a>>,
     task_table: &TaskTable<'a>,
-) -> Result<Vec<PlacedAct<'a>>, AllocError> {
+) -> Result<Vec<PlacedAct<'a>>, AllocError>
+    requires agree { IsTaskTable task_table.now }
+    requires rows { All (λ a. a.row < task_count task_table.now) round.items }
+    ensures { IfOk result (λ ordered. AreOrdered task_table.now round.items ordered.items) }
+{
     let mut placed = Vec::new(alloc);
     'acts: for act in round {
         let path = task_table.path(act.row)?;
