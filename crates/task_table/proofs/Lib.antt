@@ -11,3 +11,4 @@ pub mod Apart
 pub mod Growth
 pub mod Order
 pub mod TaskTables
+pub mod PathLemmas

@@ -1,5 +1,6 @@
 -- What rows and ids say once a task is started, has its turn or ends.
-use Rattle.std.proofs.Common.{◌≡◌, ◌≢◌, ℕ, ◌+◌, ◌<◌, List, [], ◌∷◌, ◌++◌, Option, Some, None, length, refl, ap, sym, ◌∙◌, arith}
+use Rattle.std.proofs.Common.{◌≡◌, ◌≢◌, ℕ, ◌+◌, ◌<◌, ◌≤◌, Bool, true, false, List, [], ◌∷◌, ◌++◌, Option, Some, None, length, refl, ap, sym, subst, ◌∙◌, arith, nat_lt}
+use Rattle.std.proofs.lemmas.Bool.{ltb-true, ltb-false}
 use Rattle.std.specs.Prelude.{slice_get, slice_set}
 use Rattle.std.specs.Option.{option_map}
 use Rattle.std.proofs.lemmas.List.{length_push, length-set}
@@ -14,7 +15,7 @@ use Rattle.task_table.specs.declared.rows.Ended.{Ended}
 use Rattle.task_table.specs.declared.task_table.Running.{Running}
 use Rattle.task_table.specs.declared.task_table.TaskTable.{TaskTable}
 use Rattle.task_table.specs.Rows.{ChildrenAreApart, IsNewRow}
-use Rattle.task_table.specs.TaskTable.{running_at, row_at, task_count, task_unless, task_by, ended_task_from, ended_task_by, start_by, children_by, parent_by, id_by, task_of, HasRow, Lives, IsTaskTable, SameBut, HasRoot, Starts, Ends}
+use Rattle.task_table.specs.TaskTable.{running_at, row_at, task_count, task_unless, task_by, ended_task_from, ended_task_by, start_by, children_by, parent_by, id_by, task_of, parent_of, HasRow, Lives, IsTaskTable, SameBut, HasRoot, Starts, Ends}
 use Rattle.task_table.proofs.Growth.{tree_first, tree_same, tree_more}
 use Rattle.task_table.proofs.Inverse.{AreInverse, inverse_same, inverse_added, inverse_removed, other_pair}
 use Rattle.task_table.proofs.Lists.{Changes, changes_set, changes_push, kept, set_same}
@@ -68,8 +69,9 @@ inverse_of r ok = record {
       ap (row_of_id r) (sym z.3) ∙ ap row_under l.is ∙ ap Some l.row_is;
 }
 
-table_of : (r : TaskTable) → AreInverse (row_of_id r) (id_of_row r) → ChildrenAreApart r.rows.items → IsTaskTable r
-table_of r h tree = record {
+table_of : (r : TaskTable) → AreInverse (row_of_id r) (id_of_row r) → ChildrenAreApart r.rows.items →
+    ((p : ℕ) → 0 < p → p < task_count r → parent_of r p < p) → IsTaskTable r
+table_of r h tree earlier = record {
   rows = λ id x is.
       let z = id_read (row_at r x.row) id (h.there id x.row (ap row_under is)) in
       record { row = z.0; is = z.1; endless = z.2; id_is = z.3 };
@@ -77,6 +79,7 @@ table_of r h tree = record {
       let x = row_read (running_at r row.task) p (h.back p row.task (id_here (row_at r p) row row.task is none refl)) in
       record { running = x.0; is = x.1; row_is = x.2 };
   tree = tree;
+  earlier = earlier;
 }
 
 -- the row of a task that lives is there
@@ -192,6 +195,21 @@ module _ {old new : TaskTable} {p : ℕ} {child : Task} {tick id : ℕ} (ok : Is
         others = λ j differs. ap living_id (next_changes.others j differs) ∙ said_before living_id same_id j;
       }))
       (rw a.rows (tree_more old.rows.items p a.before a.grown a.row ok.tree a.was a.child_is a.begins.children))
+      earlier_started
+    where
+      of_order : (j : ℕ) → 0 < j → j < task_count new → (b : Bool) → nat_lt j (task_count old) ≡ b → parent_of new j < j
+      of_order j some less true e =
+          let below : j < task_count old = ltb-true j (task_count old) e in
+          subst (λ (n : ℕ). n < j) (sym (starts.same_parent j below)) (ok.earlier j some below)
+      of_order j some less false e =
+          let above : task_count old ≤ j = ltb-false j (task_count old) e in
+          let last : j ≡ task_count old = omega (arith, starts.more) in
+          let parent : parent_of new j ≡ p = ap (parent_of new) last ∙ starts.parent_is in
+          let below : p < task_count old = slice_get_within old.rows.items p a.before a.was in
+          omega arith
+
+      earlier_started : (j : ℕ) → 0 < j → j < task_count new → parent_of new j < j
+      earlier_started j some less = of_order j some less (nat_lt j (task_count old)) refl
 
 -- ---- a task that has its turn or ends
 
@@ -240,6 +258,10 @@ module _ {old new : TaskTable} {id : ℕ} {x : Running} {y : Option Running} {be
   still_apart : ChildrenAreApart new.rows.items
   still_apart = rw w.rows (tree_same old.rows.items x.row before after ok.tree w.was (rw w.same refl))
 
+  still_earlier : (j : ℕ) → 0 < j → j < task_count new → parent_of new j < j
+  still_earlier j some less =
+      subst (λ (n : ℕ). n < j) (sym (same_but.parent j)) (ok.earlier j some (subst (λ (n : ℕ). j < n) same_but.many less))
+
 -- ---- a turn
 
 module _ (old new : TaskTable) (id : ℕ) (x y : Running) (ok : IsTaskTable old) (lived : running_at old id ≡ Some x)
@@ -276,6 +298,7 @@ module _ (old new : TaskTable) (id : ℕ) (x y : Running) (ok : IsTaskTable old)
       row_under (ap Some row))
       (said_alike ok turn_writes living_id refl))
       (still_apart ok turn_writes)
+      (still_earlier ok turn_writes)
 
 -- ---- an end
 
@@ -326,6 +349,7 @@ module _ {old new : TaskTable} {id tick : ℕ} {exc : Option held.Exc} {x : Runn
         others = λ j differs. ap living_id (end_changes.others j differs);
       }))
       (still_apart ok c.writes)
+      (still_earlier ok c.writes)
 
 -- ---- the root
 
@@ -375,3 +399,4 @@ module _ {r : TaskTable} {root : Task} {id : ℕ} (f : First r root id) where
         others = λ j differs. ap living_id (first_changes.others j differs);
       }))
       (rw f.rows (tree_first f.row f.begins.children))
+      (λ j some less. let one : task_count r ≡ 1 = ap length f.rows in absurd (omega arith))

@@ -1,6 +1,6 @@
 -- The tasks of a run as the runner keeps them: the tasks that have not ended by their ids, and a row for each task
 -- ever started.
-use Rattle.std.specs.Prelude.{◌≡◌, ◌≢◌, ◌==◌, ℕ, zero, suc, ◌+◌, ◌<◌, if◌then◌else◌, Option, Some, None, List, [], ◌∷◌, ◌++◌, length, slice_get}
+use Rattle.std.specs.Prelude.{◌≡◌, ◌≢◌, ℕ, zero, suc, ◌+◌, ◌<◌, Option, Some, None, List, [], ◌∷◌, ◌++◌, length, slice_get}
 use Rattle.std.specs.Option.{option_map}
 use Rattle.exceptions.specs.Held.{exc_of}
 use Rattle.exceptions.specs.declared.exc.Exc as held
@@ -103,7 +103,8 @@ id_of r p = id_by (row_at r p)
 -- the rows from the root's to one, of which there are at most the given number
 abbrev pub path_by : ℕ → (ℕ → ℕ) → ℕ → List ℕ
 path_by zero parent p = p ∷ []
-path_by (suc n) parent p = if p == 0 then 0 ∷ [] else path_by n parent (parent p) ++ p ∷ []
+path_by (suc n) parent zero = 0 ∷ []
+path_by (suc n) parent (suc p) = path_by n parent (parent (suc p)) ++ suc p ∷ []
 
 -- each was started by a task of an earlier row
 abbrev pub path_of : TaskTable → ℕ → List ℕ
