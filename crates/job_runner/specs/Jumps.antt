@@ -22,6 +22,7 @@ use Rattle.job_runner.specs.declared.fault.RunFault.{RunFault}
 use Rattle.job_runner.specs.declared.fault.RunFault.TheVariants.{Limit, NoMemory}
 use Rattle.job_runner.specs.declared.runner.Runner.{Runner}
 use Rattle.job_runner.specs.Limits.{last_of}
+use Rattle.job_runner.specs.Shared.{later_calls}
 use Rattle.job_runner.specs.Shelves.{moment_of, AreKnown, IsCalledAdded, IsConsistent, NoneChanged, times_shelved, running_times}
 
 abbrev pub seen_call_if : Bool → Call
@@ -57,6 +58,12 @@ pub record IsNextCancel (r : Runner) (cancel : Tick) : Type 0 where
   pub is_first : IsFirst r.sleepers first
   pub is : cancel ≡ option_map (max (suc r.world.tick)) first
 
+-- The moment to which the clock jumps, if no timer is due before: the next one, if a task continues a round later, or that of the first
+-- cancellation.
+abbrev pub IsNextRound : Runner → Tick → Type 0
+IsNextRound r next =
+    ((later_calls r ≢ []) × (next ≡ Some (suc r.world.tick))) ⊎ ((later_calls r ≡ []) × IsNextCancel r next)
+
 -- a task with a timer continues in this moment: its own has come, or it waits and sees a cancellation from then on or since before
 pub record WakesByTimer (r : Runner) (t : ℕ) : Type 0 where
   pub id : ℕ
@@ -66,7 +73,7 @@ pub record WakesByTimer (r : Runner) (t : ℕ) : Type 0 where
 
 -- a task continues in this moment: by its timer, or in the next one
 abbrev pub Wakes : Runner → ℕ → Type 0
-Wakes r t = WakesByTimer r t ⊎ ((r.later.items ≢ []) × (t ≡ suc r.world.tick))
+Wakes r t = WakesByTimer r t ⊎ ((later_calls r ≢ []) × (t ≡ suc r.world.tick))
 
 -- The moment of the next jump: a task continues in it, and none earlier. There is only one.
 pub record IsNextMoment (r : Runner) (t : ℕ) : Type 0 where
@@ -117,9 +124,9 @@ pub record IsWaking (r : Runner) : Type 0 where
   pub none_current : r.batch.current ≡ []
   pub next : All (IsCalledAdded r.task_table r.world) r.batch.next
   -- those that continue a round later do so in this moment
-  pub later : All (IsCalledAdded r.task_table r.world) r.later.items
-  pub once : (id : ℕ) → times_shelved r.batch r.later.items r.clock id ≡ running_times r.world.book (running_at r.task_table id)
-  pub someone : (r.batch.next ≢ []) ⊎ ((r.later.items ≢ []) ⊎ IsAnyNow r.task_table r.world r.clock)
+  pub later : All (IsCalledAdded r.task_table r.world) (later_calls r)
+  pub once : (id : ℕ) → times_shelved r.batch (later_calls r) r.clock id ≡ running_times r.world.book (running_at r.task_table id)
+  pub someone : (r.batch.next ≢ []) ⊎ ((later_calls r ≢ []) ⊎ IsAnyNow r.task_table r.world r.clock)
 
 -- no sleeper is left that sees a cancellation
 abbrev pub NoneSees : Runner → Type 0

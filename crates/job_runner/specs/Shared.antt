@@ -40,9 +40,13 @@ act_of (Does operation) = act_by operation
 abbrev pub round_act_of : held.RoundAct → RoundAct
 round_act_of a = record { serial = a.row; object = a.object; act = act_of a.done }
 
+-- the tasks that continue in the next moment, each with its call
+abbrev pub later_calls : Runner → List Added
+later_calls r = r.later.next
+
 -- the tasks that are ready, in this moment or in the next one, each with its call
 abbrev pub ready_calls : Runner → List Added
-ready_calls r = map added_of r.batch.current ++ (r.batch.next ++ r.later.items)
+ready_calls r = map added_of r.batch.current ++ (r.batch.next ++ later_calls r)
 
 abbrev pub what_of : Call → Option What
 what_of (Granted grant) = Some (what_in grant)

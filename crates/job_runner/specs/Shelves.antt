@@ -49,7 +49,7 @@ use Rattle.job_runner.specs.Limits.{last_tick, last_of}
 use Rattle.task_table.specs.Rows.{times}
 use Rattle.task_table.specs.TaskTable.{Sharing, running_at, parent_of, task_count, run_state, IsTaskTable}
 use Rattle.job_runner.specs.declared.serving.RoundAct as held
-use Rattle.job_runner.specs.Shared.{what_of, sharing_in, ready_calls, object_at, IsDoneOf, IsCallOf}
+use Rattle.job_runner.specs.Shared.{what_of, sharing_in, later_calls, ready_calls, object_at, IsDoneOf, IsCallOf}
 
 -- ---- why a task is ready
 
@@ -232,9 +232,10 @@ pub record AreShelved (turning : Option ℕ) (r : Runner) : Type 0 where
   pub current : All (IsCalledEntry r.task_table r.world) r.batch.current
   pub next : All (IsCalledAdded r.task_table r.world) r.batch.next
   -- those that continue a round later may do so then
-  pub later : All (IsCalledAdded r.task_table (a_moment_later r.world)) r.later.items
-  pub once : (id : ℕ) → IsElse turning id → times_shelved r.batch r.later.items r.clock id ≡ running_times r.world.book (running_at r.task_table id)
-  pub away : ForSome turning (λ (id : ℕ). times_shelved r.batch r.later.items r.clock id ≡ 0)
+  pub none_later : r.later.current ≡ []
+  pub later : All (IsCalledAdded r.task_table (a_moment_later r.world)) (later_calls r)
+  pub once : (id : ℕ) → IsElse turning id → times_shelved r.batch (later_calls r) r.clock id ≡ running_times r.world.book (running_at r.task_table id)
+  pub away : ForSome turning (λ (id : ℕ). times_shelved r.batch (later_calls r) r.clock id ≡ 0)
 
 -- the tasks of the program, as a runner keeps them
 abbrev pub state_in : Runner → RunState

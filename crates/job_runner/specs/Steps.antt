@@ -32,7 +32,7 @@ use Rattle.job_runner.specs.declared.runner.Runner.{Runner}
 use Rattle.task_machine.specs.declared.stop.ObjectRequest.{ObjectRequest}
 use Rattle.task_machine.specs.Worlds.{label_at}
 use Rattle.run_refinement.specs.Sharing.{round_act, asked_of}
-use Rattle.job_runner.specs.Shared.{round_act_of}
+use Rattle.job_runner.specs.Shared.{later_calls, round_act_of}
 use Rattle.job_runner.specs.Shelves.{IsSoundJob, AreShelved, HoldsParts, IsActOf, state_in}
 
 -- ---- the tasks that a task started
@@ -75,7 +75,7 @@ calls_later by_rounds ids call = map (λ (id : ℕ). (id, call)) ids
 -- otherwise to those that continue in the next moment.
 pub record IsReadied (ids : List ℕ) (call : Call) (old new : Runner) : Type 0 where
   pub next : new.batch.next ≡ old.batch.next ++ calls_in old.world.clock ids call
-  pub later : new.later.items ≡ old.later.items ++ calls_later old.world.clock ids call
+  pub later : later_calls new ≡ later_calls old ++ calls_later old.world.clock ids call
   pub current : new.batch.current ≡ old.batch.current
   pub rest : new ≡ record old { batch = new.batch; later = new.later }
 

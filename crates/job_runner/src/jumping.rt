@@ -3,7 +3,7 @@ ghost use Rattle.job_runner.specs.declared.runner.Phase.TheVariants.{Ready, Bloc
 ghost use Rattle.std.specs.Option.{ForSome};
 ghost use Rattle.task_machine.specs.Events.{WaitsWithin};
 ghost use Rattle.task_table.specs.TaskTable.{running_at};
-ghost use Rattle.job_runner.specs.Jumps.{IsNextCancel, IsNextMoment, IsWaking, PassesLimit, NoneSees, WakesOnly, seen_call};
+ghost use Rattle.job_runner.specs.Jumps.{IsNextCancel, IsNextRound, IsNextMoment, IsWaking, PassesLimit, NoneSees, WakesOnly, seen_call};
 ghost use Rattle.job_runner.specs.Phases.{phase_of};
 ghost use Rattle.job_runner.specs.Runs.{IsLate};
 ghost use Rattle.job_runner.specs.Shelves.{AreShelved, IsSameJob, IsUnderway};
@@ -12,6 +12,7 @@ use crate::fault::RunFault;
 use crate::runner::Runner;
 use clock::{Jump, TaskId};
 use std::alloc::AllocError;
+use std::mem;
 use task_table::Call;
 
 impl<'a> Runner<'a> {
@@ -39,7 +40,7 @@ impl<'a> Runner<'a> {
             Jump::To(moment) => {
                 runner.world.set_now(moment);
                 runner.through = moment;
-                runner.wake_later()?;
+                runner.wake_later();
                 runner.wake_seen()?;
                 runner.wake_due()?;
                 runner.batch.turn_over();
@@ -50,21 +51,24 @@ impl<'a> Runner<'a> {
 
     // Returns the next moment, if a task continues a round later; else the one in which the first sleeper that sees a cancellation
     // continues, or `None` if none does.
-    fn next_round(&self) -> Option<u64> {
-        if self.later.is_empty() {
+    fn next_round(&self) -> Option<u64>
+        requires { self.now.world.tick ≤ 2 ^ 62 }
+        ensures { IsNextRound self.now result }
+    {
+        if !self.later.has_next() {
             return self.next_cancel();
         }
         Some(self.world.now() + 1)
     }
 
     // Each task that continues a round later is ready.
-    fn wake_later(&mut self) -> Result<(), AllocError> {
-        let later = std::mem::replace(&mut self.later, Vec::new(self.alloc));
-        'later: for entry in later {
-            let (id, call) = entry;
-            self.batch.add(id, call)?;
-        }
-        Ok(())
+    fn wake_later(&mut self)
+        requires none_ready { (self.old.batch.current ≡ []) × (self.old.batch.next ≡ []) }
+        ensures ready { self.new.batch ≡ self.old.later }
+        ensures none { self.new.later ≡ self.old.batch }
+        ensures rest { self.new ≡ record self.old { batch = self.new.batch; later = self.new.later } }
+    {
+        mem::swap(&mut self.batch, &mut self.later);
     }
 
     // Returns the moment in which the first sleeper that sees a cancellation continues, or `None` if none does.

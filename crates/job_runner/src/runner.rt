@@ -56,7 +56,7 @@ pub struct Runner<'a> {
     pub(crate) waiters: EventWaiters,
     pub(crate) batch: ReadyBatch<'a>,
     // The tasks that continue a round later, where there are rounds.
-    pub(crate) later: Vec<(TaskId, Call<'a>)>,
+    pub(crate) later: ReadyBatch<'a>,
     pub(crate) objects: ObjectTable<'a>,
     // The moment before which limiters and channels have served what was done.
     pub(crate) through: u64,
@@ -103,7 +103,7 @@ impl<'a> Runner<'a> {
             sleepers: Sleepers::new(alloc),
             waiters: EventWaiters::new(alloc),
             batch,
-            later: Vec::new(alloc),
+            later: ReadyBatch::new(alloc),
             objects: ObjectTable::new(alloc),
             through: 0,
             round: Vec::new(alloc),
@@ -246,7 +246,7 @@ impl<'a> Runner<'a> {
     {
         match self.world.clock() {
             Clock::ByTicks => self.batch.add(id, call)?,
-            Clock::ByRounds => self.later.push((id, call))?,
+            Clock::ByRounds => self.later.add(id, call)?,
         }
         Ok(())
     }

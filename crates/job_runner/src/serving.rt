@@ -126,8 +126,7 @@ impl<'a> Runner<'a> {
         let id = self.task_table.id(given.who.row);
         self.clock.wake(id);
         self.sleepers.remove(id);
-        self.later.push((id, Call::Granted(given.grant)))?;
-        Ok(())
+        self.later.add(id, Call::Granted(given.grant))
     }
 }
 
@@ -139,7 +138,7 @@ fn in_record_order<'a>(
 ) -> Result<Vec<PlacedAct<'a>>, AllocError>
     requires agree { IsTaskTable task_table.now }
     requires rows { All (λ a. a.row < task_count task_table.now) round.items }
-    ensures { IfOk result (λ ordered. AreOrdered task_table.now round.items ordered.items) }
+    ensures { IfOk result (λ ordered. AreOrdered task_table.now round.entry.items ordered.items) }
 {
     let mut placed = Vec::new(alloc);
     'acts: for act in round {

@@ -1,4 +1,4 @@
-ghost use Rattle.std.specs.Prelude.{◌≡◌, ◌↔◌, ◌<◌, [], ◌∷◌, ◌++◌, length, map, slice_get, IsTrue, IsNone, IfOk, OnOk, OnErr, IfNone, IfSome};
+ghost use Rattle.std.specs.Prelude.{◌≡◌, ◌≢◌, ◌↔◌, ◌<◌, [], ◌∷◌, ◌++◌, length, map, slice_get, IsTrue, IsNone, IfOk, OnOk, OnErr, IfNone, IfSome};
 ghost use Rattle.std.specs.List.{remove};
 ghost use Rattle.task_table.specs.Entries.{without_answer, requests_of, answers_placed, AllPlaced, NonePlaced};
 ghost use Rattle.task_table.specs.Batch.{HandsOut};
@@ -90,6 +90,13 @@ impl<'a> ReadyBatch<'a> {
         ensures { IsTrue result ↔ (self.now.current ≡ []) }
     {
         self.count_left() == 0
+    }
+
+    /// Returns whether a task was added to the next batch.
+    pub fn has_next(&self) -> bool
+        ensures { IsTrue result ↔ (self.now.next ≢ []) }
+    {
+        !self.next.is_empty()
     }
 
     /// Returns the requests of the current batch, in the order of its tasks. The only error is that memory runs out.
