@@ -21,7 +21,7 @@ use Rattle.nursery_book.specs.declared.book.NurseryBook.{NurseryBook}
 use Rattle.turn_semantics.specs.Midway.{Place, Move}
 use Rattle.turn_semantics.specs.Steps.{onward, step_pass, handler_if, step_try, step_frames, step_of}
 use Rattle.task_machine.specs.declared.frame.Frame.{Frame}
-use Rattle.task_machine.specs.declared.frame.Frame.TheVariants.{Steps, Scope, Event, Nursery, Repeat, Try, Handler, Cleanup}
+use Rattle.task_machine.specs.declared.frame.Frame.TheVariants.{Steps, Scope, Event, Token, Received, Nursery, Repeat, Try, Handler, Cleanup}
 use Rattle.block_exits.specs.declared.kind.Kind.TheVariants as kind
 use Rattle.task_machine.specs.declared.stop.TaskState.TheVariants.{Awaits, Over}
 use Rattle.task_machine.specs.declared.stop.Moved.{Moved}
@@ -65,6 +65,8 @@ blocks_onto [] bs = bs
 blocks_onto (rest.steps_left ss ∷ fs) bs = blocks_onto fs bs
 blocks_onto (rest.in_scope fail ∷ fs) bs = blocks_onto fs (a_scope ∷ bs)
 blocks_onto (rest.in_event ∷ fs) bs = blocks_onto fs (a_scope ∷ bs)
+blocks_onto (rest.with_token limiter ∷ fs) bs = blocks_onto fs bs
+blocks_onto (rest.with_part received ∷ fs) bs = blocks_onto fs bs
 blocks_onto (rest.in_nursery ns ∷ fs) bs = blocks_onto fs (key_in ns ++ bs)
 blocks_onto (rest.in_repeat pass left cuts body ∷ fs) bs = blocks_onto fs bs
 blocks_onto (rest.in_try handler cleanup ∷ fs) bs = blocks_onto fs bs
@@ -80,6 +82,8 @@ onto_keys [] outer bs = refl
 onto_keys (Steps steps ∷ fs) outer bs = onto_keys fs (frame_of own_keys (Steps steps) ∷ outer) bs
 onto_keys (Scope fail ∷ fs) outer bs = onto_keys fs (rest.in_scope fail ∷ outer) bs
 onto_keys (Event ∷ fs) outer bs = onto_keys fs (rest.in_event ∷ outer) bs
+onto_keys (Token limiter ∷ fs) outer bs = onto_keys fs (frame_of own_keys (Token limiter) ∷ outer) bs
+onto_keys (Received part ∷ fs) outer bs = onto_keys fs (frame_of own_keys (Received part) ∷ outer) bs
 onto_keys (Nursery id ∷ fs) outer bs = onto_keys fs (rest.in_nursery (id ∷ []) ∷ outer) bs
 onto_keys (Repeat pass left cuts body ∷ fs) outer bs = onto_keys fs (frame_of own_keys (Repeat pass left cuts body) ∷ outer) bs
 onto_keys (Try handler cleanup ∷ fs) outer bs = onto_keys fs (frame_of own_keys (Try handler cleanup) ∷ outer) bs

@@ -19,18 +19,18 @@ use Rattle.turn_semantics.specs.Midway.{Place}
 use Rattle.turn_semantics.specs.Names.{names_at}
 use Rattle.turn_semantics.specs.Steps.{makes}
 use Rattle.task_machine.specs.declared.frame.Frame.{Frame}
-use Rattle.task_machine.specs.declared.frame.Frame.TheVariants.{Steps, Scope, Event, Nursery, Repeat, Try, Handler, Cleanup}
+use Rattle.task_machine.specs.declared.frame.Frame.TheVariants.{Steps, Scope, Event, Token, Received, Nursery, Repeat, Try, Handler, Cleanup}
 use Rattle.task_machine.specs.declared.stop.Moved.TheVariants.{On}
 use Rattle.task_machine.specs.Acts.{Enters, scoping_in}
 use Rattle.task_machine.specs.Entered.{EntersAt, IsBlock, EntersBlock, EntersNursery}
-use Rattle.task_machine.specs.Fitting.{Block, a_scope, a_nursery, blocks_of}
+use Rattle.task_machine.specs.Fitting.{Block, a_scope, a_nursery, blocks_of, received_in, received_inside}
 use Rattle.task_machine.specs.Frames.{frame_of, frames_onto, frames_of}
 use Rattle.task_machine.specs.Standing.{HasBlock, HasNurseryOf, Stands, Grown, IsOfOther, ChangesNurseries, Took, with_frames}
 use Rattle.task_machine.specs.States.{State, scope_at}
 use Rattle.task_machine.specs.Stops.{Numbers}
 use Rattle.task_machine.proofs.Acting.{block_of, entered_acts}
 use Rattle.task_machine.proofs.Blocks.{blocks_append, IsScope, scope_block}
-use Rattle.task_machine.proofs.FrameLemmas.{frames_push}
+use Rattle.task_machine.proofs.FrameLemmas.{frames_push, received_pushed}
 use Rattle.task_machine.proofs.Nurseries.{has_more, has_either, not_grown, updated_has, is_at}
 use Rattle.task_machine.proofs.Tooks.{none_noted, took_quiet}
 
@@ -41,6 +41,8 @@ block_frame : (numbers : Numbers) (top : Frame) (body : tree.Steps) → IsBlock 
 block_frame numbers (Steps steps) body e = ap (λ (ss : tree.Steps). rest.steps_left ss) e
 block_frame numbers (Scope fail) body e = absurd e
 block_frame numbers Event body e = absurd e
+block_frame numbers (Token limiter) body e = absurd e
+block_frame numbers (Received part) body e = absurd e
 block_frame numbers (Nursery id) body e = absurd e
 block_frame numbers (Repeat pass left cuts block) body e = absurd e
 block_frame numbers (Try handler cleanup) body e = absurd e
@@ -51,6 +53,8 @@ no_block : (top : Frame) (body : tree.Steps) → IsBlock top body → blocks_of 
 no_block (Steps steps) body e = refl
 no_block (Scope fail) body e = absurd e
 no_block Event body e = absurd e
+no_block (Token limiter) body e = absurd e
+no_block (Received part) body e = absurd e
 no_block (Nursery id) body e = absurd e
 no_block (Repeat pass left cuts block) body e = absurd e
 no_block (Try handler cleanup) body e = absurd e
@@ -74,6 +78,26 @@ entered_blocks fs gs exit top body block e =
     ∙ ap (λ (bs : List Block). blocks_of fs ++ bs) (blocks_append (exit ∷ []) (top ∷ [])
     ∙ ap (λ (bs : List Block). blocks_of (exit ∷ []) ++ bs)
     (no_block top body block) ∙ append-nil (blocks_of (exit ∷ [])))
+
+none_received : (top : Frame) (body : tree.Steps) → IsBlock top body → (inputs : List (List ℕ)) → received_inside top inputs ≡ inputs
+none_received (Steps steps) body e inputs = refl
+none_received (Scope fail) body e inputs = absurd e
+none_received Event body e inputs = absurd e
+none_received (Token limiter) body e inputs = absurd e
+none_received (Received part) body e inputs = absurd e
+none_received (Nursery id) body e inputs = absurd e
+none_received (Repeat pass left cuts block) body e inputs = absurd e
+none_received (Try handler cleanup) body e inputs = absurd e
+none_received (Handler others cleanup) body e inputs = absurd e
+none_received (Cleanup outcome) body e inputs = absurd e
+
+-- what was received once a block is entered: what was received at its exit, inside the outer frames
+pub entered_received : (fs gs : List Frame) (exit top : Frame) (body : tree.Steps) → IsBlock top body → gs ≡ fs ++ exit ∷ top ∷ [] →
+    received_in gs ≡ received_inside exit (received_in fs)
+entered_received fs gs exit top body block e =
+    received_pushed (fs ++ exit ∷ []) gs top (e ∙ sym (append_assoc fs (exit ∷ []) (top ∷ [])))
+    ∙ none_received top body block (received_in (fs ++ exit ∷ []))
+    ∙ received_pushed fs (fs ++ exit ∷ []) exit refl
 
 -- ---- the numbers of the children of one nursery
 
@@ -104,6 +128,8 @@ onto_others numbers more [] outer same = refl
 onto_others numbers more (Steps steps ∷ fs) outer same = onto_others numbers more fs (frame_of numbers (Steps steps) ∷ outer) same
 onto_others numbers more (Scope fail ∷ fs) outer same = onto_others numbers more fs (rest.in_scope fail ∷ outer) same
 onto_others numbers more (Event ∷ fs) outer same = onto_others numbers more fs (rest.in_event ∷ outer) same
+onto_others numbers more (Token limiter ∷ fs) outer same = onto_others numbers more fs (frame_of numbers (Token limiter) ∷ outer) same
+onto_others numbers more (Received part ∷ fs) outer same = onto_others numbers more fs (frame_of numbers (Received part) ∷ outer) same
 onto_others numbers more (Nursery id ∷ fs) outer same =
     ap (λ (ns : List ℕ). frames_onto more fs (rest.in_nursery ns ∷ outer)) (same id (inl refl))
     ∙ onto_others numbers more fs (rest.in_nursery (numbers id) ∷ outer)

@@ -1,5 +1,5 @@
 //! What tasks ask of limiters and channels, and what they do to them.
-ghost use Rattle.std.specs.Prelude.{◌≡◌, ◌≤◌, ◌^◌, ◌++◌, ℕ, [], ◌∷◌, List, All, None, Some, IfOk, OnOk};
+ghost use Rattle.std.specs.Prelude.{◌≡◌, ◌≤◌, ◌^◌, ◌++◌, ℕ, true, [], ◌∷◌, List, All, None, Some, IfOk, OnOk};
 ghost use Rattle.std.specs.Option.{ForSome};
 ghost use Rattle.cancel_scopes.specs.Sight.{seen};
 ghost use Rattle.cancel_scopes.specs.Tree.{IsOpen, outer_of};
