@@ -19,6 +19,7 @@ pub mod Fits
 pub mod Begins
 pub mod Cancelled
 pub mod Lists
+pub mod Served
 pub mod Nurseries
 pub mod Taking
 pub mod Kept

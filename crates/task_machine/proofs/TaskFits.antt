@@ -464,3 +464,14 @@ handled_fits k o s u f none is fits frames blocks received stays =
 
     starts : StartsFit (rest.in_handler o k ∷ frames_of (λ id. []) s.frames)
     starts = subst (λ (x : rest.Frame). StartsFit (x ∷ frames_of (λ id. []) s.frames)) is (starts_with s f fits)
+
+-- ---- what is granted
+
+-- what holds of a task is kept when it goes on with a block inside these frames, which were granted to it
+pub granted_fits : (s u : State) (hs : List rest.Frame) → Fits s None → blocks_of u.frames ≡ blocks_of s.frames →
+    frames_of (λ id. []) u.frames ≡ hs → AreInRangeFrames hs → StartsFit hs → AreOf (buffer_of s.part) (received_in u.frames) →
+    u ≡ record s { frames = u.frames; entries = u.entries } → Fits u None
+granted_fits s u hs fits blocks frames in_range starts lent stays =
+    subst (λ (x : State). Fits x None) (sym stays)
+    (frames_fit s s.frames (with_frames s u.frames) fits blocks (subst AreInRangeFrames (sym frames) in_range) lent
+    (subst StartsFit (sym frames) starts) refl)

@@ -125,6 +125,7 @@ keeps_then me before mid after old w new h k =
             labels = new.labels;
             events = new.events;
             set = new.set;
+            acts = new.acts;
             book = new.book;
             started = new.started;
           }) h.world;
@@ -134,20 +135,26 @@ keeps_then me before mid after old w new h k =
 
 -- what a wake leaves as it was, after what the task had cancelled itself was forgotten
 pub keeps_woken : (me : ℕ) (before mid after : Task) (old new : World) → mid ≡ record before { cancelled = mid.cancelled } →
-    after ≡ record mid { own = after.own; task_state = after.task_state; entries = after.entries; cancelled_from = after.cancelled_from } →
+    after ≡ record mid { frames = after.frames; own = after.own; task_state = after.task_state; entries = after.entries; cancelled_from = after.cancelled_from } →
     new ≡ record old { scopes = new.scopes; labels = new.labels; events = new.events; book = new.book } → IsInRangeTaskState after.task_state →
     SameWaiters old.book new.book → KeepsRest me before after old new
 keeps_woken me before mid after old new forgot task world in_range waiters =
     let whole =
     task
-    ∙ ap (λ (t : Task). record t { own = after.own; task_state = after.task_state; entries = after.entries; cancelled_from = after.cancelled_from }) forgot in
+    ∙ ap (λ (t : Task). record t {
+      frames = after.frames;
+      own = after.own;
+      task_state = after.task_state;
+      entries = after.entries;
+      cancelled_from = after.cancelled_from;
+    }) forgot in
     record {
       task =
           whole
           ∙ ap
           (λ (t : Task).
           record before {
-            frames = t.frames;
+            frames = after.frames;
             own = after.own;
             task_state = after.task_state;
             entries = after.entries;
@@ -163,6 +170,7 @@ keeps_woken me before mid after old new forgot task world in_range waiters =
             labels = new.labels;
             events = new.events;
             set = w.set;
+            acts = w.acts;
             book = new.book;
             started = w.started;
           }) (sym world);
@@ -221,6 +229,7 @@ keeps_entered me before after old new task world in_range waiters =
             labels = new.labels;
             events = new.events;
             set = w.set;
+            acts = w.acts;
             book = new.book;
             started = w.started;
           }) (sym world);
@@ -254,6 +263,7 @@ keeps_signed me before after old new task world in_range =
             labels = w.labels;
             events = new.events;
             set = new.set;
+            acts = w.acts;
             book = w.book;
             started = w.started;
           }) (sym world);

@@ -158,7 +158,7 @@ returns-in_ok-exc-in-Try-clause-fits c =
     tried_fits (handled_of (option_copied c.in-Try.handler)) (cleaned_of c.in-Try.cleanup.now) (state_of (record c.args.self.now { frames = c.pop.new.self }) c.args.world.now)
     (state_of c.end_try.new.self c.args.world.now) (Try c.in-Try.handler c.in-Try.cleanup) (option_map exc_of c.args.exc) (option_map exc_of c.in_ok-exc-in-Try.exc) refl
     refl (popped_fits (state_of (record c.args.self.now { frames = c.pop.new.self }) c.args.world.now) c.args.self.now.frames.items c.in-Some.frame (Try c.in-Try.handler c.in-Try.cleanup) c.in-Some.ensures.items c.in-Try.is c.requires.fits)
-    (e.step (λ id. []) []) e.blocks (ap (λ (t : Task). state_of t c.args.world.now) e.stays)
+    (e.step (λ id. []) []) e.blocks e.received (ap (λ (t : Task). state_of t c.args.world.now) e.stays)
 
 pub returns-in_ok-exc-in-Try-clause-shorter : goal.returns-in_ok-exc-in-Try-clause-shorter
 returns-in_ok-exc-in-Try-clause-shorter c =
@@ -182,7 +182,7 @@ returns-in_ok-exc-in-Handler-clause-fits c =
     handled_fits (cleaned_of c.in-Handler.cleanup.now) (option_map exc_of (unboxed_exc c.in-Handler.rest)) (state_of (record c.args.self.now { frames = c.pop.new.self }) c.args.world.now)
     (state_of c.end_handler.new.self c.args.world.now) (Handler c.in-Handler.rest c.in-Handler.cleanup) refl refl
     (popped_fits (state_of (record c.args.self.now { frames = c.pop.new.self }) c.args.world.now) c.args.self.now.frames.items c.in-Some.frame (Handler c.in-Handler.rest c.in-Handler.cleanup) c.in-Some.ensures.items c.in-Handler.is c.requires.fits)
-    (e.frames (λ id. [])) e.blocks (ap (λ (t : Task). state_of t c.args.world.now) e.stays)
+    (e.frames (λ id. [])) e.blocks e.received (ap (λ (t : Task). state_of t c.args.world.now) e.stays)
 
 pub returns-in_ok-exc-in-Handler-clause-shorter : goal.returns-in_ok-exc-in-Handler-clause-shorter
 returns-in_ok-exc-in-Handler-clause-shorter c =
@@ -233,7 +233,7 @@ returns-in_ok-exc-in-Repeat-clause-fits c =
     passed_fits c.in-Repeat.pass c.in-Repeat.left c.in-Repeat.cuts c.in-Repeat.body.now (state_of (record c.args.self.now { frames = c.pop.new.self }) c.args.world.now) (state_of c.next_pass.new.self c.args.world.now)
     (Repeat c.in-Repeat.pass c.in-Repeat.left c.in-Repeat.cuts c.in-Repeat.body) (option_map exc_of c.args.exc) (option_map exc_of c.in_ok-exc-in-Repeat.exc) refl refl
     (popped_fits (state_of (record c.args.self.now { frames = c.pop.new.self }) c.args.world.now) c.args.self.now.frames.items c.in-Some.frame (Repeat c.in-Repeat.pass c.in-Repeat.left c.in-Repeat.cuts c.in-Repeat.body) c.in-Some.ensures.items c.in-Repeat.is c.requires.fits)
-    (e.step (λ id. []) []) e.blocks (ap (λ (t : Task). state_of t c.args.world.now) e.stays)
+    (e.step (λ id. []) []) e.blocks e.received (ap (λ (t : Task). state_of t c.args.world.now) e.stays)
 
 pub returns-in_ok-exc-in-Repeat-clause-shorter : goal.returns-in_ok-exc-in-Repeat-clause-shorter
 returns-in_ok-exc-in-Repeat-clause-shorter c =

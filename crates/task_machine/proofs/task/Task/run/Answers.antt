@@ -15,19 +15,19 @@ use Rattle.task_machine.proofs.Waiters.{opened_still, keeps_cancelled, keeps_set
 use Rattle.task_machine.proofs.task.Task.run.Goals as goal
 
 pub ask-requires : goal.ask-requires
-ask-requires c = record { cuts = cuts_fit (state_of c.args.self.now c.args.world.now) None c.requires.fits }
+ask-requires c = record { cuts = cuts_fit (state_of c.args.self.now c.args.world.now) None c.requires.fits; lent = c.requires.fits.runs.lent }
 
 pub ask-requires-in-Find : goal.ask-requires-in-Find
-ask-requires-in-Find c = record { cuts = cuts_fit (state_of c.args.self.now c.args.world.now) None c.requires.fits }
+ask-requires-in-Find c = record { cuts = cuts_fit (state_of c.args.self.now c.args.world.now) None c.requires.fits; lent = c.requires.fits.runs.lent }
 
 pub ask-requires-in-Head : goal.ask-requires-in-Head
-ask-requires-in-Head c = record { cuts = cuts_fit (state_of c.args.self.now c.args.world.now) None c.requires.fits }
+ask-requires-in-Head c = record { cuts = cuts_fit (state_of c.args.self.now c.args.world.now) None c.requires.fits; lent = c.requires.fits.runs.lent }
 
 pub ask-requires-in-Longest : goal.ask-requires-in-Longest
-ask-requires-in-Longest c = record { cuts = cuts_fit (state_of c.args.self.now c.args.world.now) None c.requires.fits }
+ask-requires-in-Longest c = record { cuts = cuts_fit (state_of c.args.self.now c.args.world.now) None c.requires.fits; lent = c.requires.fits.runs.lent }
 
 pub ask-requires-in-Need : goal.ask-requires-in-Need
-ask-requires-in-Need c = record { cuts = cuts_fit (state_of c.args.self.now c.args.world.now) None c.requires.fits }
+ask-requires-in-Need c = record { cuts = cuts_fit (state_of c.args.self.now c.args.world.now) None c.requires.fits; lent = c.requires.fits.runs.lent }
 
 pub returns-in-Sleep-clause-step : goal.returns-in-Sleep-clause-step
 returns-in-Sleep-clause-step c = λ a.

@@ -40,7 +40,7 @@ returns-in_ok-enter_scope-in-Scope-clause-step c = λ a.
     let e = c.in_ok-enter_scope-in-Scope.ensures in
     takes_scope (state_of c.args.self.now c.args.world.now) c.args.step.now a (state_of c.enter_scope.new.self c.enter_scope.new.world) c.in-Scope.name c.in-Scope.deadline
     c.in-Scope.shield c.in-Scope.body (ap (λ (w : World). w.started.items) e.world) (ap (λ (t : Task). t.entries.items) e.stays)
-    (ap (λ (t : Task). t.cancelled.items) e.stays) e.at e.own
+    (ap (λ (t : Task). t.cancelled.items) e.stays) (ap (λ (w : World). w.acts.items) e.world) e.at e.own
     c.in-Scope.fail c.in-Scope.is (ap (λ (w : World). w.book) e.world) e.frames
 
 pub returns-in_ok-enter_scope-in-Scope-clause-keeps : goal.returns-in_ok-enter_scope-in-Scope-clause-keeps
@@ -79,7 +79,7 @@ returns-in_ok-enter_nursery-in-Nursery-clause-step c = λ a.
     takes_nursery (state_of c.args.self.now c.args.world.now) c.args.step.now a (state_of c.enter_nursery.new.self c.enter_nursery.new.world) c.in-Nursery.name
     c.in-Nursery.deadline c.in-Nursery.shield c.in-Nursery.body (ap (λ (w : World). w.started.items) e.world)
     (ap (λ (t : Task). t.entries.items) e.stays)
-    (ap (λ (t : Task). t.cancelled.items) e.stays) e.at e.own c.args.me c.in-Nursery.is e.nursery
+    (ap (λ (t : Task). t.cancelled.items) e.stays) (ap (λ (w : World). w.acts.items) e.world) e.at e.own c.args.me c.in-Nursery.is e.nursery
 
 pub returns-in_ok-enter_nursery-in-Nursery-clause-keeps : goal.returns-in_ok-enter_nursery-in-Nursery-clause-keeps
 returns-in_ok-enter_nursery-in-Nursery-clause-keeps c =
@@ -111,7 +111,8 @@ returns-in_ok-enter_event-in-Event-clause-step c = λ a.
     let e = c.in_ok-enter_event-in-Event.ensures in
     takes_event (state_of c.args.self.now c.args.world.now) c.args.step.now a (state_of c.enter_event.new.self c.enter_event.new.world)
     c.in-Event.name c.in-Event.body c.in-Event.is (ap (λ (w : World). w.started.items) e.world) (ap (λ (t : Task). t.entries.items) e.stays)
-    (ap (λ (t : Task). t.cancelled.items) e.stays) (ap (λ (w : World). w.book) e.world) e.at e.own e.frames
+    (ap (λ (t : Task). t.cancelled.items) e.stays) (ap (λ (w : World). w.acts.items) e.world) (ap (λ (w : World). w.book) e.world) e.at e.own
+    e.frames
 
 pub returns-in_ok-enter_event-in-Event-clause-keeps : goal.returns-in_ok-enter_event-in-Event-clause-keeps
 returns-in_ok-enter_event-in-Event-clause-keeps c =
@@ -142,6 +143,7 @@ returns-in_ok-begin_children-in-Start-clause-keeps c =
         labels = w.labels;
         events = w.events;
         set = w.set;
+        acts = w.acts;
         book = c.begin_children.new.world.book;
         started = c.begin_children.new.world.started;
       }) (sym e.rest);
@@ -157,7 +159,7 @@ returns-in_ok-begin_passes-in-Repeat-clause-fits c =
     let starts = subst (λ (s : Step). StartsAt (in_body (frames_of (λ id. []) c.args.self.now.frames.items)) (step_of s))
     c.in-Repeat.is c.requires.starts in
     repeat_fits c.in-Repeat.count c.in-Repeat.over c.in-Repeat.body (state_of c.args.self.now c.args.world.now) (state_of c.begin_passes.new.self c.args.world.now) c.requires.fits
-    in_range.0 in_range.1 starts e.blocks (e.step (λ id. []) []) (ap (λ (t : Task). state_of t c.args.world.now) e.stays)
+    in_range.0 in_range.1 starts e.blocks e.received (e.step (λ id. []) []) (ap (λ (t : Task). state_of t c.args.world.now) e.stays)
 
 pub returns-in_ok-begin_passes-in-Repeat-clause-length : goal.returns-in_ok-begin_passes-in-Repeat-clause-length
 returns-in_ok-begin_passes-in-Repeat-clause-length c =
