@@ -37,6 +37,7 @@ pub mod Stopping
 pub mod Advances
 pub mod AdvancesSteps
 pub mod Waits
+pub mod Asks
 pub mod Wakens
 pub mod Children
 pub mod TurnGoes
