@@ -39,6 +39,7 @@ pub mod AdvancesSteps
 pub mod Waits
 pub mod Asks
 pub mod Wakens
+pub mod Grants
 pub mod Children
 pub mod TurnGoes
 pub mod WholeTurn
