@@ -237,6 +237,65 @@ keeps_entered me before after old new task world in_range waiters =
       waiters = waiters;
     }
 
+-- what a task that opened and entered a limiter or channel left as it was
+pub keeps_opened : (me : ℕ) (before after : Task) (old new : World) →
+    after ≡ record before { frames = after.frames; own = after.own; cancelled_from = after.cancelled_from } →
+    new ≡ record old { scopes = new.scopes; labels = new.labels; events = new.events; acts = new.acts } → IsInRangeTaskState before.task_state →
+    KeepsRest me before after old new
+keeps_opened me before after old new task world in_range =
+    record {
+      task =
+          task
+          ∙ ap
+          (λ (t : Task).
+          record before {
+            frames = after.frames;
+            own = after.own;
+            task_state = t.task_state;
+            entries = t.entries;
+            cancelled_from = after.cancelled_from;
+            cancelled = t.cancelled;
+          }) (sym task);
+      world =
+          world
+          ∙ ap
+          (λ (w : World).
+          record old {
+            scopes = new.scopes;
+            labels = new.labels;
+            events = new.events;
+            set = w.set;
+            acts = new.acts;
+            book = w.book;
+            started = w.started;
+          }) (sym world);
+      in_range = subst IsInRangeTaskState (sym (ap (λ (t : Task). t.task_state) task)) in_range;
+      waiters = subst (OpenedBy me old.book) (sym (ap (λ (w : World). w.book) world)) (opened_still me old.book);
+    }
+
+-- what a task that did something to a limiter or channel left as it was
+pub keeps_acted : (me : ℕ) (task : Task) (old new : World) → new ≡ record old { acts = new.acts } → IsInRangeTaskState task.task_state →
+    KeepsRest me task task old new
+keeps_acted me task old new world in_range =
+    record {
+      task = refl;
+      world =
+          world
+          ∙ ap
+          (λ (w : World).
+          record old {
+            scopes = w.scopes;
+            labels = w.labels;
+            events = w.events;
+            set = w.set;
+            acts = new.acts;
+            book = w.book;
+            started = w.started;
+          }) (sym world);
+      in_range = in_range;
+      waiters = subst (OpenedBy me old.book) (sym (ap (λ (w : World). w.book) world)) (opened_still me old.book);
+    }
+
 -- what a task that cancelled a scope or set an event left as it was
 keeps_signed : (me : ℕ) (before after : Task) (old new : World) → after ≡ record before { cancelled = after.cancelled } →
     new ≡ record old { scopes = new.scopes; events = new.events; set = new.set } → IsInRangeTaskState before.task_state → KeepsRest me before after old new
