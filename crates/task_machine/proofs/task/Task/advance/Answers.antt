@@ -1,4 +1,4 @@
-use Rattle.std.proofs.Common.{Option, List, [], ◌∷◌, ◌++◌, ap, sym, ◌∙◌, subst, refl, arith}
+use Rattle.std.proofs.Common.{Option, None, List, [], ◌∷◌, ◌++◌, ap, sym, ◌∙◌, subst, refl, arith}
 use Rattle.std.specs.Option.{option_map, option_copied}
 use Rattle.exceptions.specs.declared.exc.Exc as held
 use Rattle.exceptions.specs.Held.{exc_of}
