@@ -12,18 +12,18 @@ use Rattle.job_meaning.specs.Log.{Table}
 use Rattle.job_meaning.specs.Log as log
 use Rattle.job_meaning.specs.declared.clock.Clock.{Clock}
 use Rattle.job_meaning.specs.Walk.{Here, label_over}
-use Rattle.job_meaning.specs.Rest.{Event, noted, signs, enters, starts, starts_over, Stopped, to_begin, asking, asleep, waiting_for, giving_up, awaiting, at_end}
+use Rattle.job_meaning.specs.Rest.{Event, noted, signs, enters, acts, starts, starts_over, Stopped, to_begin, asking, asleep, waiting_for, queued, giving_up, awaiting, at_end}
 use Rattle.nursery_book.specs.declared.book.NurseryBook.{NurseryBook}
 use Rattle.input_lines.specs.Lines.{Span}
 use Rattle.turn_semantics.specs.Midway.{Place, label_among, Move}
 use Rattle.turn_semantics.specs.Steps.{signs_to, home_among, signs_home}
 use Rattle.turn_semantics.specs.Wakes.{lines_made}
 use Rattle.task_machine.specs.declared.stop.TaskState.{TaskState}
-use Rattle.task_machine.specs.declared.stop.TaskState.TheVariants.{ToBegin, Asked, Asleep, Waiting, GivingUp, Awaits, Over}
+use Rattle.task_machine.specs.declared.stop.TaskState.TheVariants.{ToBegin, Asked, Asleep, Waiting, Queued, GivingUp, Awaits, Over}
 use Rattle.task_machine.specs.declared.stop.Moved.{Moved}
 use Rattle.task_machine.specs.declared.stop.Moved.TheVariants.{On, Stops}
 use Rattle.task_machine.specs.declared.task.Own.{Own}
-use Rattle.task_machine.specs.Acts.{Scoping, scoping_in, Cancels, Enters, Leaves, Acts, no_act, act_noted, act_starts, act_signs, act_sets, act_enters, act_leaves, Signed, key_failed}
+use Rattle.task_machine.specs.Acts.{Scoping, scoping_in, Cancels, Enters, Leaves, Acts, no_act, act_noted, act_shared, act_starts, act_signs, act_sets, act_enters, act_leaves, Signed, key_failed}
 use Rattle.task_machine.specs.Entered.{SetAt}
 use Rattle.task_machine.specs.Fitting.{Block, a_scope, a_nursery, AreOthers, waits_of}
 use Rattle.task_machine.specs.Labels.{Labels, Events, scope_named, home_key}
@@ -42,6 +42,7 @@ WaitsNot (Some to_begin) = Unit {0}
 WaitsNot (Some (asking kernel purpose)) = Unit {0}
 WaitsNot (Some (asleep paced n since)) = Unit {0}
 WaitsNot (Some (waiting_for event since)) = Unit {0}
+WaitsNot (Some (queued object ask since body)) = Unit {0}
 WaitsNot (Some (giving_up since)) = Unit {0}
 WaitsNot (Some (awaiting children ended exc)) = ⊥
 WaitsNot (Some (at_end u e)) = Unit {0}
@@ -52,11 +53,13 @@ task_states_not numbers book (ToBegin at) s not h = refl
 task_states_not numbers book (Asked kernel purpose) s not h = refl
 task_states_not numbers book (Asleep paced ticks since) s not h = refl
 task_states_not numbers book (Waiting event since) s not h = refl
+task_states_not numbers book (Queued object ask since body) s not h = refl
 task_states_not numbers book (GivingUp since) s not h = refl
 task_states_not numbers book (Awaits id since) to_begin not h = absurd h
 task_states_not numbers book (Awaits id since) (asking kernel purpose) not h = absurd h
 task_states_not numbers book (Awaits id since) (asleep paced n u) not h = absurd h
 task_states_not numbers book (Awaits id since) (waiting_for event u) not h = absurd h
+task_states_not numbers book (Awaits id since) (queued name a u steps) not h = absurd h
 task_states_not numbers book (Awaits id since) (giving_up u) not h = absurd h
 task_states_not numbers book (Awaits id since) (awaiting children ended exc) not h = absurd not
 task_states_not numbers book (Awaits id since) (at_end u e) not h = absurd h
@@ -79,18 +82,20 @@ waits_not clock numbers book part (Stops stop) task_state o not h = by_stop o.st
         subst (λ (x : Option Stopped). MovesAs clock numbers book part (Stops stop) task_state (record o { stopped = x })) e h in
         task_states_not numbers book task_state s (subst WaitsNot e not) f.1.0
 
--- ---- a task that waits for no event
+-- ---- a task that waits for no event, limiter or channel
 
--- a stop that waits for no event, or none
+-- a stop that waits for no event, limiter or channel, or none
 abbrev pub WaitsElse : Option Stopped → Type 0
 WaitsElse (Some (waiting_for event since)) = ⊥
+WaitsElse (Some (queued object ask since body)) = ⊥
 WaitsElse _ = Unit {0}
 
--- there is no event that would have to be one of the stack
+-- there is none that would have to be one of the stack
 pub waits_else : (labels : Labels) (st : Stack) (s : Option Stopped) (task_state : TaskState) (ps : List Place) → WaitsElse s →
     AwaitsEvent labels st s task_state ps
 waits_else labels st None task_state ps h = tt
 waits_else labels st (Some (waiting_for event since)) task_state ps h = absurd h
+waits_else labels st (Some (queued object ask since body)) task_state ps h = absurd h
 waits_else labels st (Some _) task_state ps h = tt
 
 -- ---- the nurseries of a task
@@ -130,6 +135,7 @@ no_acts tick s u es none e = subst (λ (fs : List Event). Acts tick s fs u) (sym
 pub acts_append : (tick : ℕ) (s m u : Scoping) (es fs : List Event) → Acts tick s es m → Acts tick m fs u → Acts tick s (es ++ fs) u
 acts_append tick _ _ u _ fs (no_act s) b = b
 acts_append tick _ _ u _ fs (act_noted s m t e ds a) b = act_noted s u t e (ds ++ fs) (acts_append tick s m u ds fs a b)
+acts_append tick _ _ u _ fs (act_shared s m l t d ds a) b = act_shared s u l t d (ds ++ fs) (acts_append tick s m u ds fs a b)
 acts_append tick _ _ u _ fs (act_starts s m i l t ds a) b = act_starts s u i l t (ds ++ fs) (acts_append tick s m u ds fs a b)
 acts_append tick _ _ u _ fs (act_signs s x m l ds h a) b = act_signs s x u l (ds ++ fs) h (acts_append tick x m u ds fs a b)
 acts_append tick _ _ u _ fs (act_sets s x m l ds h a) b = act_sets s x u l (ds ++ fs) h (acts_append tick x m u ds fs a b)
@@ -269,6 +275,7 @@ others_first key (x ∷ os) o a =
 pub acts_stay : (tick : ℕ) (s u : Scoping) (es : List Event) (key : ℕ) → Acts tick s es u → IsOpenOther key s → IsOpenOther key u
 acts_stay tick _ u _ key (no_act s) h = h
 acts_stay tick _ u _ key (act_noted s x t e ds a) h = acts_stay tick s u ds key a h
+acts_stay tick _ u _ key (act_shared s x l t d ds a) h = acts_stay tick s u ds key a h
 acts_stay tick _ u _ key (act_starts s x i l t ds a) h = acts_stay tick s u ds key a h
 acts_stay tick _ u _ key (act_signs s m x l ds g a) h =
     acts_stay tick m u ds key a (signed_open key g.key tick s.tree m.tree g.cancels.stacks h.0, subst (AreOthers key) (sym g.own) h.1)

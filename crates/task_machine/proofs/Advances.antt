@@ -5,12 +5,13 @@ use Rattle.std.specs.Global.{Box}
 use Rattle.std.specs.Option.{option_map, option_copied}
 use Rattle.exceptions.specs.declared.exc.Exc as held
 use Rattle.exceptions.specs.Held.{exc_of}
-use Rattle.exceptions.specs.Exceptions.{Exc}
+use Rattle.exceptions.specs.Exceptions.{Label, Exc}
 use Rattle.exceptions.specs.Split.{named, keep, drop}
 use Rattle.job_tree.specs.Tree as tree
 use Rattle.job_tree.specs.Blocks.{steps_of, handled_of, cleaned_of}
 use Rattle.job_tree.specs.declared.step.Step.{Step}
 use Rattle.job_tree.specs.declared.step.Handler.{Handler as HandlerOf}
+use Rattle.input_lines.specs.declared.part.Part.{Part}
 use Rattle.cancel_scopes.specs.Tree.{Tree}
 use Rattle.job_meaning.specs.Log.{Table}
 use Rattle.job_meaning.specs.Walk.{handler_exc, outcome_after}
@@ -19,9 +20,10 @@ use Rattle.nursery_book.specs.Nursery.{with_body}
 use Rattle.nursery_book.specs.Book.{Changes}
 use Rattle.nursery_book.specs.declared.book.NurseryBook.{NurseryBook}
 use Rattle.turn_semantics.specs.Midway.{Place, Move}
-use Rattle.turn_semantics.specs.Steps.{onward, step_pass, handler_if, step_try, step_frames, step_of}
+use Rattle.turn_semantics.specs.Steps.{onward, gives_token_back, step_pass, handler_if, step_try, step_frames, step_of}
 use Rattle.task_machine.specs.declared.frame.Frame.{Frame}
-use Rattle.task_machine.specs.declared.frame.Frame.TheVariants.{Steps, Scope, Event, Nursery, Repeat, Try, Handler, Cleanup}
+use Rattle.task_machine.specs.declared.frame.Frame.TheVariants.{Steps, Scope, Event, Token, Received, Nursery, Repeat, Try, Handler, Cleanup}
+use Rattle.task_machine.specs.declared.serving.Act.TheVariants.{GivesBack}
 use Rattle.block_exits.specs.declared.kind.Kind.TheVariants as kind
 use Rattle.task_machine.specs.declared.stop.TaskState.TheVariants.{Awaits, Over}
 use Rattle.task_machine.specs.declared.stop.Moved.{Moved}
@@ -36,7 +38,7 @@ use Rattle.task_machine.specs.States.{State, here_at, now_at}
 use Rattle.task_machine.specs.Stops.{Numbers}
 use Rattle.task_machine.proofs.FrameLemmas.{frames_pushed}
 use Rattle.task_machine.proofs.Nurseries.{blocks_pushed}
-use Rattle.task_machine.proofs.Tooks.{took_onward, took_end, took_exit, took_event_left, took_body}
+use Rattle.task_machine.proofs.Tooks.{took_onward, took_end, took_exit, took_event_left, took_token_back, took_body}
 
 -- ---- the definitions' step by the innermost frame
 
@@ -65,6 +67,8 @@ blocks_onto [] bs = bs
 blocks_onto (rest.steps_left ss ∷ fs) bs = blocks_onto fs bs
 blocks_onto (rest.in_scope fail ∷ fs) bs = blocks_onto fs (a_scope ∷ bs)
 blocks_onto (rest.in_event ∷ fs) bs = blocks_onto fs (a_scope ∷ bs)
+blocks_onto (rest.with_token limiter ∷ fs) bs = blocks_onto fs bs
+blocks_onto (rest.with_part received ∷ fs) bs = blocks_onto fs bs
 blocks_onto (rest.in_nursery ns ∷ fs) bs = blocks_onto fs (key_in ns ++ bs)
 blocks_onto (rest.in_repeat pass left cuts body ∷ fs) bs = blocks_onto fs bs
 blocks_onto (rest.in_try handler cleanup ∷ fs) bs = blocks_onto fs bs
@@ -80,6 +84,8 @@ onto_keys [] outer bs = refl
 onto_keys (Steps steps ∷ fs) outer bs = onto_keys fs (frame_of own_keys (Steps steps) ∷ outer) bs
 onto_keys (Scope fail ∷ fs) outer bs = onto_keys fs (rest.in_scope fail ∷ outer) bs
 onto_keys (Event ∷ fs) outer bs = onto_keys fs (rest.in_event ∷ outer) bs
+onto_keys (Token limiter ∷ fs) outer bs = onto_keys fs (frame_of own_keys (Token limiter) ∷ outer) bs
+onto_keys (Received part ∷ fs) outer bs = onto_keys fs (frame_of own_keys (Received part) ∷ outer) bs
 onto_keys (Nursery id ∷ fs) outer bs = onto_keys fs (rest.in_nursery (id ∷ []) ∷ outer) bs
 onto_keys (Repeat pass left cuts body ∷ fs) outer bs = onto_keys fs (frame_of own_keys (Repeat pass left cuts body) ∷ outer) bs
 onto_keys (Try handler cleanup ∷ fs) outer bs = onto_keys fs (frame_of own_keys (Try handler cleanup) ∷ outer) bs
@@ -131,7 +137,8 @@ takes_exit b u whole fail exc goes popped stays exits one =
     takes_step b u whole b.frames (Scope fail) (On goes) (option_map exc_of exc) popped
     (λ cancelled_from numbers ps count stands.
     took_exit b whole cancelled_from numbers ps stands u fail exc goes count popped (ap (λ (s : State). s.frames) stays)
-    (ap (λ (s : State). s.book) stays) (ap (λ (s : State). s.started) stays) (ap (λ (s : State). s.cancelled) stays) exits one)
+    (ap (λ (s : State). s.book) stays) (ap (λ (s : State). s.started) stays) (ap (λ (s : State). s.cancelled) stays)
+    (ap (λ (s : State). s.acts) stays) exits one)
 
 -- the innermost event is left
 pub takes_event_left : (b u : State) (whole : List Frame) (exc : Option held.Exc) → whole ≡ b.frames ++ Event ∷ [] →
@@ -140,6 +147,17 @@ pub takes_event_left : (b u : State) (whole : List Frame) (exc : Option held.Exc
 takes_event_left b u whole exc popped stays left one =
     takes_step b u whole b.frames Event (On exc) (option_map exc_of exc) popped
     (λ cancelled_from numbers ps count stands. took_event_left b whole cancelled_from numbers ps stands u exc count popped stays left one)
+
+-- the block of an `acquire` has ended, and its token comes back
+pub takes_token : (b u : State) (whole : List Frame) (limiter : Box Label) (exc : Option held.Exc) → whole ≡ b.frames ++ Token limiter ∷ [] →
+    u ≡ record b { acts = b.acts ++ record { object = limiter.value; act = GivesBack } ∷ [] } →
+    StepsAs (with_frames b whole) u (option_map exc_of exc) (On exc)
+takes_token b u whole limiter exc popped stays =
+    takes_step b u whole b.frames (Token limiter) (On exc) (option_map exc_of exc) popped
+    (λ cancelled_from numbers ps count stands.
+    subst (λ (v : State). Took (with_frames b whole) v (On exc) cancelled_from numbers
+    (gives_token_back limiter.value b.tick (frames_of numbers b.frames) ps (option_map exc_of exc))) (sym stays)
+    (took_token_back b whole cancelled_from numbers None ps stands limiter.value exc (blocks_off b.frames whole (Token limiter) popped refl)))
 
 -- the body of the innermost nursery has ended
 pub takes_body : (b u : State) (whole : List Frame) (id : ℕ) (tree : Tree) (book : NurseryBook) (exc : Option held.Exc) (goes : Moved) →
@@ -235,6 +253,12 @@ takes_handler b u whole others cleanup exc goes popped stays held raised =
     (λ cancelled_from numbers ps count.
     ap (λ (fs : List rest.Frame). onward fs ps (handler_exc (option_map exc_of exc) (option_map exc_of (unboxed_exc others)))) (sym (held numbers))
     ∙ ap (λ (e : Option Exc). onward (frames_of numbers u.frames) ps e) (sym raised))
+
+-- the block of a `receive` has ended
+pub takes_received : (b : State) (whole : List Frame) (part : Part) (exc : Option held.Exc) → whole ≡ b.frames ++ Received part ∷ [] →
+    StepsAs (with_frames b whole) b (option_map exc_of exc) (On exc)
+takes_received b whole part exc popped =
+    takes_onward b b whole (Received part) (option_map exc_of exc) exc popped refl refl refl (λ cancelled_from numbers ps count. refl)
 
 -- its cleanup has ended
 pub takes_cleanup : (b : State) (whole : List Frame) (outcome : Option (Box held.Exc)) (exc goes : Option held.Exc) →

@@ -4,31 +4,34 @@ use Rattle.input_lines.specs.Part.{buffer_of, range_of}
 use Rattle.input_lines.specs.Lines.{Range}
 use Rattle.std.proofs.Common.{◌≡◌, ℕ, Bool, true, false, Option, Some, None, List, [], ◌∷◌, ◌++◌, refl, ap, sym, ◌∙◌, subst}
 use Rattle.turn_semantics.specs.Lists.{IsAmong}
-use Rattle.cancel_scopes.specs.Sight.{Tick}
+use Rattle.cancel_scopes.specs.Sight.{Tick, seen}
 use Rattle.cancel_scopes.specs.Tree.{IsChain}
 use Rattle.exceptions.specs.Exceptions.{Label}
 use Rattle.job_tree.specs.Tree as tree
 use Rattle.job_tree.specs.InRange.{AreInRange}
 use Rattle.job_tree.specs.Blocks.{steps_of, step_of as step_in, handled_of, cleaned_of}
+use Rattle.job_tree.specs.declared.object.Ask.{Ask}
+use Rattle.job_tree.specs.declared.object.ObjectKind.{ObjectKind}
 use Rattle.job_tree.specs.declared.deadline.Deadline.{Deadline}
 use Rattle.job_tree.specs.declared.step.Step.{Step}
 use Rattle.job_tree.specs.declared.step.Step.TheVariants as code
 use Rattle.job_tree.specs.declared.step.Handler.{Handler}
-use Rattle.job_meaning.specs.Log.{Table}
+use Rattle.job_meaning.specs.Log.{Table, opens, closes}
 use Rattle.job_meaning.specs.Moments.{due}
-use Rattle.job_meaning.specs.Walk.{Here}
+use Rattle.job_meaning.specs.Walk.{Here, stack_for}
 use Rattle.job_meaning.specs.Rest as rest
 use Rattle.job_meaning.specs.Rest.{inside, path_in, part_in, asking}
 use Rattle.nursery_book.specs.declared.book.NurseryBook.{NurseryBook}
-use Rattle.turn_semantics.specs.Midway.{Place, label_among, Move}
+use Rattle.turn_semantics.specs.Midway.{Place, label_among, stack_at, Move}
 use Rattle.turn_semantics.specs.Names.{names_at, AreNew, IsNew, NewIn}
-use Rattle.turn_semantics.specs.Steps.{onward, makes, sleeps, waits_on, signs_to, begins_passes, step_on, step_frames}
+use Rattle.turn_semantics.specs.Steps.{onward, makes, sleeps, waits_on, asks_of, acts_on, signs_to, begins_passes, step_on, step_frames}
 use Rattle.task_machine.specs.declared.frame.Frame.{Frame}
 use Rattle.task_machine.specs.declared.frame.Frame.TheVariants.{Steps, Scope, Event, Nursery}
+use Rattle.task_machine.specs.declared.serving.Act.TheVariants.{Opens}
 use Rattle.task_machine.specs.declared.stop.Moved.{Moved}
 use Rattle.task_machine.specs.declared.stop.Moved.TheVariants.{On}
 use Rattle.task_machine.specs.Acts.{Enters, scoping_in}
-use Rattle.task_machine.specs.Entered.{EntersAt, a_scope_at, an_event_at, EntersBlock, EntersNursery, CancelsAt, SetsAt}
+use Rattle.task_machine.specs.Entered.{EntersAt, a_scope_at, an_event_at, EntersBlock, EntersNursery, CancelsAt, SetsAt, ClosesAt}
 use Rattle.task_machine.specs.Fitting.{blocks_of, AreLoops}
 use Rattle.task_machine.specs.Frames.{frame_of, frames_of}
 use Rattle.task_machine.specs.Stacked.{AreAt, AwaitsEvent}
@@ -39,8 +42,8 @@ use Rattle.task_machine.specs.Stops.{Numbers, MovesAs}
 use Rattle.task_machine.proofs.FrameLemmas.{frames_pushed, path_inside, cuts_inside}
 use Rattle.task_machine.proofs.Acting.{WaitsElse, waits_else}
 use Rattle.task_machine.proofs.Blocks.{IsScope}
-use Rattle.task_machine.proofs.Tooks.{LeavesAlone, took_onward, took_task_states, took_sleep, took_wait, took_cancel, took_set}
-use Rattle.task_machine.proofs.TooksEntered.{took_scope, took_nursery}
+use Rattle.task_machine.proofs.Tooks.{LeavesAlone, took_onward, took_task_states, took_sleep, took_wait, took_ask, took_close, took_cancel, took_set}
+use Rattle.task_machine.proofs.TooksEntered.{took_scope, took_object, took_nursery}
 use Rattle.task_machine.proofs.TooksStarted.{here_inside, took_start, took_start_over}
 use Rattle.task_machine.proofs.Advances.{takes_step, blocks_onto, own_keys, blocks_same, blocks_off}
 
@@ -174,6 +177,43 @@ module _ (b : State) (first : Step) (a : AtStep b first) where
       (took_wait b whole cancelled_from numbers None ps stands u.task_state goes name blocks_put
       (λ at. wait cancelled_from numbers b.book (frames_of numbers b.frames) ps at))))
 
+  -- ---- a limiter or channel is asked, or a channel closed
+
+  -- what is asked of the innermost limiter or channel of its name, if there is one and the code does not see a cancellation, is the
+  -- definitions' step
+  pub takes_ask : (u : State) (goes : Moved) (name : List ℕ) (ask : Ask) (body : tree.Steps) → first ≡ code.Ask name ask body →
+      u ≡ record b { task_state = u.task_state } →
+      ((cancelled_from : Table) (numbers : Numbers) (book : NurseryBook) (fs : List rest.Frame) (ps : List Place) →
+      AreAt b.labels b.events cancelled_from (stack_in b) ps →
+      (let o = asks_of b.clock (label_among true name ps) (seen (stack_for b.cancelled b.tick (stack_at cancelled_from ps).scopes) b.tick) name ask
+      b.tick body fs ps in
+      MovesAs b.clock numbers book (lent_at b) goes u.task_state o × AwaitsEvent b.labels (stack_in b) o.stopped u.task_state ps)) →
+      StepsAs (before_step b first a) u None goes
+  takes_ask u goes name ask body is stays asks =
+      takes_on u goes
+      (λ cancelled_from numbers ps count stands new.
+      subst (λ (v : State). Took (before_step b first a) v goes cancelled_from numbers (step_there cancelled_from numbers ps count)) (sym stays)
+      (subst (λ (o : Move). Took (before_step b first a) (record b { task_state = u.task_state }) goes cancelled_from numbers o)
+      (ap (λ (gs : List rest.Frame). asks_of b.clock (label_among true name ps)
+      (seen (stack_for b.cancelled b.tick (stack_at cancelled_from ps).scopes) b.tick) name ask b.tick body gs ps) (frames_put numbers)
+      ∙ sym (on_known (code.Ask name ask body) is cancelled_from numbers ps count))
+      (took_ask b whole cancelled_from numbers None ps stands u.task_state goes name ask body blocks_put
+      (λ at. asks cancelled_from numbers b.book (frames_of numbers b.frames) ps at))))
+
+  -- a `close`, where the code closes the innermost channel of its name, if there is one, is the definitions' step
+  pub takes_close : (u : State) (name : List ℕ) → first ≡ code.Close name → u ≡ record b { acts = u.acts } → ClosesAt b u name →
+      StepsAs (before_step b first a) u None (On None)
+  takes_close u name is stays closed =
+      takes_on u (On None)
+      (λ cancelled_from numbers ps count stands new.
+      subst (λ (v : State). Took (before_step b first a) v (On None) cancelled_from numbers
+      (step_there cancelled_from numbers ps count)) (sym stays)
+      (subst (λ (o : Move). Took (before_step b first a) (record b { acts = u.acts }) (On None) cancelled_from numbers o)
+      (ap (λ (gs : List rest.Frame). makes (acts_on (label_among true name ps) b.tick closes) gs ps) (frames_put numbers)
+      ∙ sym (on_known (code.Close name) is cancelled_from numbers ps count))
+      (took_close b whole cancelled_from numbers None ps stands u.acts name blocks_put
+      (subst (λ (v : State). ClosesAt b v name) stays closed))))
+
   -- ---- a scope is cancelled
 
   -- a `cancel`, where the code signs the innermost scope of its name, if there is one, is the definitions' step
@@ -215,12 +255,12 @@ module _ (b : State) (first : Step) (a : AtStep b first) where
       (one : Enters (scope_at b) (label_there b name) is_event d (scoping_in b) (scoping_in u)) where
     -- where the code enters one with its label, shield and deadline, it makes the definitions' move
     enters_as : (cancelled_from : Table) (numbers : Numbers) (ps : List Place) → Stands (before_step b first a) cancelled_from numbers None ps →
-        (IsAmong name (names_at ps) → ⊥) → (f : Frame) → IsScope f → u.book ≡ b.book → EntersBlock b.frames u.frames f body →
+        (IsAmong name (names_at ps) → ⊥) → (f : Frame) → IsScope f → u.acts ≡ b.acts → u.book ≡ b.book → EntersBlock b.frames u.frames f body →
         Took (before_step b first a) u (On None) cancelled_from numbers
         (makes (rest.enters (label_there b name) b.tick d ∷ [])
         (rest.steps_left body ∷ frame_of numbers f ∷ rest.steps_left (steps_of a.left.now) ∷ frames_of numbers a.outer)
         (record { label = label_there b name; shield = shield; is_event = is_event } ∷ ps))
-    enters_as cancelled_from numbers ps stands fresh f scope book block =
+    enters_as cancelled_from numbers ps stands fresh f scope undone book block =
         subst
         (λ (gs : List rest.Frame). Took (before_step b first a) u (On None) cancelled_from numbers
         (makes (rest.enters (label_there b name) b.tick d ∷ []) (rest.steps_left body ∷ frame_of numbers f ∷ gs)
@@ -228,10 +268,10 @@ module _ (b : State) (first : Step) (a : AtStep b first) where
         (frames_put numbers)
         (took_scope b whole cancelled_from numbers None ps stands u
         (record { label = label_there b name; shield = shield; is_event = is_event }) d body blocks_put fresh started entries cancelled enters
-        one f scope book block)
+        one f scope undone book block)
 
   module _ (u : State) (name : List ℕ) (deadline : Deadline) (shield : Bool) (body : tree.Steps) (started : u.started ≡ b.started)
-      (entries : u.entries ≡ b.entries) (cancelled : u.cancelled ≡ b.cancelled)
+      (entries : u.entries ≡ b.entries) (cancelled : u.cancelled ≡ b.cancelled) (undone : u.acts ≡ b.acts)
       (enters : EntersAt b u (a_scope_at (label_there b name) shield) (due b.clock deadline b.tick))
       (one : Enters (scope_at b) (label_there b name) false (due b.clock deadline b.tick) (scoping_in b) (scoping_in u)) where
     -- a `scope`, where the code enters one with its label, shield and deadline, is the definitions' step
@@ -243,7 +283,7 @@ module _ (b : State) (first : Step) (a : AtStep b first) where
         subst (λ (o : Move). Took (before_step b first a) u (On None) cancelled_from numbers o)
         (sym (on_known (code.Scope name deadline shield fail body) is cancelled_from numbers ps count))
         (enters_as u name shield false (due b.clock deadline b.tick) body started entries cancelled enters one cancelled_from numbers ps stands
-        (subst (λ (s : Step). IsNew (names_at ps) (step_in s)) is fresh).0 (Scope fail) tt book block))
+        (subst (λ (s : Step). IsNew (names_at ps) (step_in s)) is fresh).0 (Scope fail) tt undone book block))
 
     -- a `nursery`, where the code enters one with its label, shield and deadline, is the definitions' step
     pub takes_nursery : (me : ℕ) → first ≡ code.Nursery name deadline shield body → EntersNursery me b u (label_there b name) body →
@@ -259,20 +299,39 @@ module _ (b : State) (first : Step) (a : AtStep b first) where
         (rest.steps_left body ∷ rest.in_nursery [] ∷ gs) (a_scope_at (label_there b name) shield ∷ ps)))
         (frames_put numbers)
         (took_nursery b whole cancelled_from numbers None ps stands u (a_scope_at (label_there b name) shield) (due b.clock deadline b.tick) body
-        blocks_put (subst (λ (s : Step). IsNew (names_at ps) (step_in s)) is fresh).0 started entries cancelled enters one me n)))
+        blocks_put (subst (λ (s : Step). IsNew (names_at ps) (step_in s)) is fresh).0 started entries cancelled enters one me undone n)))
 
   -- an `event`, where the code enters one with its label, is the definitions' step
   pub takes_event : (u : State) (name : List ℕ) (body : tree.Steps) → first ≡ code.Event name body → u.started ≡ b.started →
-      u.entries ≡ b.entries → u.cancelled ≡ b.cancelled → u.book ≡ b.book → EntersAt b u (an_event_at (label_there b name)) None →
+      u.entries ≡ b.entries → u.cancelled ≡ b.cancelled → u.acts ≡ b.acts → u.book ≡ b.book → EntersAt b u (an_event_at (label_there b name)) None →
       Enters (scope_at b) (label_there b name) true None (scoping_in b) (scoping_in u) → EntersBlock b.frames u.frames Event body →
       StepsAs (before_step b first a) u None (On None)
-  takes_event u name body is started entries cancelled book enters one block =
+  takes_event u name body is started entries cancelled undone book enters one block =
       takes_on u (On None)
       (λ cancelled_from numbers ps count stands fresh.
       subst (λ (o : Move). Took (before_step b first a) u (On None) cancelled_from numbers o)
       (sym (on_known (code.Event name body) is cancelled_from numbers ps count))
       (enters_as u name false true None body started entries cancelled enters one cancelled_from numbers ps stands
-      (subst (λ (s : Step). IsNew (names_at ps) (step_in s)) is fresh).0 Event tt book block))
+      (subst (λ (s : Step). IsNew (names_at ps) (step_in s)) is fresh).0 Event tt undone book block))
+
+  -- a `limiter` or `channel`, where the code opens one with its label, and enters it, is the definitions' step
+  pub takes_object : (u : State) (name : List ℕ) (kind : ObjectKind) (body : tree.Steps) → first ≡ code.Object name kind body →
+      u.started ≡ b.started → u.entries ≡ b.entries → u.cancelled ≡ b.cancelled → u.book ≡ b.book →
+      u.acts ≡ b.acts ++ record { object = label_there b name; act = Opens kind } ∷ [] → EntersAt b u (an_event_at (label_there b name)) None →
+      Enters (scope_at b) (label_there b name) true None (scoping_in b) (scoping_in u) → EntersBlock b.frames u.frames Event body →
+      StepsAs (before_step b first a) u None (On None)
+  takes_object u name kind body is started entries cancelled book opened enters one block =
+      takes_on u (On None)
+      (λ cancelled_from numbers ps count stands fresh.
+      subst (λ (o : Move). Took (before_step b first a) u (On None) cancelled_from numbers o)
+      (sym (on_known (code.Object name kind body) is cancelled_from numbers ps count))
+      (subst
+      (λ (gs : List rest.Frame). Took (before_step b first a) u (On None) cancelled_from numbers
+      (makes (rest.acts (label_there b name) b.tick (opens kind) ∷ rest.enters (label_there b name) b.tick None ∷ [])
+      (rest.steps_left body ∷ rest.in_event ∷ gs) (an_event_at (label_there b name) ∷ ps)))
+      (frames_put numbers)
+      (took_object b whole cancelled_from numbers None ps stands u (an_event_at (label_there b name)) None body blocks_put
+      (subst (λ (s : Step). IsNew (names_at ps) (step_in s)) is fresh).0 started entries cancelled enters one kind opened book block)))
 
   -- ---- children are started
 

@@ -10,9 +10,9 @@ use Rattle.nursery_book.specs.Nursery.{Nursery as Members}
 use Rattle.nursery_book.specs.Book.{nursery_at, HasNursery}
 use Rattle.nursery_book.specs.declared.book.NurseryBook.{NurseryBook}
 use Rattle.task_machine.specs.declared.frame.Frame.{Frame}
-use Rattle.task_machine.specs.declared.frame.Frame.TheVariants.{Steps, Scope, Event, Nursery, Repeat, Try, Handler, Cleanup}
+use Rattle.task_machine.specs.declared.frame.Frame.TheVariants.{Steps, Scope, Event, Token, Received, Nursery, Repeat, Try, Handler, Cleanup}
 use Rattle.task_machine.specs.declared.task.Own.{Own}
-use Rattle.task_machine.specs.Fitting.{Block, a_scope, a_nursery, blocks_of, AreInRangeFrames, StartsFit, AreOthers, IsMine, IsBlockOf, Opened, HasRunning, RunsIn}
+use Rattle.task_machine.specs.Fitting.{Block, a_scope, a_nursery, blocks_of, received_inside, AreInRangeFrames, StartsFit, AreOthers, IsMine, IsBlockOf, Opened, HasRunning, RunsIn}
 use Rattle.task_machine.specs.Frames.{frame_of}
 use Rattle.task_machine.specs.Labels.{Labels}
 
@@ -22,6 +22,8 @@ blocks_append [] gs = refl
 blocks_append (Steps steps ∷ fs) gs = blocks_append fs gs
 blocks_append (Scope fail ∷ fs) gs = ap (λ (bs : List Block). a_scope ∷ bs) (blocks_append fs gs)
 blocks_append (Event ∷ fs) gs = ap (λ (bs : List Block). a_scope ∷ bs) (blocks_append fs gs)
+blocks_append (Token limiter ∷ fs) gs = blocks_append fs gs
+blocks_append (Received part ∷ fs) gs = blocks_append fs gs
 blocks_append (Nursery id ∷ fs) gs = ap (λ (bs : List Block). a_nursery id ∷ bs) (blocks_append fs gs)
 blocks_append (Repeat pass left cuts body ∷ fs) gs = blocks_append fs gs
 blocks_append (Try handler cleanup ∷ fs) gs = blocks_append fs gs
@@ -40,6 +42,12 @@ pub scope_block : (f : Frame) → IsScope f → blocks_of (f ∷ []) ≡ a_scope
 scope_block (Scope fail) h = refl
 scope_block Event h = refl
 scope_block _ h = absurd h
+
+-- nothing is received in it
+pub scope_received : (f : Frame) → IsScope f → (inputs : List (List ℕ)) → received_inside f inputs ≡ inputs
+scope_received (Scope fail) h inputs = refl
+scope_received Event h inputs = refl
+scope_received _ h inputs = absurd h
 
 -- what is left inside it is in range as what is left outside it
 pub range_outer : (children : ℕ → List ℕ) (f : Frame) (gs : List rest.Frame) → IsScope f →

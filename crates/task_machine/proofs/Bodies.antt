@@ -9,7 +9,7 @@ use Rattle.nursery_book.specs.declared.book.NurseryBook.{NurseryBook}
 use Rattle.job_meaning.specs.Rest as rest
 use Rattle.turn_semantics.specs.Placed.{in_body}
 use Rattle.task_machine.specs.declared.frame.Frame.{Frame}
-use Rattle.task_machine.specs.declared.frame.Frame.TheVariants.{Steps, Scope, Event, Nursery, Repeat, Try, Handler, Cleanup}
+use Rattle.task_machine.specs.declared.frame.Frame.TheVariants.{Steps, Scope, Event, Token, Received, Nursery, Repeat, Try, Handler, Cleanup}
 use Rattle.task_machine.specs.declared.task.Own.{Own}
 use Rattle.task_machine.specs.Fitting.{Block, a_nursery, blocks_of, AreLoops, InBody, IsMine, Opened}
 use Rattle.task_machine.specs.Frames.{frame_of, frames_of}
@@ -115,6 +115,8 @@ module _ (fs : List Frame) (at : ℕ) (s : Searches fs (suc at)) (f : Frame) (go
       by_last (Nursery id) e b = absurd (none id (same ∙ e))
       by_last (Scope fail) e b = absurd (let f : false ≡ true = b in cc)
       by_last Event e b = absurd (let f : false ≡ true = b in cc)
+      by_last (Token limiter) e b = absurd (let f : false ≡ true = b in cc)
+      by_last (Received part) e b = absurd (let f : false ≡ true = b in cc)
       by_last (Try handler cleanup) e b = absurd (let f : false ≡ true = b in cc)
       by_last (Handler others cleanup) e b = absurd (let f : false ≡ true = b in cc)
       by_last (Cleanup outcome) e b = absurd (let f : false ≡ true = b in cc)

@@ -4,7 +4,7 @@ use Rattle.exceptions.specs.Exceptions.{Label}
 use Rattle.job_meaning.specs.declared.clock.Clock.{Clock}
 use Rattle.job_meaning.specs.declared.clock.Clock.TheVariants.{ByTicks as by_ticks, ByRounds as by_rounds}
 use Rattle.job_meaning.specs.Walk.{Here, with_own, label_over}
-use Rattle.job_meaning.specs.Rest.{Event, starts, starts_over, Stopped, to_begin, asking, asleep, waiting_for, giving_up, awaiting, at_end}
+use Rattle.job_meaning.specs.Rest.{Event, starts, starts_over, Stopped, to_begin, asking, asleep, waiting_for, queued, giving_up, awaiting, at_end}
 use Rattle.input_lines.specs.Lines.{Span}
 use Rattle.nursery_book.specs.declared.book.NurseryBook.{NurseryBook}
 use Rattle.turn_semantics.specs.Midway.{own_after}
@@ -14,7 +14,7 @@ use Rattle.turn_semantics.proofs.Events.{own_append}
 use Rattle.task_machine.specs.declared.stop.Moved.{Moved}
 use Rattle.task_machine.specs.declared.stop.Moved.TheVariants.{On, Stops}
 use Rattle.task_machine.specs.declared.stop.TaskState.{TaskState}
-use Rattle.task_machine.specs.declared.stop.TaskState.TheVariants.{ToBegin, Asked, Asleep, Waiting, GivingUp, Awaits, Over}
+use Rattle.task_machine.specs.declared.stop.TaskState.TheVariants.{ToBegin, Asked, Asleep, Waiting, Queued, GivingUp, Awaits, Over}
 use Rattle.task_machine.specs.Standing.{waits_by, EndsLast}
 use Rattle.task_machine.specs.Stops.{OwnAfter}
 
@@ -26,6 +26,7 @@ own_is clock before after made (Some to_begin) e = tt
 own_is clock before after made (Some (asking kernel purpose)) e = e
 own_is clock before after made (Some (asleep paced n since)) e = tt
 own_is clock before after made (Some (waiting_for event since)) e = tt
+own_is clock before after made (Some (queued object ask since body)) e = tt
 own_is clock before after made (Some (giving_up since)) e = tt
 own_is clock before after made (Some (awaiting children ended exc)) e = tt
 own_is clock before after made (Some (at_end u exc)) e = tt
@@ -55,6 +56,7 @@ own_then clock before between after es fs (Some to_begin) first e = tt
 own_then clock before between after es fs (Some (asking kernel purpose)) first e = both_own clock before between after es fs first e
 own_then clock before between after es fs (Some (asleep paced n since)) first e = tt
 own_then clock before between after es fs (Some (waiting_for event since)) first e = tt
+own_then clock before between after es fs (Some (queued object ask since body)) first e = tt
 own_then clock before between after es fs (Some (giving_up since)) first e = tt
 own_then clock before between after es fs (Some (awaiting children ended exc)) first e = tt
 own_then clock before between after es fs (Some (at_end u exc)) first e = tt
@@ -89,6 +91,7 @@ ends_none (Stops stop) (ToBegin at) book none = tt
 ends_none (Stops stop) (Asked kernel purpose) book none = tt
 ends_none (Stops stop) (Asleep paced ticks since) book none = tt
 ends_none (Stops stop) (Waiting event since) book none = tt
+ends_none (Stops stop) (Queued object ask since body) book none = tt
 ends_none (Stops stop) (GivingUp since) book none = tt
 ends_none (Stops stop) (Awaits id since) book none = absurd (let f : Some id ≡ None = none in cc)
 ends_none (Stops stop) Over book none = tt

@@ -60,6 +60,12 @@ module _ (labels : Labels) (events : Events) (own : List Label) (t : ℕ) where
       sym (ap (λ (ls : List Label). scopes.catches (seen_levels labels events ls t st) t) none
       ∙ ap (λ (su : Stack). scopes.catches su t) (seen_as_is labels events t st))
 
+  -- and it sees what others see then
+  pub sees_alike : (st : Stack) → own ≡ [] → seen st t ≡ seen (seen_levels labels events own t st) t
+  sees_alike st none =
+      sym (ap (λ (ls : List Label). seen (seen_levels labels events ls t st) t) none
+      ∙ ap (λ (su : Stack). seen su t) (seen_as_is labels events t st))
+
   -- it does not catch if it is not
   pub catches_not : (st : Stack) → false ≡ cancelled_for st → false ≡ scopes.catches (seen_levels labels events own t st) t
   catches_not [] e = refl

@@ -5,13 +5,14 @@ use Rattle.std.specs.Prelude.{All, IsSome}
 use Rattle.std.specs.Option.{ForSome, unwrap_or}
 use Rattle.std.specs.List.{last_or}
 use Rattle.turn_semantics.specs.Lists.{IsAmong}
+use Rattle.input_lines.specs.Part.{buffer_of}
 use Rattle.input_lines.specs.declared.part.Part.{Part}
 use Rattle.cancel_scopes.specs.Sight.{Level}
 use Rattle.cancel_scopes.specs.Tree.{Stack, Tree, stack_of, outer_of, own_label, IsOpen, IsOwn, IsChain, IsApart, IsInnermost, OthersKeep}
 use Rattle.nursery_book.specs.declared.book.NurseryBook.{NurseryBook}
 use Rattle.task_machine.specs.declared.frame.Frame.{Frame}
 use Rattle.task_machine.specs.declared.task.Own.{Own}
-use Rattle.task_machine.specs.Fitting.{Block, a_scope, blocks_of, AreInRangeFrames, StartsFit, Opened, OthersRun, FitsIn}
+use Rattle.task_machine.specs.Fitting.{Block, a_scope, blocks_of, received_in, AreOf, AreInRangeFrames, StartsFit, Opened, OthersRun, FitsIn}
 use Rattle.task_machine.specs.Frames.{frames_of}
 use Rattle.task_machine.specs.Labels.{Labels}
 use Rattle.task_machine.specs.Left.{keys_of}
@@ -41,15 +42,16 @@ pub record Ready (home : Option ℕ) (own : List Own) (tree : Tree) (labels : La
   pub innermost : ForSome (last_or home (ids own)) (IsInnermost tree)
   pub labelled : ForSome (last_or home (ids own)) (λ id. IsSome (labels id))
 
--- the frames change, and the blocks among them stay
+-- the frames change, and the blocks among them stay; what was received in them is of the same input
 pub fits_frames : (fs gs : List Frame) (part : Part) (home : Option ℕ) (own : List Own) (n : ℕ) (tree : Tree) (labels : Labels)
     (book : NurseryBook) → blocks_of gs ≡ blocks_of fs →
-    AreInRangeFrames (frames_of (λ id. []) gs) → StartsFit (frames_of (λ id. []) gs) → FitsIn fs part home own n tree labels book None →
-    FitsIn gs part home own n tree labels book None
-fits_frames fs gs part home own n tree labels book same in_range starts h =
+    AreInRangeFrames (frames_of (λ id. []) gs) → AreOf (buffer_of part) (received_in gs) → StartsFit (frames_of (λ id. []) gs) →
+    FitsIn fs part home own n tree labels book None → FitsIn gs part home own n tree labels book None
+fits_frames fs gs part home own n tree labels book same in_range lent starts h =
     record {
       runs = record {
         in_range = in_range;
+        lent = lent;
         starts = starts;
         home = h.runs.home;
         scope = h.runs.scope;

@@ -1,14 +1,15 @@
 -- Frames that the code holds, the innermost last.
-use Rattle.std.proofs.Common.{◌≡◌, ℕ, ◌<◌, Some, None, List, [], ◌∷◌, ◌++◌, refl, ap, ◌∙◌, arith}
-use Rattle.std.specs.Prelude.{All}
+use Rattle.std.proofs.Common.{◌≡◌, ℕ, zero, suc, ◌<◌, Some, None, List, [], ◌∷◌, ◌++◌, length, refl, ap, ◌∙◌, subst, arith}
+use Rattle.std.specs.Prelude.{All, get_or}
 use Rattle.std.proofs.lemmas.List.Elements.{All-nil, All-cons}
 use Rattle.input_lines.specs.Lines.{Range}
+use Rattle.input_lines.specs.Part.{buffer_of, range_of}
 use Rattle.job_meaning.specs.Walk.{part_in_pass}
 use Rattle.job_meaning.specs.Rest as rest
 use Rattle.job_meaning.specs.Rest.{path_in, part_in}
 use Rattle.task_machine.specs.declared.frame.Frame.{Frame}
-use Rattle.task_machine.specs.declared.frame.Frame.TheVariants.{Steps, Scope, Event, Nursery, Repeat, Try, Handler, Cleanup}
-use Rattle.task_machine.specs.Fitting.{Block, a_scope, a_nursery, blocks_of, block_in, AreInRangeFrames, HasCut}
+use Rattle.task_machine.specs.declared.frame.Frame.TheVariants.{Steps, Scope, Event, Token, Received, Nursery, Repeat, Try, Handler, Cleanup}
+use Rattle.task_machine.specs.Fitting.{Block, a_scope, a_nursery, blocks_of, block_in, AreInRangeFrames, HasCut, AreOf, received_in, received_inside}
 use Rattle.task_machine.specs.Frames.{frame_of, frames_onto, frames_of, passes_onto, cuts_onto}
 
 onto_push : (children : ℕ → List ℕ) (fs : List Frame) (f : Frame) (outer : List rest.Frame) →
@@ -34,6 +35,8 @@ blocks_pushed fs gs f e = ap blocks_of e ∙ by_frames fs
     by_frame (Steps steps) = refl
     by_frame (Scope fail) = refl
     by_frame Event = refl
+    by_frame (Token limiter) = refl
+    by_frame (Received part) = refl
     by_frame (Nursery id) = refl
     by_frame (Repeat pass left cuts body) = refl
     by_frame (Try handler cleanup) = refl
@@ -44,6 +47,8 @@ blocks_pushed fs gs f e = ap blocks_of e ∙ by_frames fs
     block_after b (Steps steps) bs = refl
     block_after b (Scope fail) bs = refl
     block_after b Event bs = refl
+    block_after b (Token limiter) bs = refl
+    block_after b (Received part) bs = refl
     block_after b (Nursery id) bs = refl
     block_after b (Repeat pass left cuts body) bs = refl
     block_after b (Try handler cleanup) bs = refl
@@ -55,11 +60,103 @@ blocks_pushed fs gs f e = ap blocks_of e ∙ by_frames fs
     by_frames (Steps steps ∷ hs) = by_frames hs
     by_frames (Scope fail ∷ hs) = ap (λ (bs : List Block). a_scope ∷ bs) (by_frames hs) ∙ block_after a_scope f (blocks_of hs)
     by_frames (Event ∷ hs) = ap (λ (bs : List Block). a_scope ∷ bs) (by_frames hs) ∙ block_after a_scope f (blocks_of hs)
+    by_frames (Token limiter ∷ hs) = by_frames hs
+    by_frames (Received part ∷ hs) = by_frames hs
     by_frames (Nursery id ∷ hs) = ap (λ (bs : List Block). a_nursery id ∷ bs) (by_frames hs) ∙ block_after (a_nursery id) f (blocks_of hs)
     by_frames (Repeat pass left cuts body ∷ hs) = by_frames hs
     by_frames (Try handler cleanup ∷ hs) = by_frames hs
     by_frames (Handler others cleanup ∷ hs) = by_frames hs
     by_frames (Cleanup outcome ∷ hs) = by_frames hs
+
+-- what was received with one more frame
+pub received_pushed : (fs gs : List Frame) (f : Frame) → gs ≡ fs ++ f ∷ [] → received_in gs ≡ received_inside f (received_in fs)
+received_pushed fs gs f e = ap received_in e ∙ by_frames fs
+  where
+    by_frame : (h : Frame) → received_in (h ∷ []) ≡ received_inside h []
+    by_frame (Steps steps) = refl
+    by_frame (Scope fail) = refl
+    by_frame Event = refl
+    by_frame (Token limiter) = refl
+    by_frame (Received part) = refl
+    by_frame (Nursery id) = refl
+    by_frame (Repeat pass left cuts body) = refl
+    by_frame (Try handler cleanup) = refl
+    by_frame (Handler others cleanup) = refl
+    by_frame (Cleanup outcome) = refl
+
+    input_after : (input : List ℕ) (h : Frame) (inputs : List (List ℕ)) → input ∷ received_inside h inputs ≡ received_inside h (input ∷ inputs)
+    input_after input (Steps steps) inputs = refl
+    input_after input (Scope fail) inputs = refl
+    input_after input Event inputs = refl
+    input_after input (Token limiter) inputs = refl
+    input_after input (Received part) inputs = refl
+    input_after input (Nursery id) inputs = refl
+    input_after input (Repeat pass left cuts body) inputs = refl
+    input_after input (Try handler cleanup) inputs = refl
+    input_after input (Handler others cleanup) inputs = refl
+    input_after input (Cleanup outcome) inputs = refl
+
+    by_frames : (hs : List Frame) → received_in (hs ++ f ∷ []) ≡ received_inside f (received_in hs)
+    by_frames [] = by_frame f
+    by_frames (Steps steps ∷ hs) = by_frames hs
+    by_frames (Scope fail ∷ hs) = by_frames hs
+    by_frames (Event ∷ hs) = by_frames hs
+    by_frames (Token limiter ∷ hs) = by_frames hs
+    by_frames (Received part ∷ hs) =
+        ap (λ (inputs : List (List ℕ)). buffer_of part ∷ inputs) (by_frames hs) ∙ input_after (buffer_of part) f (received_in hs)
+    by_frames (Nursery id ∷ hs) = by_frames hs
+    by_frames (Repeat pass left cuts body ∷ hs) = by_frames hs
+    by_frames (Try handler cleanup ∷ hs) = by_frames hs
+    by_frames (Handler others cleanup ∷ hs) = by_frames hs
+    by_frames (Cleanup outcome ∷ hs) = by_frames hs
+
+-- what was received in a frame is of an input if what was received with it and more frames inside it is
+pub lent_in : (input : List ℕ) (f : Frame) (fs : List Frame) → AreOf input (received_in (f ∷ fs)) →
+    AreOf input (received_in (f ∷ [])) × AreOf input (received_in fs)
+lent_in input (Steps steps) fs h = (tt, h)
+lent_in input (Scope fail) fs h = (tt, h)
+lent_in input Event fs h = (tt, h)
+lent_in input (Token limiter) fs h = (tt, h)
+lent_in input (Received part) fs h = ((h.0, tt), h.1)
+lent_in input (Nursery id) fs h = (tt, h)
+lent_in input (Repeat pass left cuts body) fs h = (tt, h)
+lent_in input (Try handler cleanup) fs h = (tt, h)
+lent_in input (Handler others cleanup) fs h = (tt, h)
+lent_in input (Cleanup outcome) fs h = (tt, h)
+
+-- and so is what was received in each of some frames
+pub lent_at : (input : List ℕ) (fs : List Frame) (i : ℕ) (d : Frame) → i < length fs → AreOf input (received_in fs) →
+    AreOf input (received_in (get_or fs i d ∷ []))
+lent_at input [] i d less h = absurd (omega (arith, less))
+lent_at input (f ∷ fs) zero d less h = (lent_in input f fs h).0
+lent_at input (f ∷ fs) (suc i) d less h = lent_at input fs i d (omega (arith, less)) (lent_in input f fs h).1
+
+-- of one input, with one more
+pub are_of_more : (input more : List ℕ) (inputs : List (List ℕ)) → AreOf input inputs → more ≡ input → AreOf input (inputs ++ more ∷ [])
+are_of_more input more [] h e = (e, tt)
+are_of_more input more (other ∷ inputs) h e = (h.0, are_of_more input more inputs h.1 e)
+
+-- of one input, without the last
+pub are_of_fewer : (input more : List ℕ) (inputs : List (List ℕ)) → AreOf input (inputs ++ more ∷ []) → AreOf input inputs
+are_of_fewer input more [] h = tt
+are_of_fewer input more (other ∷ inputs) h = (h.0, are_of_fewer input more inputs h.1)
+
+-- what was received is of an input still without the innermost frame
+pub lent_outer : (input : List ℕ) (f : Frame) (inputs : List (List ℕ)) → AreOf input (received_inside f inputs) → AreOf input inputs
+lent_outer input (Steps steps) inputs h = h
+lent_outer input (Scope fail) inputs h = h
+lent_outer input Event inputs h = h
+lent_outer input (Token limiter) inputs h = h
+lent_outer input (Received part) inputs h = are_of_fewer input (buffer_of part) inputs h
+lent_outer input (Nursery id) inputs h = h
+lent_outer input (Repeat pass left cuts body) inputs h = h
+lent_outer input (Try handler cleanup) inputs h = h
+lent_outer input (Handler others cleanup) inputs h = h
+lent_outer input (Cleanup outcome) inputs h = h
+
+-- of frames that are inside one more
+pub lent_before : (input : List ℕ) (fs : List Frame) (f : Frame) → AreOf input (received_in (fs ++ f ∷ [])) → AreOf input (received_in fs)
+lent_before input fs f h = lent_outer input f (received_in fs) (subst (AreOf input) (received_pushed fs (fs ++ f ∷ []) f refl) h)
 
 path_onto : (numbers : ℕ → List ℕ) (fs : List Frame) (outer : List rest.Frame) (path : List ℕ) →
     path_in (frames_onto numbers fs outer) path ≡ passes_onto fs (path_in outer path)
@@ -67,6 +164,8 @@ path_onto numbers [] outer path = refl
 path_onto numbers (Steps steps ∷ fs) outer path = path_onto numbers fs (frame_of numbers (Steps steps) ∷ outer) path
 path_onto numbers (Scope fail ∷ fs) outer path = path_onto numbers fs (frame_of numbers (Scope fail) ∷ outer) path
 path_onto numbers (Event ∷ fs) outer path = path_onto numbers fs (frame_of numbers Event ∷ outer) path
+path_onto numbers (Token limiter ∷ fs) outer path = path_onto numbers fs (frame_of numbers (Token limiter) ∷ outer) path
+path_onto numbers (Received part ∷ fs) outer path = path_onto numbers fs (frame_of numbers (Received part) ∷ outer) path
 path_onto numbers (Nursery id ∷ fs) outer path = path_onto numbers fs (frame_of numbers (Nursery id) ∷ outer) path
 path_onto numbers (Repeat pass left cuts body ∷ fs) outer path =
     path_onto numbers fs (frame_of numbers (Repeat pass left cuts body) ∷ outer) path
@@ -85,6 +184,8 @@ cuts_inner numbers [] outer input lent = refl
 cuts_inner numbers (Steps steps ∷ fs) outer input lent = cuts_inner numbers fs (frame_of numbers (Steps steps) ∷ outer) input lent
 cuts_inner numbers (Scope fail ∷ fs) outer input lent = cuts_inner numbers fs (frame_of numbers (Scope fail) ∷ outer) input lent
 cuts_inner numbers (Event ∷ fs) outer input lent = cuts_inner numbers fs (frame_of numbers Event ∷ outer) input lent
+cuts_inner numbers (Token limiter ∷ fs) outer input lent = cuts_inner numbers fs (frame_of numbers (Token limiter) ∷ outer) input lent
+cuts_inner numbers (Received part ∷ fs) outer input lent = cuts_inner numbers fs (frame_of numbers (Received part) ∷ outer) input lent
 cuts_inner numbers (Nursery id ∷ fs) outer input lent = cuts_inner numbers fs (frame_of numbers (Nursery id) ∷ outer) input lent
 cuts_inner numbers (Repeat pass left cuts body ∷ fs) outer input lent =
     cuts_inner numbers fs (frame_of numbers (Repeat pass left cuts body) ∷ outer) input lent
@@ -104,6 +205,8 @@ cuts_append [] gs input lent = refl
 cuts_append (Steps steps ∷ fs) gs input lent = cuts_append fs gs input lent
 cuts_append (Scope fail ∷ fs) gs input lent = cuts_append fs gs input lent
 cuts_append (Event ∷ fs) gs input lent = cuts_append fs gs input lent
+cuts_append (Token limiter ∷ fs) gs input lent = cuts_append fs gs input lent
+cuts_append (Received part ∷ fs) gs input lent = cuts_append fs gs input (range_of part)
 cuts_append (Nursery id ∷ fs) gs input lent = cuts_append fs gs input lent
 cuts_append (Repeat pass left cuts body ∷ fs) gs input lent = cuts_append fs gs input (part_in_pass input cuts pass lent)
 cuts_append (Try handler cleanup ∷ fs) gs input lent = cuts_append fs gs input lent
@@ -121,6 +224,8 @@ has_cuts (f ∷ fs) outer h =
     one (Steps steps) gs k = (tt, k.1)
     one (Scope fail) gs k = (tt, k)
     one Event gs k = (tt, k)
+    one (Token limiter) gs k = (tt, k)
+    one (Received part) gs k = (tt, k)
     one (Nursery id) gs k = (tt, k)
     one (Repeat pass left None body) gs k = (tt, k.3)
     one (Repeat pass left (Some n) body) gs k = ((let e : pass < n = omega (arith, k.2.0) in e, k.2.1), k.3)
@@ -134,6 +239,8 @@ path_append [] gs path = refl
 path_append (Steps steps ∷ fs) gs path = path_append fs gs path
 path_append (Scope fail ∷ fs) gs path = path_append fs gs path
 path_append (Event ∷ fs) gs path = path_append fs gs path
+path_append (Token limiter ∷ fs) gs path = path_append fs gs path
+path_append (Received part ∷ fs) gs path = path_append fs gs path
 path_append (Nursery id ∷ fs) gs path = path_append fs gs path
 path_append (Repeat pass left cuts body ∷ fs) gs path = path_append fs gs (path ++ pass ∷ [])
 path_append (Try handler cleanup ∷ fs) gs path = path_append fs gs path

@@ -6,6 +6,7 @@ use Rattle.std.specs.Prelude.{All, IsSome}
 use Rattle.std.specs.Option.{IsSomeAnd, ForSome, option_map, unwrap_or}
 use Rattle.std.specs.List.{last_or}
 use Rattle.turn_semantics.specs.Lists.{IsAmong}
+use Rattle.input_lines.specs.Part.{buffer_of}
 use Rattle.input_lines.specs.declared.part.Part.{Part}
 use Rattle.cancel_scopes.specs.Sight.{Level, earlier}
 use Rattle.cancel_scopes.specs.Tree.{Stack, Tree, stack_of, outer_of, IsOpen, IsOwn, IsChain, IsApart, OthersKeep, after_cancel}
@@ -16,7 +17,7 @@ use Rattle.nursery_book.specs.declared.book.NurseryBook.{NurseryBook}
 use Rattle.task_machine.specs.declared.frame.Frame.{Frame}
 use Rattle.task_machine.specs.declared.frame.Frame.TheVariants.{Nursery}
 use Rattle.task_machine.specs.declared.task.Own.{Own}
-use Rattle.task_machine.specs.Fitting.{Block, a_scope, a_nursery, blocks_of, AreInRangeFrames, StartsFit, AreOthers, IsMine, IsBlockOf, Opened, AnyRuns, HasRunning, RunsIn, OthersRun, SameKeys, FitsIn}
+use Rattle.task_machine.specs.Fitting.{Block, a_scope, a_nursery, blocks_of, received_in, AreOf, AreInRangeFrames, StartsFit, AreOthers, IsMine, IsBlockOf, Opened, AnyRuns, HasRunning, RunsIn, OthersRun, SameKeys, FitsIn}
 use Rattle.task_machine.specs.Frames.{frames_of}
 use Rattle.task_machine.specs.Labels.{Labels}
 use Rattle.task_machine.specs.Labels as label
@@ -25,7 +26,7 @@ use Rattle.task_machine.specs.Stacked.{IsKey}
 use Rattle.task_machine.proofs.Blocks.{blocks_append, IsScope, scope_block, range_outer, starts_outer, Innermost, opened_in, opened_out, opened_some, opened_waits, StaysBut, opened_stays, runs_in_waits, runs_in_later}
 use Rattle.task_machine.proofs.Cancels.{open_around}
 use Rattle.task_machine.proofs.Fits.{LastOf, last_of, first_key, head_among, outer_open, around_open}
-use Rattle.task_machine.proofs.FrameLemmas.{frames_push}
+use Rattle.task_machine.proofs.FrameLemmas.{frames_push, lent_before}
 use Rattle.task_machine.proofs.Leaves.{keys_pushed, Top}
 use Rattle.task_machine.proofs.Others.{is_mine, among_left, among_right, others_entered, others_left}
 use Rattle.task_machine.proofs.OwnLemmas.{ids, last_pushed}
@@ -101,6 +102,7 @@ fits_signed fs part home own n old new labels book waits same h =
     record {
       runs = record {
         in_range = h.runs.in_range;
+        lent = h.runs.lent;
         starts = h.runs.starts;
         home = λ k e. same_open (stack_of new k) (stack_of old k) (same k) (h.runs.home k e);
         scope = λ k e. same_open (stack_of new k) (stack_of old k) (same k) (h.runs.scope k e);
@@ -158,14 +160,16 @@ pub fits_entered : (fs gs : List Frame) (b : Block) (part : Part) (home : Option
     level.label ≡ o.id → OthersKeep old new o.id →
     label.Updates labels more o.id (Some name) → o.at ≡ n → ((id : ℕ) (m : Members) → nursery_at book id ≡ Some m →
     nursery_at after id ≡ Some m) → IsBlockOf more after b o →
-    blocks_of gs ≡ blocks_of fs ++ b ∷ [] → AreInRangeFrames (frames_of (λ id. []) gs) → StartsFit (frames_of (λ id. []) gs) →
+    blocks_of gs ≡ blocks_of fs ++ b ∷ [] → AreInRangeFrames (frames_of (λ id. []) gs) → AreOf (buffer_of part) (received_in gs) →
+    StartsFit (frames_of (λ id. []) gs) →
     FitsIn fs part home own n old labels book None →
     FitsIn gs part home (own ++ o ∷ []) (suc n) new more after None
 fits_entered fs gs b part home own o n old new labels more book after name level chain closed stack named keep u at stay block blocks in_range
-    starts h =
+    lent starts h =
     record {
       runs = record {
         in_range = in_range;
+        lent = lent;
         starts = starts;
         home = λ k e. subst IsSome (sym (kept_open old new o.id k closed keep (h.runs.home k e))) (h.runs.home k e);
         scope = λ k e. subst (IsOpen new) (one_of o.id k (sym last ∙ e)) (subst IsSome (sym stack) refl);
@@ -240,6 +244,7 @@ fits_left fs f is part home os o n old new labels more book chain owns apart top
     record {
       runs = record {
         in_range = range_outer (λ id. []) f _ is (subst AreInRangeFrames (frames_push (λ id. []) fs f) h.runs.in_range);
+        lent = lent_before (buffer_of part) fs f h.runs.lent;
         starts = starts_outer (λ id. []) f _ is (subst StartsFit (frames_push (λ id. []) fs f) h.runs.starts);
         home = home_open old new chain owns apart home os o top keep h.runs.home;
         scope = around_open old new chain owns apart home os o h.runs.home top keep;
@@ -313,6 +318,7 @@ fits_awaits fs id part home own n tree labels book after exc moment changes h =
     record {
       runs = record {
         in_range = subst AreInRangeFrames (frames_push (λ key. []) fs (Nursery id)) h.runs.in_range;
+        lent = lent_before (buffer_of part) fs (Nursery id) h.runs.lent;
         starts = subst StartsFit (frames_push (λ key. []) fs (Nursery id)) h.runs.starts;
         home = h.runs.home;
         scope = h.runs.scope;

@@ -19,6 +19,7 @@ pub mod Fits
 pub mod Begins
 pub mod Cancelled
 pub mod Lists
+pub mod Served
 pub mod Nurseries
 pub mod Taking
 pub mod Kept
@@ -36,7 +37,9 @@ pub mod Stopping
 pub mod Advances
 pub mod AdvancesSteps
 pub mod Waits
+pub mod Asks
 pub mod Wakens
+pub mod Grants
 pub mod Children
 pub mod TurnGoes
 pub mod WholeTurn

@@ -126,6 +126,7 @@ fits_settled fs id part home os o n old new labels more book after chain owns ap
     record {
       runs = record {
         in_range = h.runs.in_range;
+        lent = h.runs.lent;
         starts = h.runs.starts;
         home = home_open old new chain owns apart home os o top keep h.runs.home;
         scope = around_open old new chain owns apart home os o h.runs.home top keep;
@@ -203,6 +204,7 @@ fits_started fs id part home own n tree labels book after m more was u h =
     record {
       runs = record {
         in_range = h.runs.in_range;
+        lent = h.runs.lent;
         starts = h.runs.starts;
         home = h.runs.home;
         scope = h.runs.scope;

@@ -143,6 +143,15 @@ catches_for labels events own cancelled_from l ls p ps t scope a =
     (seen_levels labels events own t ls) p ps t scope (seen_places labels events own t cancelled_from (l ∷ ls) (p ∷ ps) a)
     ∙ ap (λ (st : Levels). catches (from_for own t p.label (cancelled_from p.label)) p.shield st t) (own_stack own t cancelled_from ps)
 
+-- what such a task sees is what is seen on its places
+pub seen_for : (labels : Labels) (events : Events) (own : List Label) (cancelled_from : Table) (st : scopes.Stack) (ps : List Place) (t : ℕ) →
+    AreAt labels events cancelled_from st ps →
+    seen (seen_levels labels events own t st) t ≡ seen (stack_for own t (stack_at cancelled_from ps).scopes) t
+seen_for labels events own cancelled_from st ps t a =
+    seen_at labels (own_events labels events own t) (own_cancelled_from own t cancelled_from) (seen_levels labels events own t st) ps t
+    (seen_places labels events own t cancelled_from st ps a)
+    ∙ ap (λ (ls : Levels). seen ls t) (own_stack own t cancelled_from ps)
+
 -- a task that has cancelled nothing sees the stack as it is
 pub seen_as_is : (labels : Labels) (events : Events) (t : ℕ) (st : scopes.Stack) → seen_levels labels events [] t st ≡ st
 seen_as_is labels events t [] = refl

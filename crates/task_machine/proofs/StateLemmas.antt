@@ -9,13 +9,13 @@ use Rattle.nursery_book.specs.Book.{nursery_at, HasNursery}
 use Rattle.nursery_book.specs.declared.book.NurseryBook.{NurseryBook}
 use Rattle.job_meaning.specs.declared.clock.Clock.{Clock}
 use Rattle.job_meaning.specs.Rest as rest
-use Rattle.job_meaning.specs.Rest.{Stopped, to_begin, asking, asleep, waiting_for, giving_up, awaiting, at_end}
+use Rattle.job_meaning.specs.Rest.{Stopped, to_begin, asking, asleep, waiting_for, queued, giving_up, awaiting, at_end}
 use Rattle.task_machine.specs.declared.frame.Frame.{Frame}
-use Rattle.task_machine.specs.declared.frame.Frame.TheVariants.{Steps, Scope, Event, Nursery, Repeat, Try, Handler, Cleanup}
+use Rattle.task_machine.specs.declared.frame.Frame.TheVariants.{Steps, Scope, Event, Token, Received, Nursery, Repeat, Try, Handler, Cleanup}
 use Rattle.task_machine.specs.declared.stop.TaskState.{TaskState}
-use Rattle.task_machine.specs.declared.stop.TaskState.TheVariants.{ToBegin, Asked, Asleep, Waiting, GivingUp, Awaits, Over}
+use Rattle.task_machine.specs.declared.stop.TaskState.TheVariants.{ToBegin, Asked, Asleep, Waiting, Queued, GivingUp, Awaits, Over}
 use Rattle.task_machine.specs.declared.stop.Stop.{Stop}
-use Rattle.task_machine.specs.declared.stop.Stop.TheVariants.{Ask, Sleep, WaitFor, GiveUp, Wait, Ended}
+use Rattle.task_machine.specs.declared.stop.Stop.TheVariants.{Ask, Sleep, WaitFor, Queue, GiveUp, Wait, Ended}
 use Rattle.task_machine.specs.declared.task.Own.{Own}
 use Rattle.task_machine.specs.declared.task.Task.{Task}
 use Rattle.task_machine.specs.declared.world.World.{World}
@@ -44,6 +44,8 @@ Keyed P now (rest.in_scope fail ∷ fs) [] = ⊥
 Keyed P now (rest.in_scope fail ∷ fs) (k ∷ ks) = Keyed P now fs ks
 Keyed P now (rest.in_event ∷ fs) [] = ⊥
 Keyed P now (rest.in_event ∷ fs) (k ∷ ks) = Keyed P now fs ks
+Keyed P now (rest.with_token limiter ∷ fs) ks = Keyed P now fs ks
+Keyed P now (rest.with_part received ∷ fs) ks = Keyed P now fs ks
 Keyed P now (rest.in_nursery children ∷ fs) [] = ⊥
 Keyed P now (rest.in_nursery children ∷ fs) (k ∷ ks) = ((id : ℕ) × (children ≡ now id) × P id k) × Keyed P now fs ks
 Keyed P now (rest.in_repeat pass left cuts body ∷ fs) ks = Keyed P now fs ks
@@ -92,6 +94,10 @@ keyed_onto P now labels book (Event ∷ fs) (o ∷ own) waits outer ks has h k =
     subst (λ (zs : List ℕ). KeyedAfter P waits now (frames_onto now fs (rest.in_event ∷ outer)) zs)
     (sym (append_assoc (keys_in own) (o.id ∷ []) ks))
     (keyed_onto P now labels book fs own waits (rest.in_event ∷ outer) (o.id ∷ ks) has h.2 k)
+keyed_onto P now labels book (Token limiter ∷ fs) own waits outer ks has h k =
+    keyed_onto P now labels book fs own waits (frame_of now (Token limiter) ∷ outer) ks has h k
+keyed_onto P now labels book (Received part ∷ fs) own waits outer ks has h k =
+    keyed_onto P now labels book fs own waits (frame_of now (Received part) ∷ outer) ks has h k
 keyed_onto P now labels book (Nursery id ∷ fs) [] waits outer ks has h k = absurd h
 keyed_onto P now labels book (Nursery id ∷ fs) (o ∷ own) waits outer ks has h k =
     subst (λ (zs : List ℕ). KeyedAfter P waits now (frames_onto now fs (rest.in_nursery (now id) ∷ outer)) zs)
@@ -126,11 +132,13 @@ returned_end clock numbers book part stop (ToBegin at) u e h returned = absurd h
 returned_end clock numbers book part stop (Asked kernel purpose) u e h returned = absurd h
 returned_end clock numbers book part stop (Asleep paced ticks since) u e h returned = absurd h
 returned_end clock numbers book part stop (Waiting event since) u e h returned = absurd h
+returned_end clock numbers book part stop (Queued object ask since body) u e h returned = absurd h
 returned_end clock numbers book part stop (GivingUp since) u e h returned = absurd h
 returned_end clock numbers book part stop (Awaits id since) u e h returned = absurd h
 returned_end clock numbers book part (Ask request) Over u e h returned = absurd returned
 returned_end clock numbers book part (Sleep due) Over u e h returned = absurd returned
 returned_end clock numbers book part (WaitFor event) Over u e h returned = absurd returned
+returned_end clock numbers book part (Queue request) Over u e h returned = absurd returned
 returned_end clock numbers book part (GiveUp due) Over u e h returned = absurd returned
 returned_end clock numbers book part (Wait id) Over u e h returned = absurd returned
 returned_end clock numbers book part (Ended exc) Over u e h returned = (exc, refl)
@@ -141,6 +149,7 @@ WaitsAs numbers waits to_begin = waits ≡ None
 WaitsAs numbers waits (asking kernel purpose) = waits ≡ None
 WaitsAs numbers waits (asleep paced n since) = waits ≡ None
 WaitsAs numbers waits (waiting_for event since) = waits ≡ None
+WaitsAs numbers waits (queued object ask since body) = waits ≡ None
 WaitsAs numbers waits (giving_up since) = waits ≡ None
 WaitsAs numbers waits (awaiting children ended exc) = (id : ℕ) × (waits ≡ Some id) × (numbers id ≡ children)
 WaitsAs numbers waits (at_end u e) = waits ≡ None
@@ -152,6 +161,7 @@ task_state_waits numbers book (ToBegin at) to_begin h = refl
 task_state_waits numbers book (ToBegin at) (asking k p) h = absurd h
 task_state_waits numbers book (ToBegin at) (asleep q n u) h = absurd h
 task_state_waits numbers book (ToBegin at) (waiting_for event u) h = absurd h
+task_state_waits numbers book (ToBegin at) (queued name a u steps) h = absurd h
 task_state_waits numbers book (ToBegin at) (giving_up u) h = absurd h
 task_state_waits numbers book (ToBegin at) (awaiting kids u exc) h = absurd h
 task_state_waits numbers book (ToBegin at) (at_end u e) h = absurd h
@@ -159,6 +169,7 @@ task_state_waits numbers book (Asked kernel purpose) to_begin h = absurd h
 task_state_waits numbers book (Asked kernel purpose) (asking k p) h = refl
 task_state_waits numbers book (Asked kernel purpose) (asleep q n u) h = absurd h
 task_state_waits numbers book (Asked kernel purpose) (waiting_for event u) h = absurd h
+task_state_waits numbers book (Asked kernel purpose) (queued name a u steps) h = absurd h
 task_state_waits numbers book (Asked kernel purpose) (giving_up u) h = absurd h
 task_state_waits numbers book (Asked kernel purpose) (awaiting kids u exc) h = absurd h
 task_state_waits numbers book (Asked kernel purpose) (at_end u e) h = absurd h
@@ -166,6 +177,7 @@ task_state_waits numbers book (Asleep paced ticks since) to_begin h = absurd h
 task_state_waits numbers book (Asleep paced ticks since) (asking k p) h = absurd h
 task_state_waits numbers book (Asleep paced ticks since) (asleep q n u) h = refl
 task_state_waits numbers book (Asleep paced ticks since) (waiting_for event u) h = absurd h
+task_state_waits numbers book (Asleep paced ticks since) (queued name a u steps) h = absurd h
 task_state_waits numbers book (Asleep paced ticks since) (giving_up u) h = absurd h
 task_state_waits numbers book (Asleep paced ticks since) (awaiting kids u exc) h = absurd h
 task_state_waits numbers book (Asleep paced ticks since) (at_end u e) h = absurd h
@@ -173,13 +185,23 @@ task_state_waits numbers book (Waiting event since) to_begin h = absurd h
 task_state_waits numbers book (Waiting event since) (asking k p) h = absurd h
 task_state_waits numbers book (Waiting event since) (asleep q n u) h = absurd h
 task_state_waits numbers book (Waiting event since) (waiting_for name u) h = refl
+task_state_waits numbers book (Waiting event since) (queued name a u steps) h = absurd h
 task_state_waits numbers book (Waiting event since) (giving_up u) h = absurd h
 task_state_waits numbers book (Waiting event since) (awaiting kids u exc) h = absurd h
 task_state_waits numbers book (Waiting event since) (at_end u e) h = absurd h
+task_state_waits numbers book (Queued object ask since body) to_begin h = absurd h
+task_state_waits numbers book (Queued object ask since body) (asking k p) h = absurd h
+task_state_waits numbers book (Queued object ask since body) (asleep q n u) h = absurd h
+task_state_waits numbers book (Queued object ask since body) (waiting_for event u) h = absurd h
+task_state_waits numbers book (Queued object ask since body) (queued name a u steps) h = refl
+task_state_waits numbers book (Queued object ask since body) (giving_up u) h = absurd h
+task_state_waits numbers book (Queued object ask since body) (awaiting kids u exc) h = absurd h
+task_state_waits numbers book (Queued object ask since body) (at_end u e) h = absurd h
 task_state_waits numbers book (GivingUp since) to_begin h = absurd h
 task_state_waits numbers book (GivingUp since) (asking k p) h = absurd h
 task_state_waits numbers book (GivingUp since) (asleep q n u) h = absurd h
 task_state_waits numbers book (GivingUp since) (waiting_for event u) h = absurd h
+task_state_waits numbers book (GivingUp since) (queued name a u steps) h = absurd h
 task_state_waits numbers book (GivingUp since) (giving_up u) h = refl
 task_state_waits numbers book (GivingUp since) (awaiting kids u exc) h = absurd h
 task_state_waits numbers book (GivingUp since) (at_end u e) h = absurd h
@@ -187,6 +209,7 @@ task_state_waits numbers book (Awaits id since) to_begin h = absurd h
 task_state_waits numbers book (Awaits id since) (asking k p) h = absurd h
 task_state_waits numbers book (Awaits id since) (asleep q n u) h = absurd h
 task_state_waits numbers book (Awaits id since) (waiting_for event u) h = absurd h
+task_state_waits numbers book (Awaits id since) (queued name a u steps) h = absurd h
 task_state_waits numbers book (Awaits id since) (giving_up u) h = absurd h
 task_state_waits numbers book (Awaits id since) (awaiting kids u exc) h = (id, refl, h.0)
 task_state_waits numbers book (Awaits id since) (at_end u e) h = absurd h
@@ -194,6 +217,7 @@ task_state_waits numbers book Over to_begin h = absurd h
 task_state_waits numbers book Over (asking k p) h = absurd h
 task_state_waits numbers book Over (asleep q n u) h = absurd h
 task_state_waits numbers book Over (waiting_for event u) h = absurd h
+task_state_waits numbers book Over (queued name a u steps) h = absurd h
 task_state_waits numbers book Over (giving_up u) h = absurd h
 task_state_waits numbers book Over (awaiting kids u exc) h = absurd h
 task_state_waits numbers book Over (at_end u e) h = refl

@@ -19,7 +19,7 @@ use Rattle.job_meaning.specs.Moments.{tick_of, a_round_after, Now}
 use Rattle.job_meaning.specs.declared.clock.Clock.{Clock}
 use Rattle.job_meaning.specs.Walk.{Here}
 use Rattle.job_meaning.specs.Rest as rest
-use Rattle.job_meaning.specs.Rest.{Event, noted, signs, enters, starts, Stopped}
+use Rattle.job_meaning.specs.Rest.{Event, noted, signs, enters, acts, starts, Stopped}
 use Rattle.task_machine.specs.declared.entry.Entry.{Entry}
 use Rattle.task_machine.specs.Noted.{entry_of, IsSlice, shown_made, AreNoted}
 use Rattle.turn_semantics.specs.Midway.{Place, Midway, Begun, Move, after_move, no_move, then_move, now_after}
@@ -46,6 +46,7 @@ use Rattle.task_machine.proofs.Begins.{begins_more, begins_last}
 use Rattle.task_machine.proofs.Cancelled.{own_on, own_then}
 use Rattle.task_machine.proofs.Lists.{got_first}
 use Rattle.task_machine.proofs.Nurseries.{nurseries_same}
+use Rattle.task_machine.proofs.Served.{unacted, served_then}
 
 -- ---- one more step of a turn
 
@@ -141,6 +142,7 @@ shown_append clock input [] fs = refl
 shown_append clock input (noted t e ∷ es) fs = ap (λ x. shown_at input (tick_of clock t) e ∷ x) (shown_append clock input es fs)
 shown_append clock input (signs l t ∷ es) fs = shown_append clock input es fs
 shown_append clock input (enters l t d ∷ es) fs = shown_append clock input es fs
+shown_append clock input (acts l t a ∷ es) fs = shown_append clock input es fs
 shown_append clock input (starts i l t ∷ es) fs = shown_append clock input es fs
 
 noted_append : (clock : Clock) (input : List ℕ) (xs ys : List Entry) (es fs : List Event) → AreNoted clock input xs es →
@@ -420,6 +422,7 @@ took_both s m u exc goes cancelled_from numbers o q first second part clock tick
         q.begun o.made first.nurseries second.nurseries first.acts s.clock (a_round_after s.clock s.tick) first.begun tick;
     acts = acts_append s.tick (scoping_in s) (scoping_in m) (scoping_in u) o.made q.made first.acts
         (subst (λ (t : ℕ). Acts t (scoping_in m) q.made (scoping_in u)) tick second.acts);
+    served = served_then s.acts m.acts u.acts o.made q.made first.served second.served;
     own =
         own_then s.clock s.cancelled m.cancelled u.cancelled o.made q.made q.stopped
         (own_on s.clock s.cancelled m.cancelled o.made o.stopped first.moves.1 first.own)
@@ -454,6 +457,7 @@ stands_where s u cancelled_from numbers ps now here stands count exc goes took =
       numbered = λ id has. took.nurseries.numbered id (inl has);
       placed = subst (λ (gs : List rest.Frame). PlacedAfter o.stopped gs o.places) (sym took.frames_after) step.placed;
       new = subst (λ (gs : List rest.Frame). NewIn gs (outer_places o.stopped o.places)) (sym took.frames_after) names.frames;
+      stop = names.stop;
       own = names.own;
     }
 
@@ -481,6 +485,7 @@ took_nothing s exc cancelled_from numbers now here ps count stands = (
     last = tt;
     nurseries = nurseries_same s s None numbers refl refl (λ id has. has) (λ id has. has) stands.numbered;
     acts = no_act (scoping_in s);
+    served = unacted s.acts s.acts refl;
     own = refl;
   },
   refl,

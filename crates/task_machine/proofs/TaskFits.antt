@@ -6,6 +6,7 @@ use Rattle.std.proofs.lemmas.Option.{none-some}
 use Rattle.std.specs.Prelude.{IsSome, is_some, All}
 use Rattle.std.specs.Option.{IsSomeAnd, option_map}
 use Rattle.std.specs.List.{last_or}
+use Rattle.input_lines.specs.Part.{buffer_of}
 use Rattle.cancel_scopes.specs.Sight.{Tick}
 use Rattle.cancel_scopes.specs.Tree.{Tree, IsChain, IsOwn, IsApart}
 use Rattle.job_meaning.specs.Rest as rest
@@ -33,7 +34,7 @@ use Rattle.task_machine.specs.declared.task.Home.{Home}
 use Rattle.task_machine.specs.declared.task.Own.{Own}
 use Rattle.task_machine.specs.Acts.{Enters, Leaves, scoping_in}
 use Rattle.task_machine.specs.Entered.{EntersBlock, EntersNursery}
-use Rattle.task_machine.specs.Fitting.{Block, a_scope, a_nursery, blocks_of, IsMine, Opened, AreInRangeFrames, StartsFit, IsBlockOf, SameKeys, FitsIn, Fits, waits_of, AreInRangeCuts, HasCut}
+use Rattle.task_machine.specs.Fitting.{Block, a_scope, a_nursery, blocks_of, received_in, AreOf, IsMine, Opened, AreInRangeFrames, StartsFit, IsBlockOf, SameKeys, FitsIn, Fits, waits_of, AreInRangeCuts, HasCut}
 use Rattle.task_machine.specs.Frames.{frame_of, frames_of}
 use Rattle.task_machine.specs.Labels.{Labels}
 use Rattle.task_machine.specs.Left.{OwnFirst}
@@ -41,15 +42,15 @@ use Rattle.task_machine.specs.Standing.{with_frames}
 use Rattle.task_machine.specs.States.{State, scope_at, lent_at}
 use Rattle.task_machine.specs.Waking.{WakesFrom}
 use Rattle.task_machine.proofs.Fits.{Ready, fits_frames}
-use Rattle.task_machine.proofs.Blocks.{blocks_append, IsScope, scope_block, range_inner, starts_inner}
+use Rattle.task_machine.proofs.Blocks.{blocks_append, IsScope, scope_block, scope_received, range_inner, starts_inner}
 use Rattle.task_machine.proofs.Bodies.{body_block}
-use Rattle.task_machine.proofs.FrameLemmas.{frames_push, has_cuts}
+use Rattle.task_machine.proofs.FrameLemmas.{frames_push, has_cuts, lent_before}
 use Rattle.task_machine.proofs.Kept.{fits_signed, fits_entered, fits_left, fits_awaits}
 use Rattle.task_machine.proofs.Leaves.{top_of}
 use Rattle.task_machine.proofs.OwnLemmas.{ids, last_pushed}
 use Rattle.task_machine.proofs.Stacked.{one_of}
 use Rattle.task_machine.proofs.Settles.{ready_settled, fits_settled, fits_started}
-use Rattle.task_machine.proofs.TooksEntered.{entered_frames, entered_blocks}
+use Rattle.task_machine.proofs.TooksEntered.{entered_frames, entered_blocks, entered_received}
 
 -- the laws of the open scopes
 pub record Laws (tree : Tree) : Type 0 where
@@ -136,6 +137,10 @@ cancelled_fits s u waits h same stays =
     subst (λ (x : State). Fits x waits) (sym stays)
     (fits_signed s.frames s.part (home_in s) s.own (length s.cancelled_from) s.tree u.tree s.labels s.book waits same h)
 
+-- something was done to a limiter or channel
+pub acted_fits : (s u : State) (waits : Option ℕ) → Fits s waits → u ≡ record s { acts = u.acts } → Fits u waits
+acted_fits s u waits h stays = subst (λ (x : State). Fits x waits) (sym stays) h
+
 -- an event was set by a task that keeps its label
 pub set_fits : (s u : State) (waits : Option ℕ) → Fits s waits → u ≡ record s { events = u.events; set = u.set; cancelled = u.cancelled } →
     Fits u waits
@@ -143,12 +148,17 @@ set_fits s u waits h stays = subst (λ (x : State). Fits x waits) (sym stays) h
 
 -- ---- frames alone
 
+-- what was received is of the input of the task still without the innermost frame
+pub lent_off : (s : State) (f : Frame) → Fits (with_frames s (s.frames ++ f ∷ [])) None → AreOf (buffer_of s.part) (received_in s.frames)
+lent_off s f h = lent_before (buffer_of s.part) s.frames f h.runs.lent
+
 -- what holds of a task is kept with other frames of the same blocks that can run
 pub frames_fit : (s : State) (whole : List Frame) (u : State) → Fits (with_frames s whole) None → blocks_of u.frames ≡ blocks_of whole →
-    AreInRangeFrames (frames_of (λ id. []) u.frames) → StartsFit (frames_of (λ id. []) u.frames) → u ≡ with_frames s u.frames → Fits u None
-frames_fit s whole u h same in_range starts stays =
+    AreInRangeFrames (frames_of (λ id. []) u.frames) → AreOf (buffer_of s.part) (received_in u.frames) →
+    StartsFit (frames_of (λ id. []) u.frames) → u ≡ with_frames s u.frames → Fits u None
+frames_fit s whole u h same in_range lent starts stays =
     subst (λ (x : State). Fits x None) (sym stays)
-    (fits_frames whole u.frames s.part (home_in s) s.own (length s.cancelled_from) s.tree s.labels s.book same in_range starts h)
+    (fits_frames whole u.frames s.part (home_in s) s.own (length s.cancelled_from) s.tree s.labels s.book same in_range lent starts h)
 
 -- the blocks without an innermost frame that is no block
 blocks_but : (fs : List Frame) (f : Frame) → blocks_of (f ∷ []) ≡ [] → blocks_of fs ≡ blocks_of (fs ++ f ∷ [])
@@ -161,11 +171,12 @@ pub entered_fits : (b : Block) (label : Label) (s u : State) → Laws s.tree →
     (e : Enters (scope_at s) label is_event deadline (scoping_in s) (scoping_in u)) →
     ((id : ℕ) (m : Members) → nursery_at s.book id ≡ Some m → nursery_at u.book id ≡ Some m) → IsBlockOf u.labels u.book b e.scope →
     blocks_of u.frames ≡ blocks_of s.frames ++ b ∷ [] → AreInRangeFrames (frames_of (λ id. []) u.frames) →
-    StartsFit (frames_of (λ id. []) u.frames) → u.part ≡ s.part → u.home ≡ s.home → Fits u None
-entered_fits b label s u laws h e stay block blocks in_range starts part home =
+    received_in u.frames ≡ received_in s.frames → StartsFit (frames_of (λ id. []) u.frames) → u.part ≡ s.part → u.home ≡ s.home → Fits u None
+entered_fits b label s u laws h e stay block blocks in_range received starts part home =
     rw (part, home, cancelled_from, e.opened)
     (fits_entered s.frames u.frames b s.part (home_in s) s.own e.scope (length s.cancelled_from) s.tree u.tree s.labels u.labels s.book
-    u.book label e.level laws.chain e.fresh e.stack e.named e.others e.labelled e.index stay block blocks in_range starts h)
+    u.book label e.level laws.chain e.fresh e.stack e.named e.others e.labelled e.index stay block blocks in_range
+    (subst (AreOf (buffer_of s.part)) (sym received) h.runs.lent) starts h)
   where
     cancelled_from : length u.cancelled_from ≡ suc (length s.cancelled_from)
     cancelled_from =
@@ -183,6 +194,7 @@ scope_fits f is body label s u laws h e inside in_range starts book part home =
     ∙ ap (λ (bs : List Block). blocks_of s.frames ++ bs) (scope_block f is))
     (subst AreInRangeFrames (sym (entered_frames (λ id. []) s.frames u.frames f inside.top body inside.block inside.frames))
     (in_range, range_inner (λ id. []) f _ is h.runs.in_range))
+    (entered_received s.frames u.frames f inside.top body inside.block inside.frames ∙ scope_received f is (received_in s.frames))
     (subst StartsFit (sym (entered_frames (λ id. []) s.frames u.frames f inside.top body inside.block inside.frames))
     (starts_inner (λ id. []) f body _ is starts h.runs.starts)) part home
 
@@ -197,6 +209,7 @@ nursery_fits me body label s u laws h e n in_range starts part home =
     (entered_blocks s.frames u.frames (Nursery n.id) n.frames.top body n.frames.block n.frames.frames)
     (subst AreInRangeFrames
     (sym (entered_frames (λ id. []) s.frames u.frames (Nursery n.id) n.frames.top body n.frames.block n.frames.frames)) (in_range, h.runs.in_range))
+    (entered_received s.frames u.frames (Nursery n.id) n.frames.top body n.frames.block n.frames.frames)
     (subst StartsFit (sym (entered_frames (λ id. []) s.frames u.frames (Nursery n.id) n.frames.top body n.frames.block n.frames.frames))
     (starts, h.runs.starts)) part home
   where
@@ -226,7 +239,7 @@ started_fits id m more s u h was put world =
 -- what holds of a state is held without the innermost frame, which is no block
 pub frame_off : (s : State) (f : Frame) → blocks_of (f ∷ []) ≡ [] → Fits (with_frames s (s.frames ++ f ∷ [])) None →
     AreInRangeFrames (frames_of (λ id. []) s.frames) → StartsFit (frames_of (λ id. []) s.frames) → Fits s None
-frame_off s f none h in_range starts = frames_fit s (s.frames ++ f ∷ []) s h (blocks_but s.frames f none) in_range starts refl
+frame_off s f none h in_range starts = frames_fit s (s.frames ++ f ∷ []) s h (blocks_but s.frames f none) in_range (lent_off s f h) starts refl
 
 -- what holds of the frames with one more
 pub in_range_with : (s : State) (f : Frame) → Fits (with_frames s (s.frames ++ f ∷ [])) None →
@@ -251,12 +264,13 @@ steps_longer fs f ss e =
 
 -- another frame instead of the innermost one, neither of them a block
 pub pushed_fits : (s u : State) (f g : Frame) → blocks_of (f ∷ []) ≡ [] → Fits (with_frames s (s.frames ++ f ∷ [])) None →
-    blocks_of u.frames ≡ blocks_of s.frames → frames_of (λ id. []) u.frames ≡ frame_of (λ id. []) g ∷ frames_of (λ id. []) s.frames →
+    blocks_of u.frames ≡ blocks_of s.frames → received_in u.frames ≡ received_in s.frames →
+    frames_of (λ id. []) u.frames ≡ frame_of (λ id. []) g ∷ frames_of (λ id. []) s.frames →
     AreInRangeFrames (frame_of (λ id. []) g ∷ frames_of (λ id. []) s.frames) →
     StartsFit (frame_of (λ id. []) g ∷ frames_of (λ id. []) s.frames) → u ≡ with_frames s u.frames → Fits u None
-pushed_fits s u f g none h blocks frames in_range starts stays =
+pushed_fits s u f g none h blocks received frames in_range starts stays =
     frames_fit s (s.frames ++ f ∷ []) u h (blocks ∙ blocks_but s.frames f none) (subst AreInRangeFrames (sym frames) in_range)
-    (subst StartsFit (sym frames) starts) stays
+    (subst (AreOf (buffer_of s.part)) (sym received) (lent_off s f h)) (subst StartsFit (sym frames) starts) stays
 
 -- ---- the innermost frame is popped
 
@@ -311,13 +325,14 @@ passes_shorter (suc k) over body fs ps = let e = suc-mul k (1 + turn_length body
 -- a `repeat` has begun: the task still fits
 pub repeat_fits : (count : ℕ) (over : Bool) (body : Steps) (s u : State) → Fits s None → IsInRangePasses over count → AreInRange body →
     StartsIn (starts_in_pass over (in_body (frames_of (λ id. []) s.frames))) body →
-    blocks_of u.frames ≡ blocks_of s.frames →
+    blocks_of u.frames ≡ blocks_of s.frames → received_in u.frames ≡ received_in s.frames →
     begins_passes count over body (frames_of (λ id. []) s.frames) [] ≡ onward (frames_of (λ id. []) u.frames) [] None →
     u ≡ with_frames s u.frames → Fits u None
-repeat_fits count over body s u fits few b starts blocks step stays =
+repeat_fits count over body s u fits few b starts blocks received step stays =
     frames_fit s s.frames u fits blocks
     (subst AreInRangeFrames (ap (λ (o : Move). o.frames) step)
     (passes_in_range count over body (frames_of (λ id. []) s.frames) [] few b fits.runs.in_range))
+    (subst (AreOf (buffer_of s.part)) (sym received) fits.runs.lent)
     (subst StartsFit (ap (λ (o : Move). o.frames) step)
     (passes_starts count over body (frames_of (λ id. []) s.frames) [] starts fits.runs.starts)) stays
 
@@ -358,20 +373,22 @@ pass_shorter pass (suc k) cuts body fs ps None = let e = suc-mul k (1 + turn_len
 -- a frame that is no block has ended, and the task continues where the definitions do, with frames that can run: it still fits
 stepped_fits : (s u : State) (f : Frame) (o : Move) (exc : Option Exc) → blocks_of (f ∷ []) ≡ [] →
     Fits (with_frames s (s.frames ++ f ∷ [])) None → o ≡ onward (frames_of (λ id. []) u.frames) [] exc → AreInRangeFrames o.frames →
-    StartsFit o.frames → blocks_of u.frames ≡ blocks_of s.frames → u ≡ with_frames s u.frames → Fits u None
-stepped_fits s u f o exc none h step in_range starts blocks stays =
+    StartsFit o.frames → blocks_of u.frames ≡ blocks_of s.frames → received_in u.frames ≡ received_in s.frames → u ≡ with_frames s u.frames →
+    Fits u None
+stepped_fits s u f o exc none h step in_range starts blocks received stays =
     frames_fit s (s.frames ++ f ∷ []) u h (blocks ∙ blocks_but s.frames f none)
-    (subst AreInRangeFrames (ap (λ (x : Move). x.frames) step) in_range) (subst StartsFit (ap (λ (x : Move). x.frames) step) starts) stays
+    (subst AreInRangeFrames (ap (λ (x : Move). x.frames) step) in_range) (subst (AreOf (buffer_of s.part)) (sym received) (lent_off s f h))
+    (subst StartsFit (ap (λ (x : Move). x.frames) step) starts) stays
 
 -- a pass of a `repeat` has ended: the task still fits
 pub passed_fits : (pass left : ℕ) (cuts : Option ℕ) (body : Steps) (s u : State) (f : Frame) (exc after_exc : Option Exc) → blocks_of (f ∷ []) ≡ [] →
     frame_of (λ id. []) f ≡ rest.in_repeat pass left cuts body → Fits (with_frames s (s.frames ++ f ∷ [])) None →
     step_pass pass left cuts body (frames_of (λ id. []) s.frames) [] exc ≡ onward (frames_of (λ id. []) u.frames) [] after_exc →
-    blocks_of u.frames ≡ blocks_of s.frames → u ≡ with_frames s u.frames → Fits u None
-passed_fits pass left cuts body s u f exc after_exc none is fits step blocks stays =
+    blocks_of u.frames ≡ blocks_of s.frames → received_in u.frames ≡ received_in s.frames → u ≡ with_frames s u.frames → Fits u None
+passed_fits pass left cuts body s u f exc after_exc none is fits step blocks received stays =
     stepped_fits s u f (step_pass pass left cuts body (frames_of (λ id. []) s.frames) [] exc) after_exc none fits step
     (pass_in_range pass left cuts body (frames_of (λ id. []) s.frames) [] exc in_range.0 in_range.1 in_range.2 in_range.3)
-    (pass_starts pass left cuts body (frames_of (λ id. []) s.frames) [] exc starts.0 starts.1) blocks stays
+    (pass_starts pass left cuts body (frames_of (λ id. []) s.frames) [] exc starts.0 starts.1) blocks received stays
   where
     in_range : AreInRangeFrames (rest.in_repeat pass left cuts body ∷ frames_of (λ id. []) s.frames)
     in_range = subst (λ (x : rest.Frame). AreInRangeFrames (x ∷ frames_of (λ id. []) s.frames)) is (in_range_with s f fits)
@@ -421,11 +438,11 @@ try_shorter (tree.except name body) cleanup fs ps (Some e) = by_match (keep (nam
 pub tried_fits : (h : tree.Handled) (k : tree.Cleaned) (s u : State) (f : Frame) (exc after_exc : Option Exc) → blocks_of (f ∷ []) ≡ [] →
     frame_of (λ id. []) f ≡ rest.in_try h k → Fits (with_frames s (s.frames ++ f ∷ [])) None →
     step_try h k (frames_of (λ id. []) s.frames) [] exc ≡ onward (frames_of (λ id. []) u.frames) [] after_exc →
-    blocks_of u.frames ≡ blocks_of s.frames → u ≡ with_frames s u.frames → Fits u None
-tried_fits h k s u f exc after_exc none is fits step blocks stays =
+    blocks_of u.frames ≡ blocks_of s.frames → received_in u.frames ≡ received_in s.frames → u ≡ with_frames s u.frames → Fits u None
+tried_fits h k s u f exc after_exc none is fits step blocks received stays =
     stepped_fits s u f (step_try h k (frames_of (λ id. []) s.frames) [] exc) after_exc none fits step
     (try_in_range h k (frames_of (λ id. []) s.frames) [] exc in_range.0 in_range.1 in_range.2)
-    (try_starts h k (frames_of (λ id. []) s.frames) [] exc starts.0 starts.1 starts.2) blocks stays
+    (try_starts h k (frames_of (λ id. []) s.frames) [] exc starts.0 starts.1 starts.2) blocks received stays
   where
     in_range : AreInRangeFrames (rest.in_try h k ∷ frames_of (λ id. []) s.frames)
     in_range = subst (λ (x : rest.Frame). AreInRangeFrames (x ∷ frames_of (λ id. []) s.frames)) is (in_range_with s f fits)
@@ -437,13 +454,24 @@ tried_fits h k s u f exc after_exc none is fits step blocks stays =
 pub handled_fits : (k : tree.Cleaned) (o : Option Exc) (s u : State) (f : Frame) → blocks_of (f ∷ []) ≡ [] →
     frame_of (λ id. []) f ≡ rest.in_handler o k → Fits (with_frames s (s.frames ++ f ∷ [])) None →
     frames_of (λ id. []) u.frames ≡ rest.in_try tree.unhandled k ∷ frames_of (λ id. []) s.frames →
-    blocks_of u.frames ≡ blocks_of s.frames → u ≡ with_frames s u.frames → Fits u None
-handled_fits k o s u f none is fits frames blocks stays =
+    blocks_of u.frames ≡ blocks_of s.frames → received_in u.frames ≡ received_in s.frames → u ≡ with_frames s u.frames → Fits u None
+handled_fits k o s u f none is fits frames blocks received stays =
     frames_fit s (s.frames ++ f ∷ []) u fits (blocks ∙ blocks_but s.frames f none)
-    (subst AreInRangeFrames (sym frames) (tt, in_range.0, in_range.1)) (subst StartsFit (sym frames) (tt, starts.0, starts.1)) stays
+    (subst AreInRangeFrames (sym frames) (tt, in_range.0, in_range.1)) (subst (AreOf (buffer_of s.part)) (sym received) (lent_off s f fits)) (subst StartsFit (sym frames) (tt, starts.0, starts.1)) stays
   where
     in_range : AreInRangeFrames (rest.in_handler o k ∷ frames_of (λ id. []) s.frames)
     in_range = subst (λ (x : rest.Frame). AreInRangeFrames (x ∷ frames_of (λ id. []) s.frames)) is (in_range_with s f fits)
 
     starts : StartsFit (rest.in_handler o k ∷ frames_of (λ id. []) s.frames)
     starts = subst (λ (x : rest.Frame). StartsFit (x ∷ frames_of (λ id. []) s.frames)) is (starts_with s f fits)
+
+-- ---- what is granted
+
+-- what holds of a task is kept when it goes on with a block inside these frames, which were granted to it
+pub granted_fits : (s u : State) (hs : List rest.Frame) → Fits s None → blocks_of u.frames ≡ blocks_of s.frames →
+    frames_of (λ id. []) u.frames ≡ hs → AreInRangeFrames hs → StartsFit hs → AreOf (buffer_of s.part) (received_in u.frames) →
+    u ≡ record s { frames = u.frames; entries = u.entries } → Fits u None
+granted_fits s u hs fits blocks frames in_range starts lent stays =
+    subst (λ (x : State). Fits x None) (sym stays)
+    (frames_fit s s.frames (with_frames s u.frames) fits blocks (subst AreInRangeFrames (sym frames) in_range) lent
+    (subst StartsFit (sym frames) starts) refl)

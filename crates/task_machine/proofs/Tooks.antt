@@ -1,12 +1,14 @@
 -- Moves of the code, each by what its method promises, as moves of the definitions. The state is the one with which the method was
 -- called; the frames of the task before the move are given apart, since the innermost one was removed first.
-use Rattle.std.proofs.Common.{◌≡◌, ◌⊎◌, inl, inr, ℕ, zero, suc, Bool, true, false, Option, Some, None, List, [], ◌∷◌, ◌++◌, refl, ap, sym, ◌∙◌, subst}
+use Rattle.std.proofs.Common.{◌≡◌, ◌⊎◌, inl, inr, ℕ, zero, suc, Bool, true, false, Option, Some, None, List, [], ◌∷◌, ◌++◌, map, refl, ap, sym, ◌∙◌, subst}
 use Rattle.std.proofs.lemmas.List.{append-nil}
 use Rattle.std.proofs.lemmas.List.Elements.{All-nil}
 use Rattle.std.proofs.lemmas.Option.{same_Some}
 use Rattle.std.specs.Option.{IsSomeAnd, option_map}
 use Rattle.input_lines.specs.Part.{buffer_of}
-use Rattle.cancel_scopes.specs.Sight.{catches}
+use Rattle.job_tree.specs.Tree.{Steps}
+use Rattle.job_tree.specs.declared.object.Ask.{Ask}
+use Rattle.cancel_scopes.specs.Sight.{seen, catches}
 use Rattle.cancel_scopes.specs.Tree.{Tree, IsChain}
 use Rattle.exceptions.specs.declared.exc.Exc as held
 use Rattle.exceptions.specs.Held.{exc_of}
@@ -14,7 +16,7 @@ use Rattle.exceptions.specs.Exceptions.{Label, Exc}
 use Rattle.nursery_book.specs.Nursery.{Nursery as Members, with_body}
 use Rattle.nursery_book.specs.Book.{nursery_at, Updates, Changes}
 use Rattle.nursery_book.specs.declared.book.NurseryBook.{NurseryBook}
-use Rattle.job_meaning.specs.Log.{Table}
+use Rattle.job_meaning.specs.Log.{Table, gives_back, closes}
 use Rattle.job_meaning.specs.Moments.{a_round_after}
 use Rattle.job_meaning.specs.declared.clock.Clock.{Clock}
 use Rattle.job_meaning.specs.declared.clock.Clock.TheVariants.{ByTicks as by_ticks, ByRounds as by_rounds}
@@ -24,7 +26,7 @@ use Rattle.job_meaning.specs.Rest as rest
 use Rattle.job_meaning.specs.Rest.{Stopped, awaiting, at_end}
 use Rattle.turn_semantics.specs.Midway.{Place, Begun, Move, label_among, stack_at}
 use Rattle.turn_semantics.specs.Placed.{Placed}
-use Rattle.turn_semantics.specs.Steps.{onward, makes, sleeps, falls_asleep, waits_on, home_among, signs_to, signs_home, leaves, ends_as, cancelled_from_after, step_frames}
+use Rattle.turn_semantics.specs.Steps.{onward, makes, sleeps, falls_asleep, waits_on, asks_of, acts_on, gives_token_back, home_among, signs_to, signs_home, leaves, ends_as, cancelled_from_after, step_frames}
 use Rattle.task_machine.specs.declared.entry.Entry.{Entry}
 use Rattle.task_machine.specs.declared.frame.Frame.{Frame}
 use Rattle.task_machine.specs.declared.frame.Frame.TheVariants.{Scope, Event, Nursery}
@@ -34,13 +36,16 @@ use Rattle.task_machine.specs.declared.stop.TaskState.TheVariants.{Awaits, Over}
 use Rattle.task_machine.specs.declared.stop.Moved.{Moved}
 use Rattle.task_machine.specs.declared.stop.Moved.TheVariants.{On, Stops}
 use Rattle.task_machine.specs.declared.stop.Stop.TheVariants.{Wait, Ended}
-use Rattle.task_machine.specs.Acts.{Acts, Leaves, scoping_in}
-use Rattle.task_machine.specs.Entered.{CancelsAt, SetsAt}
+use Rattle.task_machine.specs.Acts.{Acts, no_act, act_shared, Leaves, scoping_in}
+use Rattle.task_machine.specs.Entered.{CancelsAt, SetsAt, ClosesAt}
 use Rattle.task_machine.specs.Exits.{ExitsFrom, ExitsAt, LeavesEventAt, FailsAt}
 use Rattle.task_machine.specs.Fitting.{Block, a_scope, a_nursery, blocks_of}
 use Rattle.task_machine.specs.Frames.{frames_of, lent_by}
 use Rattle.task_machine.specs.Noted.{IsSlice, shown_made, AreNoted}
 use Rattle.task_machine.specs.Labels.{Events, scope_named}
+use Rattle.task_machine.specs.declared.serving.ObjectAct.{ObjectAct}
+use Rattle.task_machine.specs.declared.serving.Act.TheVariants.{GivesBack}
+use Rattle.task_machine.specs.Serving.{acted_of, acts_to_serve}
 use Rattle.task_machine.specs.Stacked.{AreAt, AwaitsEvent}
 use Rattle.task_machine.specs.Standing.{HasBlock, HasNurseryOf, waits_by, Stands, AreBegun, ChangesNurseries, Took, with_frames}
 use Rattle.task_machine.specs.States.{State, here_at, now_at, scope_at, stack_in, lent_at}
@@ -50,6 +55,7 @@ use Rattle.task_machine.proofs.Cancelled.{own_same, own_signed, ends_none}
 use Rattle.task_machine.proofs.Cancels.{found_open}
 use Rattle.task_machine.proofs.FrameLemmas.{frames_pushed}
 use Rattle.task_machine.proofs.Nurseries.{has_more, has_last, has_either, blocks_pushed, change_of, nurseries_same, nurseries_put, body_grown}
+use Rattle.task_machine.proofs.Served.{unacted, unserved, signs_unserved, home_unserved, acted_last}
 use Rattle.task_machine.proofs.Stacked.{named_at}
 
 -- ---- what is not shown, and what stays
@@ -119,6 +125,14 @@ waits_alone : (o : Option Label) (name : List ℕ) (t : ℕ) (fs : List rest.Fra
 waits_alone None name t fs ps = record { frames = refl; places = refl; made = refl; begun = refl; waits = tt }
 waits_alone (Some l) name t fs ps = record { frames = refl; places = refl; made = refl; begun = refl; waits = tt }
 
+-- and so does a task that asks a limiter or channel, or does not ask it
+asks_alone : (clock : Clock) (o : Option Label) (b : Bool) (name : List ℕ) (a : Ask) (t : ℕ) (body : Steps) (fs : List rest.Frame) (ps : List Place) →
+    LeavesAlone (asks_of clock o b name a t body fs ps) fs ps
+asks_alone clock None b name a t body fs ps = record { frames = refl; places = refl; made = refl; begun = refl; waits = tt }
+asks_alone clock (Some l) false name a t body fs ps = record { frames = refl; places = refl; made = refl; begun = refl; waits = tt }
+asks_alone by_ticks (Some l) true name a t body fs ps = record { frames = refl; places = refl; made = refl; begun = refl; waits = tt }
+asks_alone by_rounds (Some l) true name a t body fs ps = record { frames = refl; places = refl; made = refl; begun = refl; waits = tt }
+
 -- a scope frame has a place, which is no event, so the list of places is not empty
 by_place : (P : List Place → Type 0) (fail : Bool) (gs : List rest.Frame) (ps : List Place) → Placed (rest.in_scope fail ∷ gs) ps →
     ((p : Place) (qs : List Place) → ps ≡ p ∷ qs → p.is_event ≡ false → P (p ∷ qs)) → P ps
@@ -148,9 +162,9 @@ module _ (b : State) (whole : List Frame) (cancelled_from : Table) (numbers : Nu
       AreAt u.labels u.events (cancelled_from_after cancelled_from o.made) (stack_in u) o.places →
       AwaitsEvent u.labels (stack_in u) o.stopped u.task_state o.places → MovesAs b.clock numbers u.book (lent_at u) goes u.task_state o →
       waits_by goes u.task_state ≡ None → Acts b.tick (scoping_in b) o.made (scoping_in u) →
-      OwnAfter b.clock b.cancelled u.cancelled o.made o.stopped →
+      OwnAfter b.clock b.cancelled u.cancelled o.made o.stopped → map acted_of u.acts ≡ map acted_of b.acts ++ acts_to_serve o.made →
       Took (with_frames b whole) u goes cancelled_from numbers o
-  took_quiet u goes o entries quiet shown none gs at event moves waits acts own =
+  took_quiet u goes o entries quiet shown none gs at event moves waits acts own served =
       record {
         numbers_after = numbers;
         frames_after = gs;
@@ -172,6 +186,7 @@ module _ (b : State) (whole : List Frame) (cancelled_from : Table) (numbers : Nu
             (nurseries_same (with_frames b whole) u (waits_by goes u.task_state) numbers waits quiet.book quiet.kept quiet.back
             stands.numbered);
         acts = acts;
+        served = served;
         own = own;
       }
 
@@ -187,6 +202,7 @@ module _ (b : State) (whole : List Frame) (cancelled_from : Table) (numbers : Nu
       (sym gs) at event moves
       (waits_not b.clock numbers b.book (lent_by b.part fs) goes h o not moves) (no_acts b.tick (scoping_in b) (scoping_in b) o.made made refl)
       (own_same b.clock b.cancelled b.cancelled o.made o.stopped made refl)
+      (unserved b.acts b.acts o.made (ap (λ (es : List rest.Event). acts_to_serve es) made) refl)
     where
       at : AreAt b.labels b.events (cancelled_from_after cancelled_from o.made) (stack_in b) o.places
       at =
@@ -232,6 +248,22 @@ module _ (b : State) (whole : List Frame) (cancelled_from : Table) (numbers : Nu
       took_task_states b.frames h goes o same alone.frames alone.places alone.made alone.begun alone.waits both.0
       (subst (λ (qs : List Place). AwaitsEvent b.labels (stack_in b) o.stopped h qs) (sym alone.places) both.1)
 
+  -- and so does one that stops or continues as a task of the definitions does that asks a limiter or channel
+  pub took_ask : (h : TaskState) (goes : Moved) (name : List ℕ) (a : Ask) (body : Steps) → blocks_of b.frames ≡ blocks_of whole →
+      (let o = asks_of b.clock (label_among true name ps) (seen (stack_for b.cancelled b.tick (stack_at cancelled_from ps).scopes) b.tick) name a b.tick body
+      (frames_of numbers b.frames) ps in
+      (AreAt b.labels b.events cancelled_from (stack_in b) ps →
+      MovesAs b.clock numbers b.book (lent_at b) goes h o × AwaitsEvent b.labels (stack_in b) o.stopped h ps) →
+      Took (with_frames b whole) (record b { task_state = h }) goes cancelled_from numbers o)
+  took_ask h goes name a body same ask =
+      let gs = frames_of numbers b.frames in
+      let sees : Bool = seen (stack_for b.cancelled b.tick (stack_at cancelled_from ps).scopes) b.tick in
+      let o : Move = asks_of b.clock (label_among true name ps) sees name a b.tick body gs ps in
+      let alone : LeavesAlone o gs ps = asks_alone b.clock (label_among true name ps) sees name a b.tick body gs ps in
+      let both = ask stands.places in
+      took_task_states b.frames h goes o same alone.frames alone.places alone.made alone.begun alone.waits both.0
+      (subst (λ (qs : List Place). AwaitsEvent b.labels (stack_in b) o.stopped h qs) (sym alone.places) both.1)
+
   -- a scope of a name is cancelled
   pub took_cancel : (tree : Tree) (cancelled : List Label) (name : List ℕ) → blocks_of b.frames ≡ blocks_of whole →
       CancelsAt b (record b { tree = tree; cancelled = cancelled }) name →
@@ -246,6 +278,7 @@ module _ (b : State) (whole : List Frame) (cancelled_from : Table) (numbers : Nu
       at.0 tt (refl, refl) refl
       (found_signed b.tick (scoping_in b) tree name cancelled_from (stack_in b) ps stands.places cancels.0)
       (at.1 ∙ own_signed b.clock b.cancelled (label_among false name ps) b.tick)
+      (unserved b.acts b.acts made (signs_unserved (label_among false name ps) b.tick) refl)
 
   -- an event of a name is set
   pub took_set : (events : Events) (set : List ℕ) (cancelled : List Label) (name : List ℕ) → IsChain b.tree →
@@ -263,6 +296,38 @@ module _ (b : State) (whole : List Frame) (cancelled_from : Table) (numbers : Nu
       (named_at true b.labels b.events cancelled_from name (stack_in b) ps stands.places)
       (λ key e. found_open true b.labels b.events b.tree name (scope_at b) key chain e) sets.0)
       (at.1 ∙ own_signed b.clock b.cancelled (label_among true name ps) b.tick)
+      (unserved b.acts b.acts made (signs_unserved (label_among true name ps) b.tick) refl)
+
+  -- a channel of a name is closed
+  pub took_close : (more : List ObjectAct) (name : List ℕ) → blocks_of b.frames ≡ blocks_of whole → ClosesAt b (record b { acts = more }) name →
+      Took (with_frames b whole) (record b { acts = more }) (On None) cancelled_from numbers
+      (makes (acts_on (label_among true name ps) b.tick closes) (frames_of numbers b.frames) ps)
+  took_close more name same closed = by_label (label_among true name ps) (closed cancelled_from ps stands.places)
+    where
+      u : State
+      u = record b { acts = more }
+
+      by_label : (o : Option Label) → map acted_of more ≡ map acted_of b.acts ++ acts_to_serve (acts_on o b.tick closes) →
+          Took (with_frames b whole) u (On None) cancelled_from numbers (makes (acts_on o b.tick closes) (frames_of numbers b.frames) ps)
+      by_label None served =
+          took_quiet u (On None) (makes [] (frames_of numbers b.frames) ps) [] (quiet_by b whole u refl refl refl same)
+          (none_noted b.clock (buffer_of b.part) [] refl) refl refl stands.places tt (refl, refl) refl (no_act (scoping_in b)) refl served
+      by_label (Some l) served =
+          took_quiet u (On None) (makes (rest.acts l b.tick closes ∷ []) (frames_of numbers b.frames) ps) [] (quiet_by b whole u refl refl refl same)
+          (none_noted b.clock (buffer_of b.part) (rest.acts l b.tick closes ∷ []) refl) refl refl stands.places tt (refl, refl) refl
+          (act_shared (scoping_in b) (scoping_in b) l b.tick closes [] (no_act (scoping_in b))) refl served
+
+  -- the block of an `acquire` has ended, and its token comes back
+  pub took_token_back : (limiter : Label) (exc : Option held.Exc) → blocks_of b.frames ≡ blocks_of whole →
+      Took (with_frames b whole) (record b { acts = b.acts ++ record { object = limiter; act = GivesBack } ∷ [] }) (On exc) cancelled_from numbers
+      (gives_token_back limiter b.tick (frames_of numbers b.frames) ps (option_map exc_of exc))
+  took_token_back limiter exc same =
+      let back : ObjectAct = record { object = limiter; act = GivesBack } in
+      let u : State = record b { acts = b.acts ++ back ∷ [] } in
+      let made : List rest.Event = rest.acts limiter b.tick gives_back ∷ [] in
+      took_quiet u (On exc) (gives_token_back limiter b.tick (frames_of numbers b.frames) ps (option_map exc_of exc)) []
+      (quiet_by b whole u refl refl refl same) (none_noted b.clock (buffer_of b.part) made refl) refl refl stands.places tt (refl, refl) refl
+      (act_shared (scoping_in b) (scoping_in b) limiter b.tick gives_back [] (no_act (scoping_in b))) refl (acted_last b.acts back)
 
   -- the task ends, with no frame left
   pub took_end : (tree : Tree) (exc : Option held.Exc) → whole ≡ [] → b.frames ≡ [] →
@@ -278,6 +343,7 @@ module _ (b : State) (whole : List Frame) (cancelled_from : Table) (numbers : Nu
       (ap (frames_of numbers) left)
       (fails.1 cancelled_from ps stands.own stands.places) tt (refl, (tt, refl)) refl
       (home_signed b.tick (scoping_in b) tree e cancelled_from (stack_in b) ps stands.places fails.0) tt
+      (unserved b.acts b.acts (signs_home e ps b.tick) (home_unserved e ps b.tick) refl)
 
   -- ---- blocks that are left
 
@@ -287,10 +353,10 @@ module _ (b : State) (whole : List Frame) (cancelled_from : Table) (numbers : Nu
       ExitsFrom (record b { book = book }) u k (left_with (catches (from_for b.cancelled b.tick p.label (cancelled_from p.label)) p.shield
       (stack_for b.cancelled b.tick (stack_at cancelled_from qs).scopes) b.tick) exc)
       (option_map exc_of goes) cancelled_from p qs →
-      u.started ≡ b.started → u.cancelled ≡ b.cancelled → ChangesNurseries (with_frames b whole) u None numbers numbers [] [] →
-      Leaves (scoping_in b) (scoping_in u) →
+      u.started ≡ b.started → u.cancelled ≡ b.cancelled → u.acts ≡ b.acts →
+      ChangesNurseries (with_frames b whole) u None numbers numbers [] [] → Leaves (scoping_in b) (scoping_in u) →
       Took (with_frames b whole) u (On goes) cancelled_from numbers (leaves b.clock cancelled_from (now_at b) k (frames_of numbers u.frames) p qs exc)
-  took_leaves u book k exc goes p qs x started cancelled nurseries one =
+  took_leaves u book k exc goes p qs x started cancelled undone nurseries one =
       record {
         numbers_after = numbers;
         frames_after = refl;
@@ -306,6 +372,7 @@ module _ (b : State) (whole : List Frame) (cancelled_from : Table) (numbers : Nu
         last = tt;
         nurseries = nurseries;
         acts = left_acts b.tick (scoping_in b) (scoping_in u) b.tick _ one;
+        served = unacted b.acts u.acts undone;
         own = cancelled;
       }
 
@@ -315,11 +382,11 @@ module _ (b : State) (whole : List Frame) (cancelled_from : Table) (numbers : Nu
     (stands : Stands (with_frames b whole) cancelled_from numbers None ps) where
   -- the innermost scope is left
   pub took_exit : (u : State) (fail : Bool) (exc goes : Option held.Exc) (count : ℕ) → whole ≡ b.frames ++ Scope fail ∷ [] →
-      u.frames ≡ b.frames → u.book ≡ b.book → u.started ≡ b.started → u.cancelled ≡ b.cancelled →
+      u.frames ≡ b.frames → u.book ≡ b.book → u.started ≡ b.started → u.cancelled ≡ b.cancelled → u.acts ≡ b.acts →
       ExitsAt b u (kind.Scope fail) (option_map exc_of exc) (option_map exc_of goes) → Leaves (scoping_in b) (scoping_in u) →
       Took (with_frames b whole) u (On goes) cancelled_from numbers
       (step_frames cancelled_from (now_at b) (here_at b) (rest.in_scope fail ∷ frames_of numbers b.frames) ps (option_map exc_of exc) count)
-  took_exit u fail exc goes count popped left book started cancelled exits one =
+  took_exit u fail exc goes count popped left book started cancelled undone exits one =
       by_place (λ (qs : List Place). Took (with_frames b whole) u (On goes) cancelled_from numbers
       (step_frames cancelled_from (now_at b) (here_at b) (rest.in_scope fail ∷ gs) qs e count)) fail gs ps
       (subst (λ (hs : List rest.Frame). Placed hs ps) (frames_pushed numbers b.frames whole (Scope fail) popped) stands.placed) at_place
@@ -352,7 +419,7 @@ module _ (b : State) (whole : List Frame) (cancelled_from : Table) (numbers : Nu
           subst (λ (fs : List Frame). Took (with_frames b whole) u (On goes) cancelled_from numbers
           (leaves b.clock cancelled_from (now_at b) (meaning.a_scope fail) (frames_of numbers fs) p qs e)) left
           (took_leaves b whole cancelled_from numbers None ps stands u b.book (meaning.a_scope fail) e goes p qs
-          (exits cancelled_from p qs scope (subst (λ (rs : List Place). AreAt b.labels b.events cancelled_from (stack_in b) rs) is stands.places)) started cancelled
+          (exits cancelled_from p qs scope (subst (λ (rs : List Place). AreAt b.labels b.events cancelled_from (stack_in b) rs) is stands.places)) started cancelled undone
           (nurseries_same (with_frames b whole) u None numbers refl book kept back stands.numbered) one)
 
   -- the innermost event is left
@@ -403,6 +470,7 @@ module _ (b : State) (whole : List Frame) (cancelled_from : Table) (numbers : Nu
           (none_noted b.clock (buffer_of b.part) [] refl) refl (ap (frames_of numbers) same)
           (left cancelled_from p qs (subst (λ (rs : List Place). AreAt b.labels b.events cancelled_from (stack_in b) rs) is stands.places)) tt (refl, refl) refl
           (closed_acts b.tick (scoping_in b) (scoping_in u) one) (ap (λ (s : State). s.cancelled) stays)
+          (unacted b.acts u.acts (ap (λ (s : State). s.acts) stays))
 
   -- the body of the innermost nursery has ended
   pub took_body : (id : ℕ) (exc : Option held.Exc) (tree : Tree) (book : NurseryBook) (count : ℕ) →
@@ -477,5 +545,6 @@ module _ (b : State) (whole : List Frame) (cancelled_from : Table) (numbers : Nu
             acts =
                 subst (λ (rs : List Place). Acts b.tick (scoping_in b) (signs_home e rs b.tick) (scoping_in u)) is
                 (home_signed b.tick (scoping_in b) tree e cancelled_from (stack_in b) ps stands.places fails.0);
+            served = unserved b.acts b.acts (signs_home e (p ∷ qs) b.tick) (home_unserved e (p ∷ qs) b.tick) refl;
             own = tt;
           }

@@ -1,6 +1,6 @@
 -- A task that enters a scope, a nursery or an event, as a move of the definitions. The state is the one in which the steps that come after were put
 -- back.
-use Rattle.std.proofs.Common.{◌≡◌, ◌≢◌, ◌⊎◌, inl, inr, ℕ, ◌==◌, ◌≤◌, arith, Bool, true, false, Option, Some, None, List, [], ◌∷◌, ◌++◌, length, refl, ap, sym, ◌∙◌, subst, append_assoc}
+use Rattle.std.proofs.Common.{◌≡◌, ◌≢◌, ◌⊎◌, inl, inr, ℕ, ◌==◌, ◌≤◌, arith, Bool, true, false, Option, Some, None, List, [], ◌∷◌, ◌++◌, length, map, refl, ap, sym, ◌∙◌, subst, append_assoc}
 use Rattle.std.proofs.lemmas.Bool.{eqb-true, eq-eqb}
 use Rattle.std.proofs.lemmas.List.{append-nil}
 use Rattle.std.proofs.lemmas.Option.{none-some}
@@ -10,7 +10,8 @@ use Rattle.turn_semantics.specs.Lists.{IsAmong}
 use Rattle.input_lines.specs.Part.{buffer_of}
 use Rattle.cancel_scopes.specs.Sight.{Tick}
 use Rattle.job_tree.specs.Tree as tree
-use Rattle.job_meaning.specs.Log.{Table}
+use Rattle.job_tree.specs.declared.object.ObjectKind.{ObjectKind}
+use Rattle.job_meaning.specs.Log.{Table, opens}
 use Rattle.job_meaning.specs.Rest as rest
 use Rattle.job_meaning.specs.Rest.{Stopped}
 use Rattle.nursery_book.specs.Nursery.{Nursery as Members, new_nursery}
@@ -19,20 +20,24 @@ use Rattle.turn_semantics.specs.Midway.{Place}
 use Rattle.turn_semantics.specs.Names.{names_at}
 use Rattle.turn_semantics.specs.Steps.{makes}
 use Rattle.task_machine.specs.declared.frame.Frame.{Frame}
-use Rattle.task_machine.specs.declared.frame.Frame.TheVariants.{Steps, Scope, Event, Nursery, Repeat, Try, Handler, Cleanup}
+use Rattle.task_machine.specs.declared.frame.Frame.TheVariants.{Steps, Scope, Event, Token, Received, Nursery, Repeat, Try, Handler, Cleanup}
 use Rattle.task_machine.specs.declared.stop.Moved.TheVariants.{On}
-use Rattle.task_machine.specs.Acts.{Enters, scoping_in}
+use Rattle.task_machine.specs.Acts.{Enters, act_shared, scoping_in}
 use Rattle.task_machine.specs.Entered.{EntersAt, IsBlock, EntersBlock, EntersNursery}
-use Rattle.task_machine.specs.Fitting.{Block, a_scope, a_nursery, blocks_of}
+use Rattle.task_machine.specs.declared.serving.ObjectAct.{ObjectAct}
+use Rattle.task_machine.specs.declared.serving.Act.TheVariants.{Opens}
+use Rattle.task_machine.specs.Serving.{acted_of}
+use Rattle.task_machine.specs.Fitting.{Block, a_scope, a_nursery, blocks_of, received_in, received_inside}
 use Rattle.task_machine.specs.Frames.{frame_of, frames_onto, frames_of}
 use Rattle.task_machine.specs.Standing.{HasBlock, HasNurseryOf, Stands, Grown, IsOfOther, ChangesNurseries, Took, with_frames}
 use Rattle.task_machine.specs.States.{State, scope_at}
 use Rattle.task_machine.specs.Stops.{Numbers}
 use Rattle.task_machine.proofs.Acting.{block_of, entered_acts}
 use Rattle.task_machine.proofs.Blocks.{blocks_append, IsScope, scope_block}
-use Rattle.task_machine.proofs.FrameLemmas.{frames_push}
+use Rattle.task_machine.proofs.FrameLemmas.{frames_push, received_pushed}
 use Rattle.task_machine.proofs.Nurseries.{has_more, has_either, not_grown, updated_has, is_at}
-use Rattle.task_machine.proofs.Tooks.{none_noted, took_quiet}
+use Rattle.task_machine.proofs.Served.{unacted, acted_last}
+use Rattle.task_machine.proofs.Tooks.{none_noted, IsQuiet, took_quiet}
 
 -- ---- a block's body inside its exit
 
@@ -41,6 +46,8 @@ block_frame : (numbers : Numbers) (top : Frame) (body : tree.Steps) → IsBlock 
 block_frame numbers (Steps steps) body e = ap (λ (ss : tree.Steps). rest.steps_left ss) e
 block_frame numbers (Scope fail) body e = absurd e
 block_frame numbers Event body e = absurd e
+block_frame numbers (Token limiter) body e = absurd e
+block_frame numbers (Received part) body e = absurd e
 block_frame numbers (Nursery id) body e = absurd e
 block_frame numbers (Repeat pass left cuts block) body e = absurd e
 block_frame numbers (Try handler cleanup) body e = absurd e
@@ -51,6 +58,8 @@ no_block : (top : Frame) (body : tree.Steps) → IsBlock top body → blocks_of 
 no_block (Steps steps) body e = refl
 no_block (Scope fail) body e = absurd e
 no_block Event body e = absurd e
+no_block (Token limiter) body e = absurd e
+no_block (Received part) body e = absurd e
 no_block (Nursery id) body e = absurd e
 no_block (Repeat pass left cuts block) body e = absurd e
 no_block (Try handler cleanup) body e = absurd e
@@ -74,6 +83,26 @@ entered_blocks fs gs exit top body block e =
     ∙ ap (λ (bs : List Block). blocks_of fs ++ bs) (blocks_append (exit ∷ []) (top ∷ [])
     ∙ ap (λ (bs : List Block). blocks_of (exit ∷ []) ++ bs)
     (no_block top body block) ∙ append-nil (blocks_of (exit ∷ [])))
+
+none_received : (top : Frame) (body : tree.Steps) → IsBlock top body → (inputs : List (List ℕ)) → received_inside top inputs ≡ inputs
+none_received (Steps steps) body e inputs = refl
+none_received (Scope fail) body e inputs = absurd e
+none_received Event body e inputs = absurd e
+none_received (Token limiter) body e inputs = absurd e
+none_received (Received part) body e inputs = absurd e
+none_received (Nursery id) body e inputs = absurd e
+none_received (Repeat pass left cuts block) body e inputs = absurd e
+none_received (Try handler cleanup) body e inputs = absurd e
+none_received (Handler others cleanup) body e inputs = absurd e
+none_received (Cleanup outcome) body e inputs = absurd e
+
+-- what was received once a block is entered: what was received at its exit, inside the outer frames
+pub entered_received : (fs gs : List Frame) (exit top : Frame) (body : tree.Steps) → IsBlock top body → gs ≡ fs ++ exit ∷ top ∷ [] →
+    received_in gs ≡ received_inside exit (received_in fs)
+entered_received fs gs exit top body block e =
+    received_pushed (fs ++ exit ∷ []) gs top (e ∙ sym (append_assoc fs (exit ∷ []) (top ∷ [])))
+    ∙ none_received top body block (received_in (fs ++ exit ∷ []))
+    ∙ received_pushed fs (fs ++ exit ∷ []) exit refl
 
 -- ---- the numbers of the children of one nursery
 
@@ -104,6 +133,8 @@ onto_others numbers more [] outer same = refl
 onto_others numbers more (Steps steps ∷ fs) outer same = onto_others numbers more fs (frame_of numbers (Steps steps) ∷ outer) same
 onto_others numbers more (Scope fail ∷ fs) outer same = onto_others numbers more fs (rest.in_scope fail ∷ outer) same
 onto_others numbers more (Event ∷ fs) outer same = onto_others numbers more fs (rest.in_event ∷ outer) same
+onto_others numbers more (Token limiter ∷ fs) outer same = onto_others numbers more fs (frame_of numbers (Token limiter) ∷ outer) same
+onto_others numbers more (Received part ∷ fs) outer same = onto_others numbers more fs (frame_of numbers (Received part) ∷ outer) same
 onto_others numbers more (Nursery id ∷ fs) outer same =
     ap (λ (ns : List ℕ). frames_onto more fs (rest.in_nursery ns ∷ outer)) (same id (inl refl))
     ∙ onto_others numbers more fs (rest.in_nursery (numbers id) ∷ outer)
@@ -129,24 +160,20 @@ module _ (b : State) (whole : List Frame) (cancelled_from : Table) (numbers : Nu
     (started : u.started ≡ b.started) (entries : u.entries ≡ b.entries) (cancelled : u.cancelled ≡ b.cancelled)
     (enters : EntersAt b u p deadline)
     (one : Enters (scope_at b) p.label p.is_event deadline (scoping_in b) (scoping_in u)) where
-  -- a scope or event
-  pub took_scope : (f : Frame) → IsScope f → u.book ≡ b.book → EntersBlock b.frames u.frames f body →
-      Took (with_frames b whole) u (On None) cancelled_from numbers
-      (makes (rest.enters p.label b.tick deadline ∷ []) (rest.steps_left body ∷ frame_of numbers f ∷ frames_of numbers b.frames) (p ∷ ps))
-  took_scope f is book block =
-      took_quiet b whole cancelled_from numbers stopped ps stands u (On None)
-      (makes (rest.enters p.label b.tick deadline ∷ []) (rest.steps_left body ∷ frame_of numbers f ∷ frames_of numbers b.frames) (p ∷ ps)) []
-      (record { book = book; started = started; noted = entries ∙ sym (append-nil b.entries); kept = kept; back = back })
-      (none_noted b.clock (buffer_of b.part) (rest.enters p.label b.tick deadline ∷ []) refl) refl
-      (entered_frames numbers b.frames u.frames f block.top body block.block block.frames)
-      (enters cancelled_from ps fresh stands.places) tt (refl, refl) refl
-      (entered_acts b.tick (scope_at b) p.is_event (scoping_in b) (scoping_in u) p.label deadline one) cancelled
+  -- the blocks once a scope, an event, or a limiter or channel is entered
+  scope_blocks : (f : Frame) → IsScope f → EntersBlock b.frames u.frames f body → blocks_of u.frames ≡ blocks_of whole ++ a_scope ∷ []
+  scope_blocks f is block =
+      entered_blocks b.frames u.frames f block.top body block.block block.frames
+      ∙ ap (λ (bs : List Block). blocks_of b.frames ++ bs) (scope_block f is)
+      ∙ ap (λ (bs : List Block). bs ++ a_scope ∷ []) same
+
+  -- the task has the same nurseries, and notes nothing
+  scope_quiet : (f : Frame) → IsScope f → u.book ≡ b.book → EntersBlock b.frames u.frames f body → IsQuiet b whole u []
+  scope_quiet f is book block =
+      record { book = book; started = started; noted = entries ∙ sym (append-nil b.entries); kept = kept; back = back }
     where
       blocks : blocks_of u.frames ≡ blocks_of whole ++ a_scope ∷ []
-      blocks =
-          entered_blocks b.frames u.frames f block.top body block.block block.frames
-          ∙ ap (λ (bs : List Block). blocks_of b.frames ++ bs) (scope_block f is)
-          ∙ ap (λ (bs : List Block). bs ++ a_scope ∷ []) same
+      blocks = scope_blocks f is block
 
       kept : (id : ℕ) → HasBlock id (blocks_of whole) → HasBlock id (blocks_of u.frames)
       kept id has = subst (λ (bs : List Block). HasBlock id bs) (sym blocks) (has_more id (blocks_of whole) (a_scope ∷ []) has)
@@ -158,11 +185,42 @@ module _ (b : State) (whole : List Frame) (cancelled_from : Table) (numbers : Nu
           by_either (inl h) = h
           by_either (inr h) = absurd h
 
+  -- a scope or event
+  pub took_scope : (f : Frame) → IsScope f → u.acts ≡ b.acts → u.book ≡ b.book → EntersBlock b.frames u.frames f body →
+      Took (with_frames b whole) u (On None) cancelled_from numbers
+      (makes (rest.enters p.label b.tick deadline ∷ []) (rest.steps_left body ∷ frame_of numbers f ∷ frames_of numbers b.frames) (p ∷ ps))
+  took_scope f is undone book block =
+      took_quiet b whole cancelled_from numbers stopped ps stands u (On None)
+      (makes (rest.enters p.label b.tick deadline ∷ []) (rest.steps_left body ∷ frame_of numbers f ∷ frames_of numbers b.frames) (p ∷ ps)) []
+      (scope_quiet f is book block)
+      (none_noted b.clock (buffer_of b.part) (rest.enters p.label b.tick deadline ∷ []) refl) refl
+      (entered_frames numbers b.frames u.frames f block.top body block.block block.frames)
+      (enters cancelled_from ps fresh stands.places) tt (refl, refl) refl
+      (entered_acts b.tick (scope_at b) p.is_event (scoping_in b) (scoping_in u) p.label deadline one) cancelled (unacted b.acts u.acts undone)
+
+  -- a limiter or channel, which is opened first
+  pub took_object : (kind : ObjectKind) → u.acts ≡ b.acts ++ record { object = p.label; act = Opens kind } ∷ [] → u.book ≡ b.book →
+      EntersBlock b.frames u.frames Event body →
+      Took (with_frames b whole) u (On None) cancelled_from numbers
+      (makes (rest.acts p.label b.tick (opens kind) ∷ rest.enters p.label b.tick deadline ∷ [])
+      (rest.steps_left body ∷ rest.in_event ∷ frames_of numbers b.frames) (p ∷ ps))
+  took_object kind opened book block =
+      let entering : List rest.Event = rest.enters p.label b.tick deadline ∷ [] in
+      let made : List rest.Event = rest.acts p.label b.tick (opens kind) ∷ entering in
+      took_quiet b whole cancelled_from numbers stopped ps stands u (On None)
+      (makes made (rest.steps_left body ∷ rest.in_event ∷ frames_of numbers b.frames) (p ∷ ps)) []
+      (scope_quiet Event tt book block) (none_noted b.clock (buffer_of b.part) made refl) refl
+      (entered_frames numbers b.frames u.frames Event block.top body block.block block.frames)
+      (enters cancelled_from ps fresh stands.places) tt (refl, refl) refl
+      (act_shared (scoping_in b) (scoping_in u) p.label b.tick (opens kind) entering
+      (entered_acts b.tick (scope_at b) p.is_event (scoping_in b) (scoping_in u) p.label deadline one))
+      cancelled (ap (λ (xs : List ObjectAct). map acted_of xs) opened ∙ acted_last b.acts (record { object = p.label; act = Opens kind }))
+
   -- a nursery, in which no child was started
-  pub took_nursery : (me : ℕ) → EntersNursery me b u p.label body →
+  pub took_nursery : (me : ℕ) → u.acts ≡ b.acts → EntersNursery me b u p.label body →
       Took (with_frames b whole) u (On None) cancelled_from numbers
       (makes (rest.enters p.label b.tick deadline ∷ []) (rest.steps_left body ∷ rest.in_nursery [] ∷ frames_of numbers b.frames) (p ∷ ps))
-  took_nursery me n =
+  took_nursery me undone n =
       record {
         numbers_after = more;
         frames_after =
@@ -182,6 +240,7 @@ module _ (b : State) (whole : List Frame) (cancelled_from : Table) (numbers : Nu
         last = tt;
         nurseries = nurseries;
         acts = entered_acts b.tick (scope_at b) p.is_event (scoping_in b) (scoping_in u) p.label deadline one;
+        served = unacted b.acts u.acts undone;
         own = cancelled;
       }
     where

@@ -40,6 +40,7 @@ use Rattle.task_machine.specs.Acts.{Acts, scoping_in}
 use Rattle.task_machine.specs.Fitting.{Block, a_nursery, blocks_of, AreLoops}
 use Rattle.task_machine.specs.Frames.{frames_onto, frames_of}
 use Rattle.task_machine.specs.Stacked.{AreAt}
+use Rattle.task_machine.specs.Serving.{acts_to_serve}
 use Rattle.task_machine.specs.Standing.{HasBlock, HasNurseryOf, Stands, IsBegun, AreBegun, BeginsAt, Took, with_frames}
 use Rattle.task_machine.specs.Started.{IsChild, running_children, home_at, begins_in, StartsOne, AreChildren, StartsOver}
 use Rattle.task_machine.specs.States.{State, here_at, now_at, path_at, stack_in, lent_at}
@@ -51,6 +52,7 @@ use Rattle.task_machine.proofs.Lists.{got_after, got_first, GotAfter, got_either
 use Rattle.task_machine.proofs.FrameLemmas.{frames_pushed}
 use Rattle.task_machine.proofs.Loops.{body_blocks, onto_append, started_onto, loops_onto}
 use Rattle.task_machine.proofs.Nurseries.{has_last, blocks_pushed, nurseries_put}
+use Rattle.task_machine.proofs.Served.{unserved, over_unserved}
 use Rattle.task_machine.proofs.Taking.{shown_append}
 use Rattle.task_machine.proofs.Tooks.{none_noted}
 use Rattle.task_machine.proofs.TooksEntered.{with_numbers, numbers_put, numbers_else, frames_others}
@@ -159,7 +161,7 @@ module _ (b : State) (whole fs ls outer : List Frame) (id : ℕ) (left : Bor (Li
       (blocks_of b.frames) None tasks bs → cancelled_from_after cancelled_from made ≡ cancelled_from →
       shown_made b.clock (buffer_of b.part) made ≡ [] → Acts b.tick (scoping_in b) made (scoping_in b) →
       ((i number : ℕ) → slice_get added i ≡ Some number → BeginsAt id (length n.children + i) number tasks bs) →
-      b.cancelled ≡ own_after b.clock b.cancelled made →
+      b.cancelled ≡ own_after b.clock b.cancelled made → acts_to_serve made ≡ [] →
       Took (with_frames b whole) u (On None) cancelled_from numbers
       (record {
         frames = rest.steps_left (steps_of left.now) ∷ with_started added (frames_of numbers outer);
@@ -169,7 +171,7 @@ module _ (b : State) (whole fs ls outer : List Frame) (id : ℕ) (left : Bor (Li
         begun = bs;
         stopped = None;
       })
-  took_starts n ends added tasks bs made was put run long started begun quiet unshown acts begins own =
+  took_starts n ends added tasks bs made was put run long started begun quiet unshown acts begins own none =
       record {
         numbers_after = more;
         frames_after =
@@ -190,6 +192,7 @@ module _ (b : State) (whole fs ls outer : List Frame) (id : ℕ) (left : Bor (Li
             subst (λ (gs : List Frame). AreBegun b.clock (a_round_after b.clock b.tick) more u.book (blocks_of gs) None tasks bs)
             (sym frames_after) begun;
         last = tt;
+        served = unserved b.acts u.acts made none (ap (λ (s : State). s.acts) world);
         nurseries =
             nurseries_put (with_frames b whole) u None numbers id n (record n { children = n.children ++ ends }) was put innermost there more
             tasks bs
@@ -444,7 +447,7 @@ module _ (b : State) (whole fs ls outer : List Frame) (id : ℕ) (left : Bor (Li
             (sym s.book.changed) (refl, got_after s.nursery.children (None ∷ []) 0 (length s.nursery.children + 0) refl))
             (mine b whole fs ls outer id left u cancelled_from numbers stopped ps stands are within held same apart world) in_range,
         tt,
-      ) refl refl (start_acts b.tick count (label_here name (here_inside b)) (begins_in b) (scoping_in b) (scoping_in b) refl) begins refl
+      ) refl refl (start_acts b.tick count (label_here name (here_inside b)) (begins_in b) (scoping_in b) (scoping_in b) refl) begins refl refl
     where
       more : Numbers
       more = with_numbers numbers id (numbers id ++ count ∷ [])
@@ -489,6 +492,7 @@ module _ (b : State) (whole fs ls outer : List Frame) (id : ℕ) (left : Bor (Li
       (starts_acts b.tick name (here_inside b) (begins_in b) count k (scoping_in b) (scoping_in b) refl)
       (begins_over b id s.nursery name k body ps count k s.tasks s.children)
       (own_started b.clock b.cancelled name (here_inside b) (begins_in b) count k)
+      (over_unserved name (here_inside b) (begins_in b) count k)
     where
       more : Numbers
       more = with_numbers numbers id (numbers id ++ consecutive count k)

@@ -4,48 +4,54 @@ use Rattle.std.proofs.lemmas.List.{append-nil}
 use Rattle.std.proofs.lemmas.List.Elements.{All-nil, All-cons, All-head, All-tail}
 use Rattle.std.specs.Prelude.{All}
 use Rattle.std.specs.Option.{option_map}
-use Rattle.input_lines.specs.Lines.{Span, text_of}
+use Rattle.input_lines.specs.Lines.{Range, Span, text_of}
 use Rattle.input_lines.specs.Part.{buffer_of, span_of, IsLineOf}
 use Rattle.input_lines.specs.declared.line.Line.{Line}
 use Rattle.exceptions.specs.declared.exc.Exc as held
 use Rattle.exceptions.specs.Held.{exc_of}
 use Rattle.cancel_scopes.specs.Sight.{Level}
-use Rattle.exceptions.specs.Exceptions.{Label, Exc}
+use Rattle.exceptions.specs.Exceptions.{Label, Exc, raised}
 use Rattle.input_lines.specs.Answers.{AreLinesAt}
-use Rattle.job_meaning.specs.Log.{Table, waited}
+use Rattle.job_tree.specs.Tree.{Steps}
+use Rattle.job_tree.specs.declared.object.Ask.{Ask}
+use Rattle.job_meaning.specs.Log.{Table, waited, was_granted, asks}
 use Rattle.job_meaning.specs.Moments.{tick_of}
 use Rattle.job_meaning.specs.declared.clock.Clock.{Clock}
+use Rattle.job_meaning.specs.Walk.{Here}
 use Rattle.job_meaning.specs.Walk as meaning
 use Rattle.job_meaning.specs.Rest as rest
 use Rattle.job_meaning.specs.Rest.{Stopped, awaiting}
-use Rattle.job_meaning.specs.Shown.{Shown, line_shown, wait_shown}
+use Rattle.job_meaning.specs.Shown.{Shown, line_shown, wait_shown, grant_shown}
 use Rattle.nursery_book.specs.Nursery.{Nursery as Members}
 use Rattle.nursery_book.specs.Book.{nursery_at, Updates}
 use Rattle.nursery_book.specs.declared.book.NurseryBook.{NurseryBook}
 use Rattle.task_machine.specs.declared.entry.Entry.{Entry}
 use Rattle.task_machine.specs.declared.entry.Entry.TheVariants as entries
 use Rattle.task_machine.specs.Noted.{entry_of, IsSlice, shown_made}
-use Rattle.turn_semantics.specs.Midway.{Place}
+use Rattle.turn_semantics.specs.Midway.{Place, Move}
 use Rattle.turn_semantics.specs.Placed.{PlacedStop}
 use Rattle.turn_semantics.specs.Steps.{onward, makes, leaves, cancelled_from_after}
-use Rattle.turn_semantics.specs.Wakes.{lines_made, leaves_settled, notes_wait}
+use Rattle.turn_semantics.specs.Wakes.{lines_made, leaves_settled, notes_wait, leaves_the_queue, goes_on_granted, raises_granted}
 use Rattle.turn_semantics.proofs.Agreeing.{label_of}
 use Rattle.task_machine.specs.declared.frame.Frame.{Frame}
 use Rattle.block_exits.specs.declared.kind.Kind.TheVariants as kind
-use Rattle.task_machine.specs.declared.stop.Moved.TheVariants.{On}
-use Rattle.task_machine.specs.Acts.{Leaves, no_act, act_noted, scoping_in}
+use Rattle.task_machine.specs.declared.stop.TaskState.{TaskState}
+use Rattle.task_machine.specs.declared.stop.Moved.{Moved}
+use Rattle.task_machine.specs.declared.stop.Moved.TheVariants.{On, Stops}
+use Rattle.task_machine.specs.Acts.{Leaves, no_act, act_noted, act_shared, scoping_in}
 use Rattle.task_machine.specs.Exits.{ExitsAt}
-use Rattle.task_machine.specs.Fitting.{blocks_of}
-use Rattle.task_machine.specs.Frames.{frames_of}
+use Rattle.task_machine.specs.Fitting.{Block, blocks_of}
+use Rattle.task_machine.specs.Frames.{frames_of, Lent}
 use Rattle.task_machine.specs.Stacked.{AreAt}
 use Rattle.task_machine.specs.Standing.{HasBlock, Stands, IsOfOther, Took}
-use Rattle.task_machine.specs.States.{State, now_at, stack_in}
-use Rattle.task_machine.specs.Stops.{Numbers}
-use Rattle.task_machine.specs.Worlds.{NotesWait}
-use Rattle.task_machine.proofs.Acting.{lines_acts}
+use Rattle.task_machine.specs.States.{State, now_at, stack_in, lent_at}
+use Rattle.task_machine.specs.Stops.{Numbers, StopsAs, MovesAs}
+use Rattle.task_machine.specs.Worlds.{NotesWait, NotesGrant}
+use Rattle.task_machine.proofs.Acting.{waits_not, lines_acts}
 use Rattle.task_machine.proofs.Cancelled.{own_lines}
 use Rattle.task_machine.proofs.Nurseries.{nurseries_closed}
-use Rattle.task_machine.proofs.Tooks.{none_noted, took_quiet, took_leaves}
+use Rattle.task_machine.proofs.Served.{unacted, unserved, lines_unserved}
+use Rattle.task_machine.proofs.Tooks.{none_noted, quiet_by, took_quiet, took_task_states, took_leaves}
 
 -- ---- a nursery that is settled
 
@@ -88,7 +94,7 @@ took_settled b u book id kids ended earlier exc goes cancelled_from numbers ps s
         (leaves b.clock cancelled_from (now_at b) meaning.a_nursery (frames_of numbers fs) p qs e)) left
         (took_leaves b b.frames cancelled_from numbers (Some (awaiting kids ended earlier)) ps stands u book meaning.a_nursery e goes p qs
         (exits cancelled_from p qs scope (subst (λ (rs : List Place). AreAt b.labels b.events cancelled_from (stack_in b) rs) is stands.places))
-        (ap (λ (s : State). s.started) stays) (ap (λ (s : State). s.cancelled) stays)
+        (ap (λ (s : State). s.started) stays) (ap (λ (s : State). s.cancelled) stays) (ap (λ (s : State). s.acts) stays)
         (nurseries_closed b u numbers id ended_there apart mine left stands.numbered) one)
 
 -- ---- lines that a kernel answers
@@ -130,6 +136,7 @@ took_lines b cancelled_from numbers stopped ps spans lines stands at =
     refl refl (subst (λ (f : Table). AreAt b.labels b.events f (stack_in b) ps) (sym (lines_quiet b.tick spans cancelled_from)) stands.places) tt
     (refl, refl) refl
     (lines_acts b.tick b.tick spans (scoping_in b) (scoping_in b) refl) (own_lines b.clock b.cancelled b.tick spans)
+    (unserved b.acts b.acts (lines_made b.tick spans) (lines_unserved b.tick spans) refl)
 
 -- ---- a wait that ended
 
@@ -142,7 +149,7 @@ took_noted b cancelled_from numbers stopped ps stands es None notes =
     let u : State = record b { entries = es } in
     took_quiet b b.frames cancelled_from numbers stopped ps stands u (On None) (onward (frames_of numbers b.frames) ps None) []
     (record { book = refl; started = refl; noted = notes ∙ sym (append-nil b.entries); kept = λ id has. has; back = λ id has. has })
-    (none_noted b.clock (buffer_of b.part) [] refl) refl refl stands.places tt (refl, refl) refl (no_act (scoping_in b)) refl
+    (none_noted b.clock (buffer_of b.part) [] refl) refl refl stands.places tt (refl, refl) refl (no_act (scoping_in b)) refl (unacted b.acts b.acts refl)
 took_noted b cancelled_from numbers stopped ps stands es (Some l) notes =
     let u : State = record b { entries = es } in
     let tick : ℕ = tick_of b.clock b.tick in
@@ -155,4 +162,78 @@ took_noted b cancelled_from numbers stopped ps stands es (Some l) notes =
       slices = All-cons (IsSlice (buffer_of b.part)) one [] tt (All-nil (IsSlice (buffer_of b.part)));
     })
     refl refl stands.places tt (refl, refl) refl
-    (act_noted (scoping_in b) (scoping_in b) b.tick (waited l.label) [] (no_act (scoping_in b))) refl
+    (act_noted (scoping_in b) (scoping_in b) b.tick (waited l.label) [] (no_act (scoping_in b))) refl (unacted b.acts b.acts refl)
+
+-- ---- a task that asked a limiter or channel
+
+-- the code continues, or stops, as a move with the same exception and the same stop does
+moves_alike : (clock : Clock) (numbers : Numbers) (book : NurseryBook) (lent : Lent) (goes : Moved) (task_state : TaskState) (o p : Move) →
+    o.exc ≡ p.exc → o.stopped ≡ p.stopped → MovesAs clock numbers book lent goes task_state o → MovesAs clock numbers book lent goes task_state p
+moves_alike clock numbers book lent (On exc) task_state o p e f h = (h.0 ∙ e, sym f ∙ h.1)
+moves_alike clock numbers book lent (Stops stop) task_state o p e f h =
+    (sym e ∙ h.0, subst (λ (x : Option Stopped). StopsAs clock numbers book lent stop task_state x) f h.1)
+
+module _ (b : State) (cancelled_from : Table) (numbers : Numbers) (stopped : Option Stopped) (ps : List Place)
+    (stands : Stands b cancelled_from numbers stopped ps) where
+  -- the frames of the task, as the definitions have them
+  abbrev gs : List rest.Frame
+  gs = frames_of numbers b.frames
+
+  -- it raises, and it is known when it asked
+  took_acted : (l : Label) (a : Ask) (part : Range) (since : ℕ) (left : Option ℕ) (e : Exc) (goes : Moved) →
+      MovesAs b.clock numbers b.book (lent_at b) goes b.task_state (onward gs ps (Some e)) →
+      Took b b goes cancelled_from numbers
+      (record { frames = gs; places = ps; exc = Some e; made = rest.acts l since (asks a part left) ∷ []; begun = []; stopped = None })
+  took_acted l a part since left e goes moves =
+      let made : List rest.Event = rest.acts l since (asks a part left) ∷ [] in
+      let o : Move = record { frames = gs; places = ps; exc = Some e; made = made; begun = []; stopped = None } in
+      let alike : MovesAs b.clock numbers b.book (lent_at b) goes b.task_state o =
+      moves_alike b.clock numbers b.book (lent_at b) goes b.task_state (onward gs ps (Some e)) o refl refl moves in
+      took_quiet b b.frames cancelled_from numbers stopped ps stands b goes o [] (quiet_by b b.frames b refl refl refl refl)
+      (none_noted b.clock (buffer_of b.part) made refl) refl refl stands.places tt alike
+      (waits_not b.clock numbers b.book (lent_at b) goes b.task_state o tt alike)
+      (act_shared (scoping_in b) (scoping_in b) l since (asks a part left) [] (no_act (scoping_in b))) refl (unacted b.acts b.acts refl)
+
+  -- it leaves the queue, and raises
+  pub took_left_queue : (o : Option Label) (here : Here) (a : Ask) (since t : ℕ) (e : Exc) (goes : Moved) →
+      MovesAs b.clock numbers b.book (lent_at b) goes b.task_state (onward gs ps (Some e)) →
+      Took b b goes cancelled_from numbers (leaves_the_queue o here a since t e gs ps)
+  took_left_queue None here a since t e goes moves =
+      took_task_states b b.frames cancelled_from numbers stopped ps stands b.frames b.task_state goes (onward gs ps (Some e)) refl refl refl refl
+      refl tt moves tt
+  took_left_queue (Some l) here a since t e goes moves = took_acted l a here.part since (Some t) e goes moves
+
+  -- what it is granted is an exception, which it raises
+  pub took_raises_granted : (l : Label) (here : Here) (a : Ask) (since : ℕ) (name : List ℕ) (goes : Moved) →
+      MovesAs b.clock numbers b.book (lent_at b) goes b.task_state
+      (onward gs ps (Some (raised name here.task (tick_of here.clock b.tick)))) →
+      Took b b goes cancelled_from numbers (raises_granted l here a since b.tick name gs ps)
+  took_raises_granted l here a since name goes moves =
+      took_acted l a here.part since None (raised name here.task (tick_of here.clock b.tick)) goes moves
+
+  -- it notes what it is granted, and goes on with its block
+  pub took_goes_on : (fs : List Frame) (es : List Entry) (hs : List rest.Frame) (l : Label) (here : Here) (a as_noted : Ask) (since : ℕ) →
+      blocks_of fs ≡ blocks_of b.frames → frames_of numbers fs ≡ hs → NotesGrant as_noted l (tick_of b.clock b.tick) b.entries es →
+      Took b (record b { frames = fs; entries = es }) (On None) cancelled_from numbers
+      (goes_on_granted (was_granted as_noted l) l here a since b.tick hs ps)
+  took_goes_on fs es hs l here a as_noted since same frames notes =
+      let u : State = record b { frames = fs; entries = es } in
+      let tick : ℕ = tick_of b.clock b.tick in
+      let one : Entry = entries.Granted as_noted notes.0 tick in
+      let later : List rest.Event = rest.noted b.tick (was_granted as_noted l) ∷ [] in
+      took_quiet b b.frames cancelled_from numbers stopped ps stands u (On None)
+      (makes (rest.acts l since (asks a here.part None) ∷ later) hs ps) (one ∷ [])
+      (record {
+        book = refl;
+        started = refl;
+        noted = notes.2;
+        kept = λ id has. subst (λ (bs : List Block). HasBlock id bs) (sym same) has;
+        back = λ id has. subst (λ (bs : List Block). HasBlock id bs) same has;
+      })
+      (record {
+        shown = ap (λ (x : Label). grant_shown as_noted x tick ∷ []) notes.1;
+        slices = All-cons (IsSlice (buffer_of b.part)) one [] tt (All-nil (IsSlice (buffer_of b.part)));
+      })
+      refl frames stands.places tt (refl, refl) refl
+      (act_shared (scoping_in b) (scoping_in b) l since (asks a here.part None) later
+      (act_noted (scoping_in b) (scoping_in b) b.tick (was_granted as_noted l) [] (no_act (scoping_in b)))) refl (unacted b.acts b.acts refl)

@@ -125,6 +125,7 @@ keeps_then me before mid after old w new h k =
             labels = new.labels;
             events = new.events;
             set = new.set;
+            acts = new.acts;
             book = new.book;
             started = new.started;
           }) h.world;
@@ -134,20 +135,26 @@ keeps_then me before mid after old w new h k =
 
 -- what a wake leaves as it was, after what the task had cancelled itself was forgotten
 pub keeps_woken : (me : ℕ) (before mid after : Task) (old new : World) → mid ≡ record before { cancelled = mid.cancelled } →
-    after ≡ record mid { own = after.own; task_state = after.task_state; entries = after.entries; cancelled_from = after.cancelled_from } →
+    after ≡ record mid { frames = after.frames; own = after.own; task_state = after.task_state; entries = after.entries; cancelled_from = after.cancelled_from } →
     new ≡ record old { scopes = new.scopes; labels = new.labels; events = new.events; book = new.book } → IsInRangeTaskState after.task_state →
     SameWaiters old.book new.book → KeepsRest me before after old new
 keeps_woken me before mid after old new forgot task world in_range waiters =
     let whole =
     task
-    ∙ ap (λ (t : Task). record t { own = after.own; task_state = after.task_state; entries = after.entries; cancelled_from = after.cancelled_from }) forgot in
+    ∙ ap (λ (t : Task). record t {
+      frames = after.frames;
+      own = after.own;
+      task_state = after.task_state;
+      entries = after.entries;
+      cancelled_from = after.cancelled_from;
+    }) forgot in
     record {
       task =
           whole
           ∙ ap
           (λ (t : Task).
           record before {
-            frames = t.frames;
+            frames = after.frames;
             own = after.own;
             task_state = after.task_state;
             entries = after.entries;
@@ -163,6 +170,7 @@ keeps_woken me before mid after old new forgot task world in_range waiters =
             labels = new.labels;
             events = new.events;
             set = w.set;
+            acts = w.acts;
             book = new.book;
             started = w.started;
           }) (sym world);
@@ -221,11 +229,71 @@ keeps_entered me before after old new task world in_range waiters =
             labels = new.labels;
             events = new.events;
             set = w.set;
+            acts = w.acts;
             book = new.book;
             started = w.started;
           }) (sym world);
       in_range = subst IsInRangeTaskState (sym (ap (λ (t : Task). t.task_state) task)) in_range;
       waiters = waiters;
+    }
+
+-- what a task that opened and entered a limiter or channel left as it was
+pub keeps_opened : (me : ℕ) (before after : Task) (old new : World) →
+    after ≡ record before { frames = after.frames; own = after.own; cancelled_from = after.cancelled_from } →
+    new ≡ record old { scopes = new.scopes; labels = new.labels; events = new.events; acts = new.acts } → IsInRangeTaskState before.task_state →
+    KeepsRest me before after old new
+keeps_opened me before after old new task world in_range =
+    record {
+      task =
+          task
+          ∙ ap
+          (λ (t : Task).
+          record before {
+            frames = after.frames;
+            own = after.own;
+            task_state = t.task_state;
+            entries = t.entries;
+            cancelled_from = after.cancelled_from;
+            cancelled = t.cancelled;
+          }) (sym task);
+      world =
+          world
+          ∙ ap
+          (λ (w : World).
+          record old {
+            scopes = new.scopes;
+            labels = new.labels;
+            events = new.events;
+            set = w.set;
+            acts = new.acts;
+            book = w.book;
+            started = w.started;
+          }) (sym world);
+      in_range = subst IsInRangeTaskState (sym (ap (λ (t : Task). t.task_state) task)) in_range;
+      waiters = subst (OpenedBy me old.book) (sym (ap (λ (w : World). w.book) world)) (opened_still me old.book);
+    }
+
+-- what a task that did something to a limiter or channel left as it was
+pub keeps_acted : (me : ℕ) (task : Task) (old new : World) → new ≡ record old { acts = new.acts } → IsInRangeTaskState task.task_state →
+    KeepsRest me task task old new
+keeps_acted me task old new world in_range =
+    record {
+      task = refl;
+      world =
+          world
+          ∙ ap
+          (λ (w : World).
+          record old {
+            scopes = w.scopes;
+            labels = w.labels;
+            events = w.events;
+            set = w.set;
+            acts = new.acts;
+            book = w.book;
+            started = w.started;
+          }) (sym world);
+      in_range = in_range;
+      waiters = subst (OpenedBy me old.book) (sym (ap (λ (w : World). w.book) world)) (opened_still me old.book);
     }
 
 -- what a task that cancelled a scope or set an event left as it was
@@ -254,6 +322,7 @@ keeps_signed me before after old new task world in_range =
             labels = w.labels;
             events = new.events;
             set = new.set;
+            acts = w.acts;
             book = w.book;
             started = w.started;
           }) (sym world);

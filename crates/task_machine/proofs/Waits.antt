@@ -10,9 +10,9 @@ use Rattle.cancel_scopes.specs.Tree as scopes
 use Rattle.exceptions.specs.Exceptions.{Label}
 use Rattle.job_meaning.specs.Log.{Table}
 use Rattle.job_meaning.specs.declared.clock.Clock.{Clock}
-use Rattle.job_meaning.specs.Walk.{label_if, level_if, event_on}
+use Rattle.job_meaning.specs.Walk.{Here, label_if, level_if, event_on}
 use Rattle.job_meaning.specs.Rest as rest
-use Rattle.job_meaning.specs.Rest.{Stopped, to_begin, asking, asleep, waiting_for, giving_up, awaiting, at_end}
+use Rattle.job_meaning.specs.Rest.{Stopped, to_begin, asking, asleep, waiting_for, queued, giving_up, awaiting, at_end}
 use Rattle.nursery_book.specs.declared.book.NurseryBook.{NurseryBook}
 use Rattle.turn_semantics.specs.Midway.{Place, label_among, level_on, stack_at}
 use Rattle.turn_semantics.specs.Names.{names_at, OwnNames}
@@ -20,7 +20,7 @@ use Rattle.turn_semantics.specs.Turned.{labels_of}
 use Rattle.turn_semantics.specs.Steps.{waits_on}
 use Rattle.turn_semantics.specs.Wakes.{is_checkpoint, set_at, gives_up_if, sees_from}
 use Rattle.task_machine.specs.declared.stop.TaskState.{TaskState}
-use Rattle.task_machine.specs.declared.stop.TaskState.TheVariants.{ToBegin, Asked, Asleep, Waiting, GivingUp, Awaits, Over}
+use Rattle.task_machine.specs.declared.stop.TaskState.TheVariants.{ToBegin, Asked, Asleep, Waiting, Queued, GivingUp, Awaits, Over}
 use Rattle.task_machine.specs.declared.stop.Moved.TheVariants.{On, Stops}
 use Rattle.task_machine.specs.declared.stop.Stop.TheVariants.{WaitFor}
 use Rattle.task_machine.specs.declared.stop.Wake.TheVariants.{Seen}
@@ -108,44 +108,52 @@ some_ticks n = by_test (suc n == 0) refl
     by_test true e = absurd (let f : suc n ≡ 0 = eqb-true (suc n) 0 e in cc)
     by_test false e = refl
 
-seen_asleep : (clock : Clock) (cancelled_from : Table) (t : ℕ) (paced : Bool) (n since : ℕ) (fs : List rest.Frame) (ps : List Place) →
-    sees_from clock cancelled_from t (asleep paced n since) fs ps ≡ gives_up_if (not paced && (n == 0)) t fs ps
-seen_asleep clock cancelled_from t true n since fs ps = refl
-seen_asleep clock cancelled_from t false zero since fs ps = refl
-seen_asleep clock cancelled_from t false (suc n) since fs ps = ap (λ (b : Bool). gives_up_if b t fs ps) (sym (some_ticks n))
+seen_asleep : (here : Here) (cancelled_from : Table) (t : ℕ) (paced : Bool) (n since : ℕ) (fs : List rest.Frame) (ps : List Place) →
+    sees_from here cancelled_from t (asleep paced n since) fs ps ≡ gives_up_if (not paced && (n == 0)) t fs ps
+seen_asleep here cancelled_from t true n since fs ps = refl
+seen_asleep here cancelled_from t false zero since fs ps = refl
+seen_asleep here cancelled_from t false (suc n) since fs ps = ap (λ (b : Bool). gives_up_if b t fs ps) (sym (some_ticks n))
+
+-- a task that asked no limiter or channel
+abbrev pub HasNotAsked : TaskState → Type 0
+HasNotAsked (Queued object ask since body) = ⊥
+HasNotAsked _ = Unit {0}
 
 -- at a checkpoint it gives up, and otherwise it raises
-module _ (clock : Clock) (labels : Labels) (events : Events) (cancelled_from : Table) (st : scopes.Stack) (ps : List Place) (numbers : Numbers)
+module _ (here : Here) (labels : Labels) (events : Events) (cancelled_from : Table) (st : scopes.Stack) (ps : List Place) (numbers : Numbers)
     (book : NurseryBook) (part : Lent) (t : ℕ) (a : AreAt labels events cancelled_from st ps) (own : OwnNames (names_at ps)) where
   pub sees_as : (task_state : TaskState) (stopped : Stopped) → AwaitsEvent labels st (Some stopped) task_state ps →
-      WakesFrom task_state part book Seen → IsTaskState numbers book task_state stopped → (fs : List rest.Frame) →
-      sees_from clock cancelled_from t stopped fs ps ≡ gives_up_if (at_checkpoint clock events task_state) t fs ps
-  sees_as (ToBegin at) stopped event w h fs = absurd w
-  sees_as (Asked kernel purpose) stopped event w h fs = absurd w
-  sees_as (Asleep paced ticks since) to_begin event w h fs = absurd h
-  sees_as (Asleep paced ticks since) (asking k p) event w h fs = absurd h
-  sees_as (Asleep paced ticks since) (asleep q n u) event w h fs =
-      seen_asleep clock cancelled_from t q n u fs ps
+      HasNotAsked task_state → WakesFrom task_state part book Seen → IsTaskState numbers book task_state stopped → (fs : List rest.Frame) →
+      sees_from here cancelled_from t stopped fs ps ≡ gives_up_if (at_checkpoint here.clock events task_state) t fs ps
+  sees_as (ToBegin at) stopped event other w h fs = absurd w
+  sees_as (Asked kernel purpose) stopped event other w h fs = absurd w
+  sees_as (Asleep paced ticks since) to_begin event other w h fs = absurd h
+  sees_as (Asleep paced ticks since) (asking k p) event other w h fs = absurd h
+  sees_as (Asleep paced ticks since) (asleep q n u) event other w h fs =
+      seen_asleep here cancelled_from t q n u fs ps
       ∙ ap (λ (b : Bool). gives_up_if (not b && (n == 0)) t fs ps) (sym h.0)
       ∙ ap (λ (m : ℕ). gives_up_if (not paced && (m == 0)) t fs ps) (sym h.1)
-  sees_as (Asleep paced ticks since) (waiting_for name u) event w h fs = absurd h
-  sees_as (Asleep paced ticks since) (giving_up u) event w h fs = absurd h
-  sees_as (Asleep paced ticks since) (awaiting kids u exc) event w h fs = absurd h
-  sees_as (Asleep paced ticks since) (at_end u e) event w h fs = absurd h
-  sees_as (Waiting key since) to_begin event w h fs = absurd h
-  sees_as (Waiting key since) (asking k p) event w h fs = absurd h
-  sees_as (Waiting key since) (asleep q n u) event w h fs = absurd h
-  sees_as (Waiting key since) (waiting_for name u) event w h fs =
-      ap (λ (x : ℕ). gives_up_if (is_checkpoint clock x u) t fs ps)
-      (sym (ends_as_set clock u (events key) (event_on name (stack_at cancelled_from ps).events)
+  sees_as (Asleep paced ticks since) (waiting_for name u) event other w h fs = absurd h
+  sees_as (Asleep paced ticks since) (queued name a u steps) event other w h fs = absurd h
+  sees_as (Asleep paced ticks since) (giving_up u) event other w h fs = absurd h
+  sees_as (Asleep paced ticks since) (awaiting kids u exc) event other w h fs = absurd h
+  sees_as (Asleep paced ticks since) (at_end u e) event other w h fs = absurd h
+  sees_as (Waiting key since) to_begin event other w h fs = absurd h
+  sees_as (Waiting key since) (asking k p) event other w h fs = absurd h
+  sees_as (Waiting key since) (asleep q n u) event other w h fs = absurd h
+  sees_as (Waiting key since) (waiting_for name u) event other w h fs =
+      ap (λ (x : ℕ). gives_up_if (is_checkpoint here.clock x u) t fs ps)
+      (sym (ends_as_set here.clock u (events key) (event_on name (stack_at cancelled_from ps).events)
       (found_event labels events cancelled_from st ps key name a own event.0 event.1)))
-      ∙ ap (λ (v : ℕ). gives_up_if (is_checkpoint clock (set_by clock (events key) v) v) t fs ps) (sym h)
-  sees_as (Waiting key since) (giving_up u) event w h fs = absurd h
-  sees_as (Waiting key since) (awaiting kids u exc) event w h fs = absurd h
-  sees_as (Waiting key since) (at_end u e) event w h fs = absurd h
-  sees_as (GivingUp since) stopped event w h fs = absurd w
-  sees_as (Awaits id since) stopped event w h fs = absurd w
-  sees_as Over stopped event w h fs = absurd w
+      ∙ ap (λ (v : ℕ). gives_up_if (is_checkpoint here.clock (set_by here.clock (events key) v) v) t fs ps) (sym h)
+  sees_as (Waiting key since) (queued name a u steps) event other w h fs = absurd h
+  sees_as (Waiting key since) (giving_up u) event other w h fs = absurd h
+  sees_as (Waiting key since) (awaiting kids u exc) event other w h fs = absurd h
+  sees_as (Waiting key since) (at_end u e) event other w h fs = absurd h
+  sees_as (Queued object ask since body) stopped event other w h fs = absurd other
+  sees_as (GivingUp since) stopped event other w h fs = absurd w
+  sees_as (Awaits id since) stopped event other w h fs = absurd w
+  sees_as Over stopped event other w h fs = absurd w
 
 -- ---- a wait that begins
 

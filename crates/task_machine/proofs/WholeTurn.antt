@@ -8,22 +8,22 @@ use Rattle.job_meaning.specs.Log.{Table}
 use Rattle.job_meaning.specs.Moments.{Now}
 use Rattle.job_meaning.specs.Walk.{Here}
 use Rattle.job_meaning.specs.Rest as rest
-use Rattle.job_meaning.specs.Rest.{Stopped, to_begin, asking, asleep, waiting_for, giving_up, awaiting, at_end}
+use Rattle.job_meaning.specs.Rest.{Stopped, to_begin, asking, asleep, waiting_for, queued, giving_up, awaiting, at_end}
 use Rattle.nursery_book.specs.declared.book.NurseryBook.{NurseryBook}
 use Rattle.turn_semantics.specs.Midway.{Place, Midway, Move, then_move, own_after, now_after}
 use Rattle.turn_semantics.specs.Placed.{PlacedAfter}
 use Rattle.turn_semantics.specs.Names.{NewIn, OwnNames, names_at, StaysNew}
 use Rattle.turn_semantics.specs.Steps.{cancelled_from_after, turn_of}
-use Rattle.turn_semantics.specs.Wakes.{CanWake, from_start, from_asking, from_sleep, from_due, from_seen_waiting, from_set, from_giving_up, from_wait, turn_from}
+use Rattle.turn_semantics.specs.Wakes.{CanWake, from_start, from_asking, from_sleep, from_due, from_seen_waiting, from_set, from_granted, from_seen_queued, from_deadlock, from_giving_up, from_wait, turn_from}
 use Rattle.turn_semantics.specs.Wakes as wakes
 use Rattle.turn_semantics.proofs.Waking.{turned_from}
 use Rattle.turn_semantics.proofs.Names.{turn_stays_new}
 use Rattle.task_machine.specs.declared.stop.TaskState.{TaskState}
-use Rattle.task_machine.specs.declared.stop.TaskState.TheVariants.{ToBegin, Asked, Asleep, Waiting, GivingUp, Awaits, Over}
+use Rattle.task_machine.specs.declared.stop.TaskState.TheVariants.{ToBegin, Asked, Asleep, Waiting, Queued, GivingUp, Awaits, Over}
 use Rattle.task_machine.specs.declared.stop.Moved.TheVariants.{On, Stops}
 use Rattle.task_machine.specs.declared.stop.Stop.{Stop}
 use Rattle.task_machine.specs.declared.stop.Wake.{Wake}
-use Rattle.task_machine.specs.declared.stop.Wake.TheVariants.{Begin, Due, Seen, Answer, Settled}
+use Rattle.task_machine.specs.declared.stop.Wake.TheVariants.{Begin, Due, Seen, Answer, Granted, Settled}
 use Rattle.task_machine.specs.Frames.{frames_of, Lent}
 use Rattle.task_machine.specs.Standing.{Stands, Took, StopsAfter, wake_at, TookTo, now_for, woken_at, TookTurn}
 use Rattle.task_machine.specs.States.{State, here_at, now_at, lent_at}
@@ -40,6 +40,7 @@ can_wake (ToBegin x) part book numbers Begin to_begin f h = from_start
 can_wake (ToBegin x) part book numbers Begin (asking l q) f h = absurd h
 can_wake (ToBegin x) part book numbers Begin (asleep r2 m v) f h = absurd h
 can_wake (ToBegin x) part book numbers Begin (waiting_for name v) f h = absurd h
+can_wake (ToBegin x) part book numbers Begin (queued name a v steps) f h = absurd h
 can_wake (ToBegin x) part book numbers Begin (giving_up v) f h = absurd h
 can_wake (ToBegin x) part book numbers Begin (awaiting cs v e) f h = absurd h
 can_wake (ToBegin x) part book numbers Begin (at_end v e) f h = absurd h
@@ -47,11 +48,13 @@ can_wake (ToBegin x) part book numbers Due to_begin f h = from_start
 can_wake (ToBegin x) part book numbers Due (asking l q) f h = absurd h
 can_wake (ToBegin x) part book numbers Due (asleep r2 m v) f h = absurd h
 can_wake (ToBegin x) part book numbers Due (waiting_for name v) f h = absurd h
+can_wake (ToBegin x) part book numbers Due (queued name a v steps) f h = absurd h
 can_wake (ToBegin x) part book numbers Due (giving_up v) f h = absurd h
 can_wake (ToBegin x) part book numbers Due (awaiting cs v e) f h = absurd h
 can_wake (ToBegin x) part book numbers Due (at_end v e) f h = absurd h
 can_wake (ToBegin x) part book numbers Seen s f h = absurd f
 can_wake (ToBegin x) part book numbers (Answer a) s f h = absurd f
+can_wake (ToBegin x) part book numbers (Granted grant) s f h = absurd f
 can_wake (ToBegin x) part book numbers Settled s f h = absurd f
 can_wake (Asked k p) part book numbers Begin s f h = absurd f
 can_wake (Asked k p) part book numbers Due s f h = absurd f
@@ -60,15 +63,18 @@ can_wake (Asked k p) part book numbers (Answer a) to_begin f h = absurd h
 can_wake (Asked k p) part book numbers (Answer a) (asking l q) f h = from_asking
 can_wake (Asked k p) part book numbers (Answer a) (asleep r2 m v) f h = absurd h
 can_wake (Asked k p) part book numbers (Answer a) (waiting_for name v) f h = absurd h
+can_wake (Asked k p) part book numbers (Answer a) (queued name b v steps) f h = absurd h
 can_wake (Asked k p) part book numbers (Answer a) (giving_up v) f h = absurd h
 can_wake (Asked k p) part book numbers (Answer a) (awaiting cs v e) f h = absurd h
 can_wake (Asked k p) part book numbers (Answer a) (at_end v e) f h = absurd h
+can_wake (Asked k p) part book numbers (Granted grant) s f h = absurd f
 can_wake (Asked k p) part book numbers Settled s f h = absurd f
 can_wake (Asleep r n u) part book numbers Begin s f h = absurd f
 can_wake (Asleep r n u) part book numbers Due to_begin f h = absurd h
 can_wake (Asleep r n u) part book numbers Due (asking l q) f h = absurd h
 can_wake (Asleep r n u) part book numbers Due (asleep r2 m v) f h = from_due
 can_wake (Asleep r n u) part book numbers Due (waiting_for name v) f h = absurd h
+can_wake (Asleep r n u) part book numbers Due (queued name a v steps) f h = absurd h
 can_wake (Asleep r n u) part book numbers Due (giving_up v) f h = absurd h
 can_wake (Asleep r n u) part book numbers Due (awaiting cs v e) f h = absurd h
 can_wake (Asleep r n u) part book numbers Due (at_end v e) f h = absurd h
@@ -76,16 +82,19 @@ can_wake (Asleep r n u) part book numbers Seen to_begin f h = absurd h
 can_wake (Asleep r n u) part book numbers Seen (asking l q) f h = absurd h
 can_wake (Asleep r n u) part book numbers Seen (asleep r2 m v) f h = from_sleep
 can_wake (Asleep r n u) part book numbers Seen (waiting_for name v) f h = absurd h
+can_wake (Asleep r n u) part book numbers Seen (queued name a v steps) f h = absurd h
 can_wake (Asleep r n u) part book numbers Seen (giving_up v) f h = absurd h
 can_wake (Asleep r n u) part book numbers Seen (awaiting cs v e) f h = absurd h
 can_wake (Asleep r n u) part book numbers Seen (at_end v e) f h = absurd h
 can_wake (Asleep r n u) part book numbers (Answer a) s f h = absurd f
+can_wake (Asleep r n u) part book numbers (Granted grant) s f h = absurd f
 can_wake (Asleep r n u) part book numbers Settled s f h = absurd f
 can_wake (Waiting event u) part book numbers Begin s f h = absurd f
 can_wake (Waiting event u) part book numbers Due to_begin f h = absurd h
 can_wake (Waiting event u) part book numbers Due (asking l q) f h = absurd h
 can_wake (Waiting event u) part book numbers Due (asleep r2 m v) f h = absurd h
 can_wake (Waiting event u) part book numbers Due (waiting_for name v) f h = from_set
+can_wake (Waiting event u) part book numbers Due (queued name a v steps) f h = absurd h
 can_wake (Waiting event u) part book numbers Due (giving_up v) f h = absurd h
 can_wake (Waiting event u) part book numbers Due (awaiting cs v e) f h = absurd h
 can_wake (Waiting event u) part book numbers Due (at_end v e) f h = absurd h
@@ -93,36 +102,70 @@ can_wake (Waiting event u) part book numbers Seen to_begin f h = absurd h
 can_wake (Waiting event u) part book numbers Seen (asking l q) f h = absurd h
 can_wake (Waiting event u) part book numbers Seen (asleep r2 m v) f h = absurd h
 can_wake (Waiting event u) part book numbers Seen (waiting_for name v) f h = from_seen_waiting
+can_wake (Waiting event u) part book numbers Seen (queued name a v steps) f h = absurd h
 can_wake (Waiting event u) part book numbers Seen (giving_up v) f h = absurd h
 can_wake (Waiting event u) part book numbers Seen (awaiting cs v e) f h = absurd h
 can_wake (Waiting event u) part book numbers Seen (at_end v e) f h = absurd h
 can_wake (Waiting event u) part book numbers (Answer a) s f h = absurd f
+can_wake (Waiting event u) part book numbers (Granted grant) s f h = absurd f
 can_wake (Waiting event u) part book numbers Settled s f h = absurd f
+can_wake (Queued object a u body) part book numbers Begin s f h = absurd f
+can_wake (Queued object a u body) part book numbers Due to_begin f h = absurd h
+can_wake (Queued object a u body) part book numbers Due (asking l q) f h = absurd h
+can_wake (Queued object a u body) part book numbers Due (asleep r2 m v) f h = absurd h
+can_wake (Queued object a u body) part book numbers Due (waiting_for name v) f h = absurd h
+can_wake (Queued object a u body) part book numbers Due (queued name b v steps) f h = from_deadlock
+can_wake (Queued object a u body) part book numbers Due (giving_up v) f h = absurd h
+can_wake (Queued object a u body) part book numbers Due (awaiting cs v e) f h = absurd h
+can_wake (Queued object a u body) part book numbers Due (at_end v e) f h = absurd h
+can_wake (Queued object a u body) part book numbers Seen to_begin f h = absurd h
+can_wake (Queued object a u body) part book numbers Seen (asking l q) f h = absurd h
+can_wake (Queued object a u body) part book numbers Seen (asleep r2 m v) f h = absurd h
+can_wake (Queued object a u body) part book numbers Seen (waiting_for name v) f h = absurd h
+can_wake (Queued object a u body) part book numbers Seen (queued name b v steps) f h = from_seen_queued
+can_wake (Queued object a u body) part book numbers Seen (giving_up v) f h = absurd h
+can_wake (Queued object a u body) part book numbers Seen (awaiting cs v e) f h = absurd h
+can_wake (Queued object a u body) part book numbers Seen (at_end v e) f h = absurd h
+can_wake (Queued object a u body) part book numbers (Answer answer) s f h = absurd f
+can_wake (Queued object a u body) part book numbers (Granted grant) to_begin f h = absurd h
+can_wake (Queued object a u body) part book numbers (Granted grant) (asking l q) f h = absurd h
+can_wake (Queued object a u body) part book numbers (Granted grant) (asleep r2 m v) f h = absurd h
+can_wake (Queued object a u body) part book numbers (Granted grant) (waiting_for name v) f h = absurd h
+can_wake (Queued object a u body) part book numbers (Granted grant) (queued name b v steps) f h = from_granted
+can_wake (Queued object a u body) part book numbers (Granted grant) (giving_up v) f h = absurd h
+can_wake (Queued object a u body) part book numbers (Granted grant) (awaiting cs v e) f h = absurd h
+can_wake (Queued object a u body) part book numbers (Granted grant) (at_end v e) f h = absurd h
+can_wake (Queued object a u body) part book numbers Settled s f h = absurd f
 can_wake (GivingUp u) part book numbers Begin s f h = absurd f
 can_wake (GivingUp u) part book numbers Due to_begin f h = absurd h
 can_wake (GivingUp u) part book numbers Due (asking l q) f h = absurd h
 can_wake (GivingUp u) part book numbers Due (asleep r2 m v) f h = absurd h
 can_wake (GivingUp u) part book numbers Due (waiting_for name v) f h = absurd h
+can_wake (GivingUp u) part book numbers Due (queued name a v steps) f h = absurd h
 can_wake (GivingUp u) part book numbers Due (giving_up v) f h = from_giving_up
 can_wake (GivingUp u) part book numbers Due (awaiting cs v e) f h = absurd h
 can_wake (GivingUp u) part book numbers Due (at_end v e) f h = absurd h
 can_wake (GivingUp u) part book numbers Seen s f h = absurd f
 can_wake (GivingUp u) part book numbers (Answer a) s f h = absurd f
+can_wake (GivingUp u) part book numbers (Granted grant) s f h = absurd f
 can_wake (GivingUp u) part book numbers Settled s f h = absurd f
 can_wake (Awaits id u) part book numbers Begin s f h = absurd f
 can_wake (Awaits id u) part book numbers Due to_begin f h = absurd h
 can_wake (Awaits id u) part book numbers Due (asking l q) f h = absurd h
 can_wake (Awaits id u) part book numbers Due (asleep r2 m v) f h = absurd h
 can_wake (Awaits id u) part book numbers Due (waiting_for name v) f h = absurd h
+can_wake (Awaits id u) part book numbers Due (queued name a v steps) f h = absurd h
 can_wake (Awaits id u) part book numbers Due (giving_up v) f h = absurd h
 can_wake (Awaits id u) part book numbers Due (awaiting cs v e) f h = from_wait
 can_wake (Awaits id u) part book numbers Due (at_end v e) f h = absurd h
 can_wake (Awaits id u) part book numbers Seen s f h = absurd f
 can_wake (Awaits id u) part book numbers (Answer a) s f h = absurd f
+can_wake (Awaits id u) part book numbers (Granted grant) s f h = absurd f
 can_wake (Awaits id u) part book numbers Settled to_begin f h = absurd h
 can_wake (Awaits id u) part book numbers Settled (asking l q) f h = absurd h
 can_wake (Awaits id u) part book numbers Settled (asleep r2 m v) f h = absurd h
 can_wake (Awaits id u) part book numbers Settled (waiting_for name v) f h = absurd h
+can_wake (Awaits id u) part book numbers Settled (queued name a v steps) f h = absurd h
 can_wake (Awaits id u) part book numbers Settled (giving_up v) f h = absurd h
 can_wake (Awaits id u) part book numbers Settled (awaiting cs v e) f h = from_wait
 can_wake (Awaits id u) part book numbers Settled (at_end v e) f h = absurd h
@@ -130,6 +173,7 @@ can_wake Over part book numbers Begin s f h = absurd f
 can_wake Over part book numbers Due s f h = absurd f
 can_wake Over part book numbers Seen s f h = absurd f
 can_wake Over part book numbers (Answer a) s f h = absurd f
+can_wake Over part book numbers (Granted grant) s f h = absurd f
 can_wake Over part book numbers Settled s f h = absurd f
 
 -- ---- the state of a task that continues after its wake
@@ -166,7 +210,7 @@ wake_stands s u exc cancelled_from numbers ps count stopped w can stands took =
     let kept = (turned_from zero (now_at s) (now_at s) (here_at s) cancelled_from w r ps count can stands.placed).placed in
     let none : o.stopped ≡ None = took.moves.1 in
     let names = names_on o _ (now_after s.clock (now_at s) o.made) (here_at s) _ none
-    (turn_stays_new zero (now_at s) (here_at s) cancelled_from w r ps count can stands.new
+    (turn_stays_new zero (now_at s) (here_at s) cancelled_from w r ps count can stands.new stands.stop
     stands.own) in
     record {
       places = took.places;
@@ -174,6 +218,7 @@ wake_stands s u exc cancelled_from numbers ps count stopped w can stands took =
       placed = subst (λ (fs : List rest.Frame). PlacedAfter None fs o.places) (sym took.frames_after)
           (placed_on o _ (now_after s.clock (now_at s) o.made) (here_at s) _ none kept);
       new = subst (λ (fs : List rest.Frame). NewIn fs o.places) (sym took.frames_after) names.0;
+      stop = tt;
       own = names.1;
       event = tt;
     }
@@ -253,6 +298,7 @@ now_woken Begin s = refl
 now_woken Due s = refl
 now_woken Seen s = refl
 now_woken (Answer answer) s = refl
+now_woken (Granted grant) s = refl
 now_woken Settled s = refl
 
 -- what it cancelled before does not change its places
@@ -264,6 +310,7 @@ woken_stands wake s cancelled_from numbers stopped ps stands =
       numbered = stands.numbered;
       placed = stands.placed;
       new = stands.new;
+      stop = stands.stop;
       own = stands.own;
       event = stands.event;
     }

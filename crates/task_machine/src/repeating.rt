@@ -112,7 +112,7 @@ fn cuts_over(over: bool, count: u64) -> Option<u64>
 // The part inside frames, outermost first.
 fn part_inside<'a>(part: Part<'a>, frames: &[Frame<'a>]) -> Part<'a>
     requires cuts { All HasCut frames.now }
-    requires lent { AreOf (buffer_of part.entry) (received_in frames.now) }
+    requires lent { AreOf (buffer_of part) (received_in frames.now) }
     ensures buffer { buffer_of result ≡ buffer_of part.entry }
     ensures range { range_of result ≡ cuts_onto (buffer_of part.entry) frames.now (range_of part.entry) }
 {
@@ -126,7 +126,7 @@ fn part_inside<'a>(part: Part<'a>, frames: &[Frame<'a>]) -> Part<'a>
 // The cut for the pass, if the frame is that of a `repeat over`, or what was received.
 fn part_in_frame<'a>(part: Part<'a>, frame: &Frame<'a>) -> Part<'a>
     requires cut { HasCut frame.now }
-    requires lent { AreOf (buffer_of part.entry) (received_in (frame.now ∷ [])) }
+    requires lent { AreOf (buffer_of part) (received_in (frame.now ∷ [])) }
     ensures buffer { buffer_of result ≡ buffer_of part.entry }
     ensures range { range_of result ≡ cuts_onto (buffer_of part.entry) (frame.now ∷ []) (range_of part.entry) }
 {

@@ -1,10 +1,12 @@
 //! What tasks ask of limiters and channels, and what they do to them.
-ghost use Rattle.std.specs.Prelude.{◌≡◌, ◌≤◌, ◌^◌, ◌++◌, ℕ, [], ◌∷◌, List, All, None, Some, IfOk, OnOk};
+ghost use Rattle.std.specs.Prelude.{◌≡◌, ◌≤◌, ◌^◌, ◌++◌, ℕ, true, false, [], ◌∷◌, List, All, None, Some, IfOk, OnOk};
 ghost use Rattle.std.specs.Option.{ForSome};
 ghost use Rattle.cancel_scopes.specs.Sight.{seen};
 ghost use Rattle.cancel_scopes.specs.Tree.{IsOpen, outer_of};
 ghost use Rattle.input_lines.specs.Part.{buffer_of};
 ghost use Rattle.job_meaning.specs.Log.{Table};
+ghost use Rattle.job_tree.specs.InRange.{AreInRange};
+ghost use Rattle.job_tree.specs.Starting.{StartsIn};
 ghost use Rattle.job_tree.specs.Tree.{Steps};
 ghost use Rattle.job_tree.specs.declared.object.Ask.{Ask as AskOf};
 ghost use Rattle.job_meaning.specs.Moments.{tick_of};
@@ -57,6 +59,8 @@ impl<'a> Task<'a> {
         requires tick { world.now.tick ≤ 2 ^ 62 }
         requires cuts { All HasCut self.old.frames.items }
         requires lent { AreOf (buffer_of self.old.part) (received_in self.old.frames.items) }
+        requires in_range { AreInRange body.now }
+        requires starts { StartsIn false body.now }
         ensures stays { self.new ≡ record self.old { task_state = self.new.task_state } }
         ensures task_state { IsInRangeTaskState self.old.task_state → IsInRangeTaskState self.new.task_state }
         ensures waits { waits_by result self.new.task_state ≡ None }
@@ -111,7 +115,10 @@ impl<'a> Task<'a> {
         requires tick { world.now.tick ≤ 2 ^ 62 }
         requires cuts { All HasCut self.old.frames.items }
         requires lent { AreOf (buffer_of self.old.part) (received_in self.old.frames.items) }
-        ensures stays { self.new ≡ record self.old { task_state = Queued object ask world.now.tick body } }
+        requires in_range { AreInRange body.now }
+        requires starts { StartsIn false body.now }
+        ensures stays { self.new ≡ record self.old { task_state = Queued object ask world.now.tick body.entry } }
+        ensures task_state { IsInRangeTaskState self.new.task_state }
         ensures waits { waits_by result self.new.task_state ≡ None }
         ensures moves { (numbers : Numbers) (book : Book) (name : List ℕ) (fs : List Left) (ps : List Place) →
             MovesAs world.now.clock numbers book (lent_of self.old) result self.new.task_state
@@ -149,6 +156,7 @@ impl<'a> Task<'a> {
         world: &World<'a>,
     ) -> Result<Moved<'a>, AllocError>
         requires fits { Fits (state_of self.old world.now) (waits_of self.old.task_state) }
+        requires task_state { IsInRangeTaskState self.old.task_state }
         requires wake { WakesFrom self.old.task_state (lent_of self.old) world.now.book (wakes.Granted grant) }
         ensures stays { OnOk result (self.new ≡ record self.old { frames = self.new.frames; entries = self.new.entries }) }
         ensures fits { IfOk result (λ moved. Fits (state_of self.new world.now) (waits_by moved self.new.task_state)) }

@@ -39,8 +39,13 @@ impl<'a> Task<'a> {
         requires task_state { IsInRangeTaskState self.old.task_state }
         requires wake { WakesFrom self.old.task_state (lent_of self.old) world.old.book wake }
         ensures stays { OnOk result (self.new
-            ≡ record self.old { frames = self.new.frames; own = self.new.own; task_state = self.new.task_state; entries = self.new.entries;
-                cancelled_from = self.new.cancelled_from }) }
+            ≡ record self.old {
+              frames = self.new.frames;
+              own = self.new.own;
+              task_state = self.new.task_state;
+              entries = self.new.entries;
+              cancelled_from = self.new.cancelled_from;
+            }) }
         ensures world { OnOk result (world.new
             ≡ record world.old { scopes = world.new.scopes; labels = world.new.labels; events = world.new.events; book = world.new.book }) }
         ensures task_state { OnOk result (IsInRangeTaskState self.new.task_state) }

@@ -1,15 +1,24 @@
-use Rattle.std.proofs.Common.{◌≡◌, ℕ, ◌+◌, [], ◌∷◌, ◌++◌, List, take, length, refl, ap, sym, ◌∙◌, arith}
+use Rattle.std.proofs.Common.{◌≡◌, ℕ, ◌+◌, [], ◌∷◌, ◌++◌, List, take, length, refl, ap, sym, ◌∙◌, subst, arith}
 use Rattle.std.proofs.Math.Seq.{take-length}
 use Rattle.std.proofs.lemmas.List.{take_more}
 use Rattle.input_lines.specs.Lines.{Range}
 use Rattle.input_lines.specs.Part.{buffer_of, range_of}
+use Rattle.task_machine.specs.Fitting.{AreOf, received_in}
 use Rattle.task_machine.specs.Frames.{cuts_onto}
 use Rattle.task_machine.specs.declared.frame.Frame.{Frame}
-use Rattle.task_machine.proofs.FrameLemmas.{cuts_append}
+use Rattle.task_machine.proofs.FrameLemmas.{cuts_append, lent_at}
 use Rattle.task_machine.proofs.repeating.part_inside.Goals as goal
 
 pub frames-init : goal.frames-init
 frames-init c = (refl, refl)
+
+pub part_in_frame-inner-requires-clause-lent : goal.part_in_frame-inner-requires-clause-lent
+part_in_frame-inner-requires-clause-lent c =
+    let fs = c.args.frames.now in
+    let i = c.frames.frame-index in
+    subst (λ (b : List ℕ). AreOf b (received_in (c.frame-item.result ∷ []))) (sym c.frames.invariant.0)
+    (subst (λ (f : Frame). AreOf (buffer_of c.args.part) (received_in (f ∷ []))) (sym c.frame-item.is)
+    (lent_at (buffer_of c.args.part) fs i _ (omega (arith, c.frames-test.true)) c.requires.lent))
 
 pub frames-preserved : goal.frames-preserved
 frames-preserved c =

@@ -1,4 +1,4 @@
-use Rattle.std.proofs.Common.{Option, List, [], ◌∷◌, ◌++◌, ap, sym, ◌∙◌, subst, refl, arith}
+use Rattle.std.proofs.Common.{Option, None, List, [], ◌∷◌, ◌++◌, ap, sym, ◌∙◌, subst, refl, arith}
 use Rattle.std.specs.Option.{option_map, option_copied}
 use Rattle.exceptions.specs.declared.exc.Exc as held
 use Rattle.exceptions.specs.Held.{exc_of}
@@ -6,8 +6,11 @@ use Rattle.job_tree.specs.Blocks.{handled_of, cleaned_of}
 use Rattle.job_meaning.specs.Walk.{outcome_after}
 use Rattle.turn_semantics.specs.Bound.{frames_length}
 use Rattle.turn_semantics.specs.Midway.{Move}
-use Rattle.task_machine.specs.declared.frame.Frame.TheVariants.{Scope, Event, Nursery, Repeat, Try, Handler, Cleanup}
+use Rattle.task_machine.specs.declared.frame.Frame.TheVariants.{Scope, Event, Token, Received, Nursery, Repeat, Try, Handler, Cleanup}
 use Rattle.task_machine.specs.declared.frame.Frame.{Frame}
+use Rattle.task_machine.specs.declared.serving.ObjectAct.{ObjectAct}
+use Rattle.task_machine.specs.declared.world.World.{World}
+use Rattle.task_machine.specs.declared.stop.Moved.TheVariants.{On}
 use Rattle.task_machine.specs.declared.stop.TaskState.{TaskState}
 use Rattle.task_machine.specs.declared.stop.Moved.{Moved}
 use Rattle.task_machine.specs.declared.task.Task.{Task}
@@ -19,8 +22,9 @@ use Rattle.task_machine.specs.Tasks.{home_scope}
 use Rattle.task_machine.specs.Worlds.{label_at}
 use Rattle.task_machine.proofs.Fits.{ready_scope}
 use Rattle.task_machine.proofs.StateLemmas.{state_eq}
-use Rattle.task_machine.proofs.TaskFits.{exited_fits, waits_fits, frame_off, in_range_with, starts_with, popped_fits, popped_length, popped_body, pass_shorter, passed_fits, try_shorter, tried_fits, handled_fits}
-use Rattle.task_machine.proofs.Advances.{takes_end, takes_exit, takes_event_left, takes_body, takes_pass, takes_try, takes_handler, takes_cleanup}
+use Rattle.task_machine.proofs.TaskFits.{exited_fits, waits_fits, acted_fits, frame_off, in_range_with, starts_with, popped_fits, popped_length, popped_body, pass_shorter, passed_fits, try_shorter, tried_fits, handled_fits}
+use Rattle.task_machine.proofs.Advances.{takes_end, takes_exit, takes_event_left, takes_token, takes_received, takes_body, takes_pass, takes_try, takes_handler, takes_cleanup}
+use Rattle.task_machine.proofs.Waiters.{keeps_task, keeps_then, keeps_acted}
 use Rattle.task_machine.proofs.task.Task.advance.Goals as goal
 
 pub exit-requires-clause-some : goal.exit-requires-clause-some
@@ -158,7 +162,7 @@ returns-in_ok-exc-in-Try-clause-fits c =
     tried_fits (handled_of (option_copied c.in-Try.handler)) (cleaned_of c.in-Try.cleanup.now) (state_of (record c.args.self.now { frames = c.pop.new.self }) c.args.world.now)
     (state_of c.end_try.new.self c.args.world.now) (Try c.in-Try.handler c.in-Try.cleanup) (option_map exc_of c.args.exc) (option_map exc_of c.in_ok-exc-in-Try.exc) refl
     refl (popped_fits (state_of (record c.args.self.now { frames = c.pop.new.self }) c.args.world.now) c.args.self.now.frames.items c.in-Some.frame (Try c.in-Try.handler c.in-Try.cleanup) c.in-Some.ensures.items c.in-Try.is c.requires.fits)
-    (e.step (λ id. []) []) e.blocks (ap (λ (t : Task). state_of t c.args.world.now) e.stays)
+    (e.step (λ id. []) []) e.blocks e.received (ap (λ (t : Task). state_of t c.args.world.now) e.stays)
 
 pub returns-in_ok-exc-in-Try-clause-shorter : goal.returns-in_ok-exc-in-Try-clause-shorter
 returns-in_ok-exc-in-Try-clause-shorter c =
@@ -182,7 +186,7 @@ returns-in_ok-exc-in-Handler-clause-fits c =
     handled_fits (cleaned_of c.in-Handler.cleanup.now) (option_map exc_of (unboxed_exc c.in-Handler.rest)) (state_of (record c.args.self.now { frames = c.pop.new.self }) c.args.world.now)
     (state_of c.end_handler.new.self c.args.world.now) (Handler c.in-Handler.rest c.in-Handler.cleanup) refl refl
     (popped_fits (state_of (record c.args.self.now { frames = c.pop.new.self }) c.args.world.now) c.args.self.now.frames.items c.in-Some.frame (Handler c.in-Handler.rest c.in-Handler.cleanup) c.in-Some.ensures.items c.in-Handler.is c.requires.fits)
-    (e.frames (λ id. [])) e.blocks (ap (λ (t : Task). state_of t c.args.world.now) e.stays)
+    (e.frames (λ id. [])) e.blocks e.received (ap (λ (t : Task). state_of t c.args.world.now) e.stays)
 
 pub returns-in_ok-exc-in-Handler-clause-shorter : goal.returns-in_ok-exc-in-Handler-clause-shorter
 returns-in_ok-exc-in-Handler-clause-shorter c =
@@ -233,7 +237,7 @@ returns-in_ok-exc-in-Repeat-clause-fits c =
     passed_fits c.in-Repeat.pass c.in-Repeat.left c.in-Repeat.cuts c.in-Repeat.body.now (state_of (record c.args.self.now { frames = c.pop.new.self }) c.args.world.now) (state_of c.next_pass.new.self c.args.world.now)
     (Repeat c.in-Repeat.pass c.in-Repeat.left c.in-Repeat.cuts c.in-Repeat.body) (option_map exc_of c.args.exc) (option_map exc_of c.in_ok-exc-in-Repeat.exc) refl refl
     (popped_fits (state_of (record c.args.self.now { frames = c.pop.new.self }) c.args.world.now) c.args.self.now.frames.items c.in-Some.frame (Repeat c.in-Repeat.pass c.in-Repeat.left c.in-Repeat.cuts c.in-Repeat.body) c.in-Some.ensures.items c.in-Repeat.is c.requires.fits)
-    (e.step (λ id. []) []) e.blocks (ap (λ (t : Task). state_of t c.args.world.now) e.stays)
+    (e.step (λ id. []) []) e.blocks e.received (ap (λ (t : Task). state_of t c.args.world.now) e.stays)
 
 pub returns-in_ok-exc-in-Repeat-clause-shorter : goal.returns-in_ok-exc-in-Repeat-clause-shorter
 returns-in_ok-exc-in-Repeat-clause-shorter c =
@@ -250,3 +254,56 @@ returns-in_ok-exc-in-Repeat-clause-step c =
     let e = c.in_ok-exc-in-Repeat.ensures in
     takes_pass (state_of (record c.args.self.now { frames = c.pop.new.self }) c.args.world.now) (state_of c.next_pass.new.self c.args.world.now) c.args.self.now.frames.items c.in-Repeat.pass c.in-Repeat.left
     c.in-Repeat.cuts c.in-Repeat.body c.args.exc c.in_ok-exc-in-Repeat.exc (c.in-Some.ensures.items ∙ ap (λ (f : Frame). c.pop.new.self.items ++ f ∷ []) c.in-Repeat.is) (ap (λ (t : Task). state_of t c.args.world.now) e.stays) e.step
+
+pub returns-in_ok-exc-in-Token-clause-fits : goal.returns-in_ok-exc-in-Token-clause-fits
+returns-in_ok-exc-in-Token-clause-fits c =
+    let self = record c.args.self.now { frames = c.pop.new.self } in
+    let s = state_of self c.args.world.now in
+    let f = Token c.in-Token.limiter in
+    let fits = popped_fits s c.args.self.now.frames.items c.in-Some.frame f c.in-Some.ensures.items c.in-Token.is c.requires.fits in
+    acted_fits s (state_of self c.give_back.new.world) None (frame_off s f refl fits (in_range_with s f fits) (starts_with s f fits))
+    (ap (λ (w : World). state_of self w) c.in_ok-exc-in-Token.ensures.rest)
+
+pub returns-in_ok-exc-in-Token-clause-shorter : goal.returns-in_ok-exc-in-Token-clause-shorter
+returns-in_ok-exc-in-Token-clause-shorter c =
+    λ u.
+    let before = popped_length c.args.self.now.frames.items c.pop.new.self.items c.in-Some.frame (Token c.in-Token.limiter)
+    c.in-Some.ensures.items c.in-Token.is in
+    omega (arith, before)
+
+pub returns-in_ok-exc-in-Token-clause-step : goal.returns-in_ok-exc-in-Token-clause-step
+returns-in_ok-exc-in-Token-clause-step c =
+    let self = record c.args.self.now { frames = c.pop.new.self } in
+    let e = c.in_ok-exc-in-Token.ensures in
+    subst (λ (x : Option held.Exc). StepsAs (state_of c.args.self.now c.args.world.now) (state_of self c.give_back.new.world) (option_map exc_of c.args.exc)
+    (On x)) (sym e.same)
+    (takes_token (state_of self c.args.world.now) (state_of self c.give_back.new.world) c.args.self.now.frames.items c.in-Token.limiter c.args.exc
+    (c.in-Some.ensures.items ∙ ap (λ (f : Frame). c.pop.new.self.items ++ f ∷ []) c.in-Token.is)
+    (ap (λ (w : World). state_of self w) e.rest
+    ∙ ap (λ (xs : List ObjectAct). record (state_of self c.args.world.now) { acts = xs }) e.noted))
+
+pub returns-in_ok-exc-in-Token-clause-keeps : goal.returns-in_ok-exc-in-Token-clause-keeps
+returns-in_ok-exc-in-Token-clause-keeps c =
+    let self = record c.args.self.now { frames = c.pop.new.self } in
+    keeps_then c.args.me c.args.self.now self self c.args.world.now c.args.world.now c.give_back.new.world
+    (keeps_task c.args.me c.args.self.now self c.args.world.now refl c.requires.task_state)
+    (keeps_acted c.args.me self c.args.world.now c.give_back.new.world c.in_ok-exc-in-Token.ensures.rest c.requires.task_state)
+
+pub returns-in-Received-clause-fits : goal.returns-in-Received-clause-fits
+returns-in-Received-clause-fits c =
+    let s = state_of (record c.args.self.now { frames = c.pop.new.self }) c.args.world.now in
+    let f = Received c.in-Received.part in
+    let fits = popped_fits s c.args.self.now.frames.items c.in-Some.frame f c.in-Some.ensures.items c.in-Received.is c.requires.fits in
+    frame_off s f refl fits (in_range_with s f fits) (starts_with s f fits)
+
+pub returns-in-Received-clause-shorter : goal.returns-in-Received-clause-shorter
+returns-in-Received-clause-shorter c =
+    λ u.
+    let before = popped_length c.args.self.now.frames.items c.pop.new.self.items c.in-Some.frame (Received c.in-Received.part)
+    c.in-Some.ensures.items c.in-Received.is in
+    omega (arith, before)
+
+pub returns-in-Received-clause-step : goal.returns-in-Received-clause-step
+returns-in-Received-clause-step c =
+    takes_received (state_of (record c.args.self.now { frames = c.pop.new.self }) c.args.world.now) c.args.self.now.frames.items c.in-Received.part
+    c.args.exc (c.in-Some.ensures.items ∙ ap (λ (f : Frame). c.pop.new.self.items ++ f ∷ []) c.in-Received.is)

@@ -9,10 +9,14 @@ use Rattle.task_machine.proofs.TaskFits.{cuts_fit, started_fits}
 use Rattle.task_machine.proofs.task.Task.begin_children.Goals as goal
 
 pub part_here-part-requires : goal.part_here-part-requires
-part_here-part-requires c = cuts_fit (state_of c.args.self.now c.args.world.now) None c.requires.fits
+part_here-part-requires c =
+    record { cuts = cuts_fit (state_of c.args.self.now c.args.world.now) None c.requires.fits; lent = c.requires.fits.runs.lent }
 
 pub start_over-requires-clause-cuts : goal.start_over-requires-clause-cuts
 start_over-requires-clause-cuts c = cuts_fit (state_of c.args.self.now c.args.world.now) None c.requires.fits
+
+pub start_over-requires-clause-lent : goal.start_over-requires-clause-lent
+start_over-requires-clause-lent c = c.requires.fits.runs.lent
 
 pub start-requires-clause-nursery : goal.start-requires-clause-nursery
 start-requires-clause-nursery c = body_runs

@@ -1,4 +1,13 @@
-use Rattle.std.proofs.Common.{Some, None, refl, ap, sym, subst}
+use Rattle.std.proofs.Common.{ℕ, Option, Some, None, List, refl, ap, sym, subst}
+use Rattle.std.specs.Prelude.{codes}
+use Rattle.exceptions.specs.Exceptions.{raised}
+use Rattle.job_meaning.specs.Moments.{tick_of}
+use Rattle.job_meaning.specs.Rest as rest
+use Rattle.nursery_book.specs.declared.book.NurseryBook.{NurseryBook}
+use Rattle.turn_semantics.specs.Midway.{Place}
+use Rattle.turn_semantics.specs.Steps.{onward}
+use Rattle.task_machine.specs.Stops.{Numbers, MovesAs}
+use Rattle.task_machine.specs.Tasks.{lent_of}
 use Rattle.exceptions.specs.declared.exc.Exc.TheVariants.{Cancelled}
 use Rattle.turn_semantics.specs.Wakes.{settles}
 use Rattle.task_machine.specs.declared.stop.Moved.TheVariants.{On}
@@ -8,7 +17,7 @@ use Rattle.task_machine.specs.Fitting.{Fits, waits_of}
 use Rattle.task_machine.specs.Standing.{Wakens}
 use Rattle.task_machine.specs.States.{state_of}
 use Rattle.task_machine.specs.Waking.{due_wake, settled_exc}
-use Rattle.task_machine.proofs.Wakens.{wakes_begin, wakes_due, wakes_noted, wakes_gives_up}
+use Rattle.task_machine.proofs.Wakens.{wakes_begin, wakes_due, wakes_noted, wakes_deadlocked, wakes_gives_up}
 use Rattle.task_machine.proofs.task.Task.come_due.Goals as goal
 
 pub returns-in-ToBegin-clause-wakes : goal.returns-in-ToBegin-clause-wakes
@@ -50,3 +59,22 @@ returns-in_ok-moved-in-Awaits-clause-wakes c =
     subst (λ (x : TaskState). Wakens s u c.in_ok-moved-in-Awaits.moved (due_wake book x)) (sym c.in-Awaits.is)
     (subst (λ (x : TaskState). Wakens s u c.in_ok-moved-in-Awaits.moved (settles (settled_exc book x))) c.in-Awaits.is
     c.in_ok-moved-in-Awaits.ensures.wakes)
+
+pub returns-in_ok-moved-in-Queued-clause-wakes : goal.returns-in_ok-moved-in-Queued-clause-wakes
+returns-in_ok-moved-in-Queued-clause-wakes c =
+    let self = c.args.self.now in
+    let world = c.args.world.now in
+    let s = state_of self world in
+    let moved = c.in_ok-moved-in-Queued.moved in
+    subst (λ (x : TaskState). Wakens s s moved (due_wake world.book x)) (sym c.in-Queued.is)
+    (wakes_deadlocked s _ _ _ _ c.in-Queued.is moved
+    (subst (λ (name : List ℕ). (numbers : Numbers) (book : NurseryBook) (fs : List rest.Frame) (ps : List Place) →
+    MovesAs world.clock numbers book (lent_of self) moved self.task_state
+    (onward fs ps (Some (raised name self.label (tick_of world.clock world.tick))))) c.deadlock.ensures
+    c.in_ok-moved-in-Queued.ensures.raises))
+
+pub returns-in_ok-moved-in-Queued-clause-fits : goal.returns-in_ok-moved-in-Queued-clause-fits
+returns-in_ok-moved-in-Queued-clause-fits c =
+    let s = state_of c.args.self.now c.args.world.now in
+    subst (λ (waits : Option ℕ). Fits s waits) (sym c.in_ok-moved-in-Queued.ensures.on)
+    (subst (λ (x : TaskState). Fits s (waits_of x)) c.in-Queued.is c.requires.fits)

@@ -60,7 +60,7 @@ run-requires-clause-fits c =
     let in_range = in_range_with s (Steps c.args.steps) c.requires.fits in
     let starts = starts_with s (Steps c.args.steps) c.requires.fits in
     pushed_fits s (state_of c.push.new.self c.args.world.now) (Steps c.args.steps) (Steps c.in-Some-split_first.rest) refl c.requires.fits
-    c.in_ok-push.ensures.blocks (c.in_ok-push.ensures.frames (λ id. []))
+    c.in_ok-push.ensures.blocks c.in_ok-push.ensures.received (c.in_ok-push.ensures.frames (λ id. []))
     ((subst (λ (ss : List Step). AreInRange (steps_of ss)) split in_range.0).1, in_range.1)
     ((subst (λ (ss : List Step). StartsIn (in_body (frames_of (λ id. []) fs)) (steps_of ss)) split starts.0).1, starts.1)
     (ap (λ (t : Task). state_of t c.args.world.now) c.in_ok-push.ensures.stays)

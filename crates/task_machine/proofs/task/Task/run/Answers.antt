@@ -1,4 +1,11 @@
-use Rattle.std.proofs.Common.{ℕ, ◌-◌, false, Some, None, List, ◌∷◌, ap, ◌∙◌, refl, sym}
+use Rattle.std.proofs.Common.{ℕ, ◌-◌, false, Some, None, List, [], ◌∷◌, ap, ◌∙◌, refl, sym, subst}
+use Rattle.job_tree.specs.Blocks.{step_of}
+use Rattle.job_tree.specs.InRange.{IsInRangeStep}
+use Rattle.job_tree.specs.Starting.{StartsAt}
+use Rattle.job_tree.specs.declared.step.Step.{Step}
+use Rattle.turn_semantics.specs.Placed.{in_body}
+use Rattle.task_machine.specs.declared.world.World.{World}
+use Rattle.task_machine.specs.Frames.{frames_of}
 use Rattle.exceptions.specs.Exceptions.{raised}
 use Rattle.job_tree.specs.declared.step.Step.TheVariants as code
 use Rattle.job_meaning.specs.Moments.{tick_of, far}
@@ -8,26 +15,26 @@ use Rattle.job_meaning.specs.Rest as rest
 use Rattle.turn_semantics.specs.Steps.{onward, blocks_on, sleeps}
 use Rattle.task_machine.specs.declared.task.Task.{Task}
 use Rattle.task_machine.specs.States.{state_of}
-use Rattle.task_machine.proofs.AdvancesSteps.{takes_sleeps, takes_alone, takes_wait, takes_cancel, takes_set}
+use Rattle.task_machine.proofs.AdvancesSteps.{takes_sleeps, takes_alone, takes_wait, takes_ask, takes_close, takes_cancel, takes_set}
 use Rattle.task_machine.proofs.StateLemmas.{state_eq}
-use Rattle.task_machine.proofs.TaskFits.{cuts_fit, cancelled_fits, set_fits}
-use Rattle.task_machine.proofs.Waiters.{opened_still, keeps_cancelled, keeps_set}
+use Rattle.task_machine.proofs.TaskFits.{cuts_fit, acted_fits, cancelled_fits, set_fits}
+use Rattle.task_machine.proofs.Waiters.{opened_still, keeps_acted, keeps_cancelled, keeps_set}
 use Rattle.task_machine.proofs.task.Task.run.Goals as goal
 
 pub ask-requires : goal.ask-requires
-ask-requires c = record { cuts = cuts_fit (state_of c.args.self.now c.args.world.now) None c.requires.fits }
+ask-requires c = record { cuts = cuts_fit (state_of c.args.self.now c.args.world.now) None c.requires.fits; lent = c.requires.fits.runs.lent }
 
 pub ask-requires-in-Find : goal.ask-requires-in-Find
-ask-requires-in-Find c = record { cuts = cuts_fit (state_of c.args.self.now c.args.world.now) None c.requires.fits }
+ask-requires-in-Find c = record { cuts = cuts_fit (state_of c.args.self.now c.args.world.now) None c.requires.fits; lent = c.requires.fits.runs.lent }
 
 pub ask-requires-in-Head : goal.ask-requires-in-Head
-ask-requires-in-Head c = record { cuts = cuts_fit (state_of c.args.self.now c.args.world.now) None c.requires.fits }
+ask-requires-in-Head c = record { cuts = cuts_fit (state_of c.args.self.now c.args.world.now) None c.requires.fits; lent = c.requires.fits.runs.lent }
 
 pub ask-requires-in-Longest : goal.ask-requires-in-Longest
-ask-requires-in-Longest c = record { cuts = cuts_fit (state_of c.args.self.now c.args.world.now) None c.requires.fits }
+ask-requires-in-Longest c = record { cuts = cuts_fit (state_of c.args.self.now c.args.world.now) None c.requires.fits; lent = c.requires.fits.runs.lent }
 
 pub ask-requires-in-Need : goal.ask-requires-in-Need
-ask-requires-in-Need c = record { cuts = cuts_fit (state_of c.args.self.now c.args.world.now) None c.requires.fits }
+ask-requires-in-Need c = record { cuts = cuts_fit (state_of c.args.self.now c.args.world.now) None c.requires.fits; lent = c.requires.fits.runs.lent }
 
 pub returns-in-Sleep-clause-step : goal.returns-in-Sleep-clause-step
 returns-in-Sleep-clause-step c = λ a.
@@ -189,3 +196,52 @@ returns-in-Forever-clause-keeps c = record {
   in_range = c.sleep-in-Forever.ensures.task_state c.requires.task_state;
   waiters = opened_still c.args.me c.args.world.now.book;
 }
+
+pub ask_of-requires-clause-cuts : goal.ask_of-requires-clause-cuts
+ask_of-requires-clause-cuts c = cuts_fit (state_of c.args.self.now c.args.world.now) None c.requires.fits
+
+pub ask_of-requires-clause-lent : goal.ask_of-requires-clause-lent
+ask_of-requires-clause-lent c = c.requires.fits.runs.lent
+
+pub ask_of-requires-clause-in_range : goal.ask_of-requires-clause-in_range
+ask_of-requires-clause-in_range c = subst (λ (s : Step). IsInRangeStep (step_of s)) c.in-Ask.is c.requires.in_range
+
+pub ask_of-requires-clause-starts : goal.ask_of-requires-clause-starts
+ask_of-requires-clause-starts c =
+    subst (λ (s : Step). StartsAt (in_body (frames_of (λ id. []) c.args.self.now.frames.items)) (step_of s)) c.in-Ask.is c.requires.starts
+
+pub returns-in-Ask-clause-step : goal.returns-in-Ask-clause-step
+returns-in-Ask-clause-step c = λ a.
+    takes_ask (state_of c.args.self.now c.args.world.now) c.args.step.now a (state_of c.ask_of.new.self c.args.world.now) c.ask_of.result
+    c.in-Ask.name c.in-Ask.ask c.in-Ask.body c.in-Ask.is (ap (λ (t : Task). state_of t c.args.world.now) c.ask_of.ensures.stays)
+    c.ask_of.ensures.moves
+
+pub returns-in-Ask-clause-keeps : goal.returns-in-Ask-clause-keeps
+returns-in-Ask-clause-keeps c = record {
+  task = c.ask_of.ensures.stays ∙ ap (λ (t : Task). record c.args.self.now {
+    frames = t.frames;
+    own = t.own;
+    task_state = c.ask_of.new.self.task_state;
+    entries = t.entries;
+    cancelled_from = t.cancelled_from;
+    cancelled = t.cancelled;
+  }) (sym c.ask_of.ensures.stays);
+  world = refl;
+  in_range = c.ask_of.ensures.task_state c.requires.task_state;
+  waiters = opened_still c.args.me c.args.world.now.book;
+}
+
+pub returns-in_ok-close-in-Close-clause-step : goal.returns-in_ok-close-in-Close-clause-step
+returns-in_ok-close-in-Close-clause-step c = λ a.
+    let e = c.in_ok-close-in-Close.ensures in
+    takes_close (state_of c.args.self.now c.args.world.now) c.args.step.now a (state_of c.args.self.now c.close.new.world) c.in-Close.name
+    c.in-Close.is (ap (λ (w : World). state_of c.args.self.now w) e.rest) e.at
+
+pub returns-in_ok-close-in-Close-clause-fits : goal.returns-in_ok-close-in-Close-clause-fits
+returns-in_ok-close-in-Close-clause-fits c =
+    acted_fits (state_of c.args.self.now c.args.world.now) (state_of c.args.self.now c.close.new.world) None c.requires.fits
+    (ap (λ (w : World). state_of c.args.self.now w) c.in_ok-close-in-Close.ensures.rest)
+
+pub returns-in_ok-close-in-Close-clause-keeps : goal.returns-in_ok-close-in-Close-clause-keeps
+returns-in_ok-close-in-Close-clause-keeps c =
+    keeps_acted c.args.me c.args.self.now c.args.world.now c.close.new.world c.in_ok-close-in-Close.ensures.rest c.requires.task_state

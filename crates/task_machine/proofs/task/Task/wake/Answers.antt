@@ -52,3 +52,13 @@ returns-in-Seen-clause-waiters c = same_book c.args.world.now.book c.args.world.
 
 pub returns-in_ok-moved-in-Answer-clause-waiters : goal.returns-in_ok-moved-in-Answer-clause-waiters
 returns-in_ok-moved-in-Answer-clause-waiters c = same_book c.args.world.now.book c.args.world.now.book refl
+
+pub returns-in_ok-moved-in-Granted-clause-wakes : goal.returns-in_ok-moved-in-Granted-clause-wakes
+returns-in_ok-moved-in-Granted-clause-wakes c =
+    let self = c.args.self.now in
+    let world = c.args.world.now in
+    subst (λ (w : held.Wake). Wakens (state_of self world) (state_of c.take_grant.new.self world) c.in_ok-moved-in-Granted.moved (wake_in world.book self.task_state w))
+    (sym c.in-Granted.is) (c.in_ok-moved-in-Granted.ensures.wakes)
+
+pub returns-in_ok-moved-in-Granted-clause-waiters : goal.returns-in_ok-moved-in-Granted-clause-waiters
+returns-in_ok-moved-in-Granted-clause-waiters c = same_book c.args.world.now.book c.args.world.now.book refl
