@@ -12,7 +12,7 @@ use Rattle.job_meaning.specs.Log.{Table}
 use Rattle.job_meaning.specs.Log as log
 use Rattle.job_meaning.specs.declared.clock.Clock.{Clock}
 use Rattle.job_meaning.specs.Walk.{Here, label_over}
-use Rattle.job_meaning.specs.Rest.{Event, noted, signs, enters, acts, starts, starts_over, Stopped, to_begin, asking, asleep, waiting_for, queued, giving_up, awaiting, at_end}
+use Rattle.job_meaning.specs.Rest.{Event, noted, signs, enters, starts, starts_over, Stopped, to_begin, asking, asleep, waiting_for, queued, giving_up, awaiting, at_end}
 use Rattle.nursery_book.specs.declared.book.NurseryBook.{NurseryBook}
 use Rattle.input_lines.specs.Lines.{Span}
 use Rattle.turn_semantics.specs.Midway.{Place, label_among, Move}

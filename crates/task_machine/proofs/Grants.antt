@@ -1,5 +1,5 @@
 -- A task that is granted what it asked for, by what its methods say one after the other: it notes that, and its block begins.
-use Rattle.std.proofs.Common.{◌≡◌, ℕ, false, Some, None, List, [], ◌∷◌, refl, ap, sym, ◌∙◌, subst}
+use Rattle.std.proofs.Common.{◌≡◌, ℕ, Some, None, List, [], ap, sym, ◌∙◌, subst}
 use Rattle.std.specs.Borrow.{Bor}
 use Rattle.job_tree.specs.Tree.{Steps}
 use Rattle.job_tree.specs.declared.object.Ask.{Ask}
@@ -20,7 +20,7 @@ use Rattle.task_machine.specs.declared.world.World.{World}
 use Rattle.task_machine.specs.Fitting.{Fits, AreInRangeFrames, StartsFit, AreOf, blocks_of, received_in}
 use Rattle.task_machine.specs.Frames.{frames_of}
 use Rattle.task_machine.specs.Standing.{Wakens}
-use Rattle.task_machine.specs.States.{State, state_of}
+use Rattle.task_machine.specs.States.{state_of}
 use Rattle.task_machine.specs.Stops.{Numbers}
 use Rattle.task_machine.specs.Worlds.{label_at, NotesGrant}
 use Rattle.task_machine.proofs.TaskFits.{granted_fits}

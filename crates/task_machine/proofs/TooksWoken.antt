@@ -12,7 +12,6 @@ use Rattle.exceptions.specs.Held.{exc_of}
 use Rattle.cancel_scopes.specs.Sight.{Level}
 use Rattle.exceptions.specs.Exceptions.{Label, Exc, raised}
 use Rattle.input_lines.specs.Answers.{AreLinesAt}
-use Rattle.job_tree.specs.Tree.{Steps}
 use Rattle.job_tree.specs.declared.object.Ask.{Ask}
 use Rattle.job_meaning.specs.Log.{Table, waited, was_granted, asks}
 use Rattle.job_meaning.specs.Moments.{tick_of}

@@ -1,7 +1,6 @@
-use Rattle.std.proofs.Common.{ℕ, true, List, ◌∷◌, ◌++◌, [], Option, ap, sym, ◌∙◌}
+use Rattle.std.proofs.Common.{ℕ, true, ◌∷◌, ◌++◌, [], Option, ap, sym, ◌∙◌}
 use Rattle.cancel_scopes.specs.Tree.{outer_of}
 use Rattle.exceptions.specs.Exceptions.{Label}
-use Rattle.task_machine.specs.declared.serving.ObjectAct.{ObjectAct}
 use Rattle.task_machine.specs.declared.serving.Act.TheVariants.{Closes}
 use Rattle.task_machine.specs.Labels.{scope_named}
 use Rattle.task_machine.specs.Worlds.{label_at, event_at}

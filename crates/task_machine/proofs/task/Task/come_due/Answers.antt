@@ -1,5 +1,4 @@
 use Rattle.std.proofs.Common.{ℕ, Option, Some, None, List, refl, ap, sym, subst}
-use Rattle.std.specs.Prelude.{codes}
 use Rattle.exceptions.specs.Exceptions.{raised}
 use Rattle.job_meaning.specs.Moments.{tick_of}
 use Rattle.job_meaning.specs.Rest as rest

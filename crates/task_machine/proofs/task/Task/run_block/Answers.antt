@@ -1,4 +1,4 @@
-use Rattle.std.proofs.Common.{[], ◌∷◌, ◌++◌, refl, ap, ◌∙◌, sym, subst, arith}
+use Rattle.std.proofs.Common.{[], refl, ap, ◌∙◌, sym, subst, arith}
 use Rattle.job_tree.specs.Blocks.{step_of}
 use Rattle.job_tree.specs.InRange.{IsInRangeStep}
 use Rattle.job_tree.specs.Starting.{StartsAt}

@@ -1,4 +1,4 @@
-use Rattle.std.proofs.Common.{◌≡◌, ℕ, false, Option, Some, None, List, [], ◌∷◌, ◌++◌, refl, ap, sym, ◌∙◌, subst}
+use Rattle.std.proofs.Common.{ℕ, Option, Some, None, List, [], ◌∷◌, ◌++◌, refl, ap, sym, ◌∙◌, subst}
 use Rattle.std.specs.Prelude.{codes}
 use Rattle.std.specs.Borrow.{Bor}
 use Rattle.std.specs.Option.{option_map}
@@ -17,13 +17,12 @@ use Rattle.turn_semantics.specs.Placed.{in_body}
 use Rattle.turn_semantics.specs.Steps.{onward}
 use Rattle.turn_semantics.specs.Wakes.{is_granted}
 use Rattle.turn_semantics.proofs.Passes.{starts_anywhere}
-use Rattle.task_machine.specs.declared.frame.Frame.TheVariants.{Steps, Token, Received}
 use Rattle.task_machine.specs.declared.stop.Moved.TheVariants.{On}
 use Rattle.task_machine.specs.declared.stop.TaskState.{TaskState}
 use Rattle.task_machine.specs.declared.stop.Wake.TheVariants.{Granted}
 use Rattle.task_machine.specs.declared.task.Task.{Task}
 use Rattle.task_machine.specs.Fitting.{Fits, AreOf, received_in, waits_of}
-use Rattle.task_machine.specs.Frames.{frame_of, frames_of}
+use Rattle.task_machine.specs.Frames.{frames_of}
 use Rattle.task_machine.specs.Standing.{Wakens}
 use Rattle.task_machine.specs.States.{state_of}
 use Rattle.task_machine.specs.Stops.{Numbers, MovesAs}
