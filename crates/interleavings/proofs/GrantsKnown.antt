@@ -32,11 +32,11 @@ use Rattle.interleavings.proofs.Naming.{one_serial, root_named, StartsNamed, Nam
 
 -- ---- what is known of acts before a moment
 
-abbrev cut_done : ℕ → Done → Done
+abbrev pub cut_done : ℕ → Done → Done
 cut_done c d = record d { act = act_before c d.act }
 
 -- the acts before c, with what is known of them before c
-abbrev cut : ℕ → List Done → List Done
+abbrev pub cut : ℕ → List Done → List Done
 cut c [] = []
 cut c (d ∷ ds) = done_if (nat_lt d.at c) (cut_done c d) (cut c ds)
 
@@ -135,7 +135,7 @@ abbrev doing : ℕ → Log → Result
 doing c a = record { end = c; own = []; exc = None; members = []; log = a }
 
 -- What is granted up to c is granted by what is known before c of what was done.
-served_before : (c : ℕ) (job : Tree) (l asker : Label) (m : ℕ) (ds : List Done) →
+pub served_before : (c : ℕ) (job : Tree) (l asker : Label) (m : ℕ) (ds : List Done) →
     granted_before (suc c) (find_given asker m (serve_acts unopened (by_moment ds)))
     ≡ granted_before (suc c) (find_given asker m (serve_acts unopened (by_moment (cut c ds))))
 served_before c job l asker m ds =

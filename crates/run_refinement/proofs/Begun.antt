@@ -24,7 +24,7 @@ use Rattle.task_machine.specs.declared.stop.TaskState.{TaskState}
 use Rattle.task_machine.specs.declared.task.Home.{Home}
 use Rattle.task_machine.specs.declared.task.Own.{Own}
 use Rattle.task_machine.specs.declared.task.Task.{Task}
-use Rattle.task_machine.specs.Fitting.{Block, blocks_of, AreInRangeFrames, StartsFit, Opened, waits_of}
+use Rattle.task_machine.specs.Fitting.{Block, blocks_of, AreInRangeFrames, StartsFit, Opened, waits_of, AreOf}
 use Rattle.task_machine.specs.Left.{OwnFirst}
 use Rattle.task_machine.specs.Standing.{here_of, HasBlock, HasNurseryOf}
 use Rattle.task_machine.specs.Stacked.{AreAt}
@@ -39,13 +39,15 @@ use Rattle.interleavings.specs.Runs.{begun}
 use Rattle.run_refinement.proofs.ActsKeep.{not_both}
 use Rattle.run_refinement.specs.Begun.{IsNewWorld, IsRootTask}
 use Rattle.run_refinement.specs.RunState.{Interleaving, RunState, EndedTask, Differ, IsSince, LastEnds, HasHome, Follows, HasEnded, Refines}
+use Rattle.turn_semantics.specs.Midway.{Tables}
+use Rattle.run_refinement.proofs.Inputs.{none_received}
 
 -- no label is cancelled
 abbrev none_cancelled_from : Table
 none_cancelled_from l = None
 
 -- at each serial number is the root, which has done nothing
-begun_interleaving : (k : Table) (job : Job) (input : List ℕ) → Interleaving k job input 0 1
+begun_interleaving : (k : Tables) (job : Job) (input : List ℕ) → Interleaving k job input 0 1
 begun_interleaving k job input =
     record {
       cancelled_from = none_cancelled_from;
@@ -67,7 +69,7 @@ no_numbers p id = []
 
 -- ---- the root
 
-root_follows : (k : Table) (job : Job) (input : List ℕ) (state : RunState) (root : Task) → IsInRange job → StartsInNurseries job →
+root_follows : (k : Tables) (job : Job) (input : List ℕ) (state : RunState) (root : Task) → IsInRange job → StartsInNurseries job →
     GivesNamesOnce job → state.world.clock ≡ clock_of job.format → IsRootTask job input root →
     Follows state none_cancelled_from input 0 (λ s. root_task k job input) no_numbers None 0 root
 root_follows k job input state root in_range starting names clock r =
@@ -93,6 +95,7 @@ root_follows k job input state root in_range starting names clock r =
       goes =
           record {
             in_range = subst AreInRangeFrames (sym (r.frames (λ id. []))) (in_range.numbers, tt);
+            lent = subst (AreOf (buffer_of root.part)) (sym (none_received (λ id. []) root.frames.items job.steps (r.frames (λ id. [])))) tt;
             starts = subst StartsFit (sym (r.frames (λ id. []))) (starting, tt);
             home = subst (λ (o : Option ℕ). ForSome o (IsOpen state.world.scopes)) (sym no_home)
                 (λ x e. absurd (let f : None ≡ Some x = e in cc));
@@ -157,12 +160,12 @@ root_follows k job input state root in_range starting names clock r =
 -- ---- the tasks of the program
 
 -- the tasks of a run that begins, where the root is at serial number 0
-pub record BeginsAs (k : Table) (job : Job) (input : List ℕ) (state : RunState) : Type 0 where
+pub record BeginsAs (k : Tables) (job : Job) (input : List ℕ) (state : RunState) : Type 0 where
   pub is : Refines k job input 0 1 None state
   pub at : is.interleaving.at 0 ≡ root_task k job input
 
 -- the root alone in a new world is a run in moment 0, whose task is the root of the definitions
-pub state_begins : (k : Table) (job : Job) (input : List ℕ) (state : RunState) (root : Task) → IsInRange job → StartsInNurseries job →
+pub state_begins : (k : Tables) (job : Job) (input : List ℕ) (state : RunState) (root : Task) → IsInRange job → StartsInNurseries job →
     GivesNamesOnce job → length input ≤ MAX_INPUT →
     IsNewWorld job state.world → IsRootTask job input root → state.task 0 ≡ Some root → ((p : ℕ) → state.task (suc p) ≡ None) →
     ((p : ℕ) → state.ended_task p ≡ None) → state.start 0 ≡ 0 →
@@ -221,7 +224,7 @@ state_begins k job input state root in_range starting names small world r first 
         by_stack e = absurd cc
 
 -- the root alone in a new world is a run of one task in moment 0
-pub state_begun : (k : Table) (job : Job) (input : List ℕ) (state : RunState) (root : Task) → IsInRange job → StartsInNurseries job →
+pub state_begun : (k : Tables) (job : Job) (input : List ℕ) (state : RunState) (root : Task) → IsInRange job → StartsInNurseries job →
     GivesNamesOnce job → length input ≤ MAX_INPUT →
     IsNewWorld job state.world → IsRootTask job input root → state.task 0 ≡ Some root → ((p : ℕ) → state.task (suc p) ≡ None) →
     ((p : ℕ) → state.ended_task p ≡ None) → state.start 0 ≡ 0 →

@@ -18,10 +18,10 @@ use Rattle.job_meaning.specs.Moments.{clock_of, tick_of, a_round_after, wakes_at
 use Rattle.job_meaning.specs.declared.clock.Clock.{Clock}
 use Rattle.job_meaning.specs.Walk.{Here, latest}
 use Rattle.job_meaning.specs.Before.{upto}
-use Rattle.job_meaning.specs.Follow.{IsSettled}
-use Rattle.job_meaning.specs.Meaning.{meaning_end, meaning_table}
+use Rattle.interleavings.specs.Laws.{IsSettledBy, meaning_tables}
+use Rattle.job_meaning.specs.Meaning.{meaning_end}
 use Rattle.job_meaning.specs.Rest.{Stopped, to_begin, asking, asleep, waiting_for, giving_up, awaiting, at_end}
-use Rattle.turn_semantics.specs.Midway.{stack_at}
+use Rattle.turn_semantics.specs.Midway.{Tables, stack_at}
 use Rattle.turn_semantics.specs.Wakes.{ends_at}
 use Rattle.task_machine.specs.declared.stop.TaskState.{TaskState}
 use Rattle.task_machine.specs.declared.stop.TaskState.TheVariants.{ToBegin, Asked, Asleep, Waiting, GivingUp, Awaits, Over}
@@ -73,7 +73,7 @@ among_at (y ∷ xs) (suc i) x e = inr (among_at xs i x e)
 -- ---- tasks that stay
 
 -- a task that has not ended is live
-pub task_lives : (k : Table) (job : Job) (input : List ℕ) (t m : ℕ) (state : RunState) → (c : Refines k job input t m None state) →
+pub task_lives : (k : Tables) (job : Job) (input : List ℕ) (t m : ℕ) (state : RunState) → (c : Refines k job input t m None state) →
     (s : ℕ) (task : Task) → state.task s ≡ Some task →
     live (c.interleaving.at s).rest.stopped ≡ true
 task_lives k job input t m state c s task e = (c.follows s task e).lives (λ f. not_both refl f)
@@ -86,7 +86,7 @@ record Running (state : RunState) (q : Started) (children : List ℕ) : Type 0 w
   pub task : Task
   pub lives : state.task (q.child number) ≡ Some task
 
-module _ (k : Table) (job : Job) (input : List ℕ) (t m : ℕ) (state : RunState) (c : Refines k job input t m None state) where
+module _ (k : Tables) (job : Job) (input : List ℕ) (t m : ℕ) (state : RunState) (c : Refines k job input t m None state) where
   abbrev at : ℕ → Started
   at = c.interleaving.at
 
@@ -134,7 +134,7 @@ module _ (k : Table) (job : Job) (input : List ℕ) (t m : ℕ) (state : RunStat
       ∙ task_lives k job input t m state c ((at s).child r.number) r.task r.lives
 
 -- if no task of the program continues before a moment, the run is blocked until then
-pub state_blocked : (k : Table) (job : Job) (input : List ℕ) (t m : ℕ) (state : RunState) → (c : Refines k job input t m None state) → (u : ℕ) →
+pub state_blocked : (k : Tables) (job : Job) (input : List ℕ) (t m : ℕ) (state : RunState) → (c : Refines k job input t m None state) → (u : ℕ) →
     AllStay state u →
     Blocked c.interleaving.cancelled_from c.interleaving.tasks u
 state_blocked k job input t m state c u stay q i =
@@ -242,7 +242,7 @@ state_blocked k job input t m state c u stay q i =
         (has_event (at s).rest.stopped _ (at s).places (c.follows s task e).stands.placed) (stay s task e)
 
 -- while a task has not ended, one has a moment in which it continues
-pub state_goes_on : (k : Table) (job : Job) (input : List ℕ) (t m : ℕ) (state : RunState) → IsSettled k job input → GivesNamesOnce job →
+pub state_goes_on : (k : Tables) (job : Job) (input : List ℕ) (t m : ℕ) (state : RunState) → IsSettledBy k job input → GivesNamesOnce job →
     StartsInNurseries job →
     (c : Refines k job input t m None state) → (u : ℕ) → AllStay state u → (s : ℕ) (task : Task) → state.task s ≡ Some task → HasNext state
 state_goes_on k job input t m state settled names starting c u stay s task lives = by_task (state.task p) refl
@@ -310,14 +310,14 @@ state_goes_on k job input t m state settled names starting c u stay s task lives
 
 -- while a task has not ended, the job does not end before the present tick
 pub state_in_time : (job : Job) (input : List ℕ) (t m : ℕ) (state : RunState) → GivesNamesOnce job → StartsInNurseries job →
-    Refines (meaning_table job input) job input t m None state →
+    Refines (meaning_tables job input) job input t m None state →
     (s : ℕ) (task : Task) → state.task s ≡ Some task → tick_of (clock_of job.format) t ≤ meaning_end job input
 state_in_time job input t m state names starting c s task lives =
     limits_are_exact job input names starting c.interleaving.cancelled_from t m c.interleaving.tasks c.interleaving.reached (c.interleaving.at s)
-    (c.interleaving.has s (below_of c s task lives)).0 (task_lives (meaning_table job input) job input t m state c s task lives)
+    (c.interleaving.has s (below_of c s task lives)).0 (task_lives (meaning_tables job input) job input t m state c s task lives)
 
 -- the program has at most this number of turns
-pub state_turns : (k : Table) (job : Job) (input : List ℕ) (t m : ℕ) (leaving : Option ℕ) (state : RunState) →
+pub state_turns : (k : Tables) (job : Job) (input : List ℕ) (t m : ℕ) (leaving : Option ℕ) (state : RunState) →
     Refines k job input t m leaving state → state.turns ≤ 2 * size_of job.steps + 1
 state_turns k job input t m leaving state c =
     let a = runs_end k job input c.interleaving.cancelled_from t m c.interleaving.tasks c.interleaving.reached in let b : turns_taken c.interleaving.reached ≡ state.turns =
@@ -325,7 +325,7 @@ state_turns k job input t m leaving state c =
 
 -- ---- the root is the last to end
 
-none_below : (k : Table) (job : Job) (input : List ℕ) (t m : ℕ) (state : RunState) → Refines k job input t m None state → state.task 0 ≡ None →
+none_below : (k : Tables) (job : Job) (input : List ℕ) (t m : ℕ) (state : RunState) → Refines k job input t m None state → state.task 0 ≡ None →
     (n p : ℕ) → p < n → state.task p ≡ None
 none_below k job input t m state c none zero p lt = absurd (omega (arith, lt))
 none_below k job input t m state c none (suc n) p lt =
@@ -342,6 +342,6 @@ none_below k job input t m state c none (suc n) p lt =
     by_task (Some task) e none_before = absurd (by_home task e task.home (c.follows p task e).home none_before)
 
 -- once the root has ended, every task has
-pub root_last : (k : Table) (job : Job) (input : List ℕ) (t m : ℕ) (state : RunState) → Refines k job input t m None state → state.task 0 ≡ None →
+pub root_last : (k : Tables) (job : Job) (input : List ℕ) (t m : ℕ) (state : RunState) → Refines k job input t m None state → state.task 0 ≡ None →
     (p : ℕ) → state.task p ≡ None
 root_last k job input t m state c none p = none_below k job input t m state c none (suc p) p (omega arith)

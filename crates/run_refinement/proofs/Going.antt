@@ -28,10 +28,10 @@ use Rattle.job_meaning.specs.Moments.{a_round_after, wakes_at, Now, only_at}
 use Rattle.job_meaning.specs.declared.clock.Clock.{Clock}
 use Rattle.job_meaning.specs.Walk.{Here, with_exc, excs_of, latest}
 use Rattle.job_meaning.specs.Asking as ask
-use Rattle.job_meaning.specs.Follow.{IsSettled}
+use Rattle.interleavings.specs.Laws.{IsSettledBy}
 use Rattle.job_meaning.specs.Rest as rest
-use Rattle.job_meaning.specs.Rest.{outcome_members, Stopped, to_begin, asking, asleep, waiting_for, giving_up, awaiting, at_end, inside, path_in}
-use Rattle.turn_semantics.specs.Midway.{Place, stack_at}
+use Rattle.job_meaning.specs.Rest.{outcome_members, Stopped, to_begin, asking, asleep, waiting_for, giving_up, awaiting, at_end, inside, path_in, queued}
+use Rattle.turn_semantics.specs.Midway.{Tables, Place, stack_at}
 use Rattle.turn_semantics.specs.Turned.{AgreesOn}
 use Rattle.turn_semantics.specs.Wakes.{ends_at, SettlesAt}
 use Rattle.task_machine.specs.declared.stop.TaskState.{TaskState}
@@ -98,6 +98,7 @@ member_of to_begin = record { end = 0; exc = None }
 member_of (asking kernel purpose) = record { end = 0; exc = None }
 member_of (asleep paced n since) = record { end = 0; exc = None }
 member_of (waiting_for event since) = record { end = 0; exc = None }
+member_of (queued object ask since body) = record { end = 0; exc = None }
 member_of (giving_up since) = record { end = 0; exc = None }
 member_of (awaiting children ended exc) = record { end = 0; exc = None }
 member_of (at_end u e) = record { end = u; exc = e }
@@ -247,7 +248,7 @@ settled_children n s = by_body (is_some n.body) s
     by_body false e = absurd (let f : false ≡ true = e in cc)
 
 -- a nursery of a task whose body has ended is the one for which the task waits
-pub ended_waits : (k : Table) (job : Job) (input : List ℕ) (t m : ℕ) (leaving : Option ℕ) (state : RunState) →
+pub ended_waits : (k : Tables) (job : Job) (input : List ℕ) (t m : ℕ) (leaving : Option ℕ) (state : RunState) →
     Refines k job input t m leaving state → (s : ℕ) (a : Task) (id : ℕ) → state.task s ≡ Some a →
     HasNurseryOf id (blocks_of a.frames.items) (waits_of a.task_state) → HasNursery state.world.book id (λ n. is_some n.body ≡ true) →
     waits_of a.task_state ≡ Some id
@@ -269,7 +270,7 @@ pub record Waited (at : ℕ → Started) (qs : List Started) (q : Started) (chil
       x.rest.stopped ≡ at_end (ends at n.last q.child i).end (ends at n.last q.child i).exc
   pub last : latest ended (members_by (ends at n.last q.child) children) ≡ n.last
 
-pub waited : (k : Table) (job : Job) (input : List ℕ) (t m : ℕ) (state : RunState) → (c : Refines k job input t m None state) →
+pub waited : (k : Tables) (job : Job) (input : List ℕ) (t m : ℕ) (state : RunState) → (c : Refines k job input t m None state) →
     (s : ℕ) (task : Task) → state.task s ≡ Some task →
     (id since u : ℕ) (children : List ℕ) → task.task_state ≡ Awaits id since → c.numbers s id ≡ children → since ≡ u →
     (n : Nursery) → nursery_at state.world.book id ≡ Some n → is_settled n ≡ true →
@@ -341,7 +342,7 @@ same_now : (x : Now) (t : ℕ) (own : List Label) → x.at ≡ t → x.own ≡ o
 same_now x t own e f = λ i. record { at = e i; own = f i }
 
 -- a task that may continue by what the code sees may be woken so in the run of the definitions
-pub may_wake : (k : Table) (job : Job) (input : List ℕ) (t m : ℕ) (state : RunState) → IsSettled k job input → GivesNamesOnce job →
+pub may_wake : (k : Tables) (job : Job) (input : List ℕ) (t m : ℕ) (state : RunState) → IsSettledBy k job input → GivesNamesOnce job →
     StartsInNurseries job →
     (c : Refines k job input t m None state) → (s : ℕ) (task : Task) → state.task s ≡ Some task → (wake : Wake) → MayGo state.world task wake →
     MayWake c.interleaving.cancelled_from c.interleaving.tasks (record { at = t; own = (now_for wake (state_of task state.world)).own })

@@ -11,7 +11,7 @@ use Rattle.job_meaning.specs.Rest as rest
 use Rattle.nursery_book.specs.Nursery.{End, Nursery}
 use Rattle.nursery_book.specs.Book.{nursery_at}
 use Rattle.task_machine.specs.declared.stop.TaskState.{TaskState}
-use Rattle.task_machine.specs.declared.stop.TaskState.TheVariants.{ToBegin, Asked, Asleep, Waiting, GivingUp, Awaits, Over}
+use Rattle.task_machine.specs.declared.stop.TaskState.TheVariants.{ToBegin, Asked, Asleep, Waiting, GivingUp, Awaits, Over, Queued}
 use Rattle.task_machine.specs.declared.task.Home.{Home}
 use Rattle.task_machine.specs.declared.task.Task.{Task}
 use Rattle.task_machine.specs.declared.world.World.{World}
@@ -21,6 +21,7 @@ use Rattle.interleavings.specs.Runs.{jump, turns_taken}
 use Rattle.interleavings.specs.Rows.{children_made}
 use Rattle.run_refinement.specs.RunState.{Interleaving, RunState, EndedTask, HasHome, IsMember, HasMembers, IsSince, Follows, HasEnded, OpenedBy, AreStarted, Refines}
 use Rattle.run_refinement.specs.Moved.{SameTasks, moved_world}
+use Rattle.turn_semantics.specs.Midway.{Tables}
 
 -- ---- the same tasks
 
@@ -70,6 +71,7 @@ module _ (t u m : ℕ) (le : t ≤ u) (old new : RunState) (at : ℕ → Started
   since_moved cancelled (Asked kernel purpose) stop h = (let e = h.0 in omega (arith, e, le), h.1)
   since_moved cancelled (Asleep paced ticks since) stop h = tt
   since_moved cancelled (Waiting event since) stop h = tt
+  since_moved cancelled (Queued object ask since body) stop h = tt
   since_moved cancelled (GivingUp since) stop h = tt
   since_moved cancelled (Awaits id since) stop h = tt
   since_moved cancelled Over stop h = tt
@@ -98,6 +100,7 @@ module _ (t u m : ℕ) (le : t ≤ u) (old new : RunState) (at : ℕ → Started
         goes =
             record {
               in_range = h.goes.in_range;
+              lent = h.goes.lent;
               starts = h.goes.starts;
               home = h.goes.home;
               scope = h.goes.scope;
@@ -136,12 +139,13 @@ module _ (t u m : ℕ) (le : t ≤ u) (old new : RunState) (at : ℕ → Started
       AreStarted clock new.start at child es
   started_moved clock child [] h = h
   started_moved clock child (rest.noted v e ∷ es) h = started_moved clock child es h
+  started_moved clock child (rest.acts shared v done ∷ es) h = started_moved clock child es h
   started_moved clock child (rest.signs l v ∷ es) h = started_moved clock child es h
   started_moved clock child (rest.enters l v d ∷ es) h = started_moved clock child es h
   started_moved clock child (rest.starts i l v ∷ es) h = (h.0, same.start (child i) ∙ h.1, started_moved clock child es h.2)
 
 -- what the code holds in the later moment, or with tasks taken, is the same run
-state_moved : (k : Table) (job : Job) (input : List ℕ) (t u m : ℕ) (leaving : Option ℕ) (old new : RunState) → t ≤ u → SameTasks old new →
+state_moved : (k : Tables) (job : Job) (input : List ℕ) (t u m : ℕ) (leaving : Option ℕ) (old new : RunState) → t ≤ u → SameTasks old new →
     new.world ≡ moved_world old.world u new.world →
     (c : Refines k job input t m leaving old) → (d : Interleaving k job input u m) → d.cancelled_from ≡ c.interleaving.cancelled_from → d.at ≡ c.interleaving.at →
     turns_taken d.reached ≡ turns_taken c.interleaving.reached →
@@ -199,7 +203,7 @@ state_moved k job input t u m leaving old new le same world c d cancelled_from a
     )
 
 -- the clock jumps where no task is ready
-pub state_jumps : (k : Table) (job : Job) (input : List ℕ) (t u m : ℕ) (old new : RunState) → t ≤ u → SameTasks old new →
+pub state_jumps : (k : Tables) (job : Job) (input : List ℕ) (t u m : ℕ) (old new : RunState) → t ≤ u → SameTasks old new →
     new.world ≡ moved_world old.world u new.world →
     (c : Refines k job input t m None old) → Blocked c.interleaving.cancelled_from c.interleaving.tasks u → Refines k job input u m None new
 state_jumps k job input t u m old new le same world c blocked =
@@ -217,7 +221,7 @@ state_jumps k job input t u m old new le same world c blocked =
     refl refl refl).0
 
 -- and tasks that were started are taken
-pub state_takes : (k : Table) (job : Job) (input : List ℕ) (t m : ℕ) (leaving : Option ℕ) (old new : RunState) → SameTasks old new →
+pub state_takes : (k : Tables) (job : Job) (input : List ℕ) (t m : ℕ) (leaving : Option ℕ) (old new : RunState) → SameTasks old new →
     new.world ≡ moved_world old.world t new.world →
     (c : Refines k job input t m leaving old) → (x : Refines k job input t m leaving new) × (x.interleaving.at ≡ c.interleaving.at)
 state_takes k job input t m leaving old new same world c =

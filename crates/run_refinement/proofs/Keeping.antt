@@ -19,10 +19,10 @@ use Rattle.job_tree.specs.Starting.{StartsInNurseries}
 use Rattle.job_meaning.specs.Log.{Table}
 use Rattle.job_meaning.specs.Moments.{a_round_after, wakes_at}
 use Rattle.job_meaning.specs.declared.clock.Clock.{Clock}
-use Rattle.job_meaning.specs.Follow.{IsSettled}
+use Rattle.interleavings.specs.Laws.{IsSettledBy}
 use Rattle.job_meaning.specs.Rest as rest
 use Rattle.job_meaning.proofs.Clips.{seen_near}
-use Rattle.turn_semantics.specs.Midway.{stack_at}
+use Rattle.turn_semantics.specs.Midway.{Tables, stack_at}
 use Rattle.turn_semantics.specs.Turned.{AgreesOn}
 use Rattle.task_machine.specs.declared.stop.TaskState.{TaskState}
 use Rattle.task_machine.specs.declared.stop.TaskState.TheVariants.{ToBegin, Asked, Asleep, Waiting, GivingUp, Awaits, Over}
@@ -127,8 +127,8 @@ may_still old new task wake clock tick seeing same sets may =
 -- ---- a turn of another task
 
 -- what a task sees is the same after it
-pub seen_still : {k : Table} {job : Job} {input : List ℕ} {t m s : ℕ} {old new : RunState} {before after : Task} {stop : Stop} →
-    IsSettled k job input → GivesNamesOnce job → StartsInNurseries job →
+pub seen_still : {k : Tables} {job : Job} {input : List ℕ} {t m s : ℕ} {old new : RunState} {before after : Task} {stop : Stop} →
+    IsSettledBy k job input → GivesNamesOnce job → StartsInNurseries job →
     (c : Refines k job input t m None old) → (T : Turning k job input t m s old new c.numbers before after stop c.interleaving) → (u : ℕ) → u < m →
     u ≢ s → (task : Task) → old.task u ≡ Some task →
     Follows new T.is.cancelled_from input t T.is.at (numbers_then c.numbers s m T.took.numbers_after) (leaving_by stop s) u task →
@@ -170,8 +170,8 @@ seen_still {k} {job} {input} {t} {m} {s} {old} {new} {before} {after} {stop} set
         (omega arith)
 
 -- a task that may continue may still do so
-pub still_goes : {k : Table} {job : Job} {input : List ℕ} {t m s : ℕ} {old new : RunState} {before after : Task} {stop : Stop} →
-    IsSettled k job input → GivesNamesOnce job → StartsInNurseries job →
+pub still_goes : {k : Tables} {job : Job} {input : List ℕ} {t m s : ℕ} {old new : RunState} {before after : Task} {stop : Stop} →
+    IsSettledBy k job input → GivesNamesOnce job → StartsInNurseries job →
     (c : Refines k job input t m None old) → (T : Turning k job input t m s old new c.numbers before after stop c.interleaving) → (u : ℕ) → u < m →
     u ≢ s → (task : Task) → old.task u ≡ Some task →
     Follows new T.is.cancelled_from input t T.is.at (numbers_then c.numbers s m T.took.numbers_after) (leaving_by stop s) u task → (wake : Wake) →
@@ -207,7 +207,7 @@ still_goes {t = t} {old = old} {new = new} settled names starting c T u below di
         ∙ ap (λ (v : ℕ). seen (outer_of old.world.scopes (scope_of task)) v) (sym c.tick)
 
 -- and a nursery of a task is as it was
-pub still_waits : {k : Table} {job : Job} {input : List ℕ} {t m s : ℕ} {old new : RunState} {before after : Task} {stop : Stop} →
+pub still_waits : {k : Tables} {job : Job} {input : List ℕ} {t m s : ℕ} {old new : RunState} {before after : Task} {stop : Stop} →
     (c : Refines k job input t m None old) →
     Turning k job input t m s old new c.numbers before after stop c.interleaving → (u : ℕ) → u ≢ s → (task : Task) → old.task u ≡ Some task →
     (P : Nursery → Type 0) → (id : ℕ) →
@@ -218,7 +218,7 @@ still_waits {old = old} {new = new} c T u differs task lives P id has h =
 -- ---- homes after a turn
 
 -- after a turn each home is a nursery of its owner still, and the owner of a new child's is the mover
-pub homes_kept : {k : Table} {job : Job} {input : List ℕ} {t m s : ℕ} {old new : RunState} {before after : Task} {stop : Stop} →
+pub homes_kept : {k : Tables} {job : Job} {input : List ℕ} {t m s : ℕ} {old new : RunState} {before after : Task} {stop : Stop} →
     (c : Refines k job input t m None old) →
     (T : Turning k job input t m s old new c.numbers before after stop c.interleaving) → (parent next : ℕ → ℕ) →
     ((p : ℕ) → p < m → next p ≡ parent p) →
@@ -293,7 +293,7 @@ homes_kept {k} {job} {input} {t} {m} {s} {old} {new} {before} {after} {stop} c T
 
 -- ---- a task leaves
 
-module _ (k : Table) (job : Job) (input : List ℕ) (t m s : ℕ) (old new : RunState) (task : Task) (exc : Option Exc)
+module _ (k : Tables) (job : Job) (input : List ℕ) (t m s : ℕ) (old new : RunState) (task : Task) (exc : Option Exc)
     (c : Refines k job input t m (Some s) old)
     (l : Leaving t s old new (c.interleaving.at s) task exc) where
   -- it had no nursery

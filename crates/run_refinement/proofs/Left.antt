@@ -19,10 +19,10 @@ use Rattle.nursery_book.specs.declared.book.NurseryBook.{NurseryBook}
 use Rattle.task_machine.specs.States.{state_of}
 use Rattle.task_machine.specs.declared.entry.ScopeFrom.{ScopeFrom}
 use Rattle.task_machine.specs.Noted.{from_of}
-use Rattle.turn_semantics.specs.Midway.{Place}
+use Rattle.turn_semantics.specs.Midway.{Tables, Place}
 use Rattle.turn_semantics.specs.Placed.{PlacedStop}
 use Rattle.task_machine.specs.declared.stop.TaskState.{TaskState}
-use Rattle.task_machine.specs.declared.stop.TaskState.TheVariants.{ToBegin, Asked, Asleep, Waiting, GivingUp, Awaits, Over}
+use Rattle.task_machine.specs.declared.stop.TaskState.TheVariants.{ToBegin, Asked, Asleep, Waiting, GivingUp, Awaits, Over, Queued}
 use Rattle.task_machine.specs.declared.task.Home.{Home}
 use Rattle.task_machine.specs.declared.task.Own.{Own}
 use Rattle.task_machine.specs.declared.task.Task.{Task}
@@ -74,6 +74,7 @@ task_state_kept numbers old new (ToBegin at) rest.to_begin like h = h
 task_state_kept numbers old new (Asked kernel purpose) (rest.asking k p) like h = h
 task_state_kept numbers old new (Asleep paced ticks since) (rest.asleep p n u) like h = h
 task_state_kept numbers old new (Waiting event since) (rest.waiting_for name u) like h = h
+task_state_kept numbers old new (Queued object ask since body) (rest.queued name a u steps) like h = h
 task_state_kept numbers old new (GivingUp since) (rest.giving_up u) like h = h
 task_state_kept numbers old new (Awaits id since) (rest.awaiting children u exc) like h =
     (h.0, h.1, carry old new id (λ n. n.body ≡ Some exc) (λ n. n.body ≡ Some exc) like (λ n m l e. l.body ∙ e) h.2)
@@ -102,6 +103,7 @@ goes_kept : (task : Task) (w : World) (book : NurseryBook) → AllLike w.book bo
 goes_kept task w book like h =
     record {
       in_range = h.in_range;
+      lent = h.lent;
       starts = h.starts;
       home = h.home;
       scope = h.scope;
@@ -126,6 +128,7 @@ over_task_state numbers book (ToBegin at) u e h = absurd h
 over_task_state numbers book (Asked kernel purpose) u e h = absurd h
 over_task_state numbers book (Asleep paced ticks since) u e h = absurd h
 over_task_state numbers book (Waiting event since) u e h = absurd h
+over_task_state numbers book (Queued object ask since body) u e h = absurd h
 over_task_state numbers book (GivingUp since) u e h = absurd h
 over_task_state numbers book (Awaits id since) u e h = absurd h
 over_task_state numbers book Over u e h = refl
@@ -146,6 +149,7 @@ started_kept : (clock : Clock) (old new : ℕ → ℕ) (at : ℕ → Started) (c
     ((p : ℕ) → new p ≡ old p) → AreStarted clock old at child es → AreStarted clock new at child es
 started_kept clock old new at child [] same h = tt
 started_kept clock old new at child (rest.noted t e ∷ es) same h = started_kept clock old new at child es same h
+started_kept clock old new at child (rest.acts shared t done ∷ es) same h = started_kept clock old new at child es same h
 started_kept clock old new at child (rest.signs l t ∷ es) same h = started_kept clock old new at child es same h
 started_kept clock old new at child (rest.enters l t d ∷ es) same h = started_kept clock old new at child es same h
 started_kept clock old new at child (rest.starts i l t ∷ es) same h = (
@@ -167,7 +171,7 @@ home_parts (Some y) id index e =
 -- ---- the tasks without it
 
 -- a task that has ended leaves, and its end is recorded in its home: then no task's end is left to record
-pub state_left : (k : Table) (job : Job) (input : List ℕ) (t m s : ℕ) (old new : RunState) (task : Task) (exc : Option Exc) →
+pub state_left : (k : Tables) (job : Job) (input : List ℕ) (t m s : ℕ) (old new : RunState) (task : Task) (exc : Option Exc) →
     (c : Refines k job input t m (Some s) old) →
     Leaving t s old new (c.interleaving.at s) task exc → Refines k job input t m None new
 state_left k job input t m s old new task exc c l =
@@ -495,6 +499,7 @@ state_left k job input t m s old new task exc c l =
         last_after (Asked kernel purpose) is h = tt
         last_after (Asleep paced ticks since) is h = tt
         last_after (Waiting event since) is h = tt
+        last_after (Queued object ask since body) is h = tt
         last_after (GivingUp since) is h = tt
         last_after Over is h = tt
 

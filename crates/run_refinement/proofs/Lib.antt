@@ -32,7 +32,6 @@ pub mod EventsStay
 pub mod OthersFollow
 pub mod Recorded
 pub mod Left
-pub mod Ready
 pub mod Children
 pub mod Begun
 pub mod Over

@@ -9,7 +9,7 @@ use Rattle.cancel_scopes.specs.Tree.{outer_of}
 use Rattle.job_tree.specs.Tree.{Tree as Job}
 use Rattle.job_tree.specs.Names.{GivesNamesOnce}
 use Rattle.job_tree.specs.Starting.{StartsInNurseries}
-use Rattle.job_meaning.specs.Follow.{IsSettled}
+use Rattle.interleavings.specs.Laws.{IsSettledBy}
 use Rattle.job_meaning.specs.Log.{Table}
 use Rattle.job_meaning.specs.Moments.{tick_of, start_of, far, wakes_at}
 use Rattle.job_meaning.specs.declared.clock.Clock.{Clock}
@@ -18,7 +18,7 @@ use Rattle.job_meaning.specs.Walk.{Here}
 use Rattle.job_meaning.specs.Rest.{Stopped, asleep, waiting_for, giving_up, awaiting, at_end}
 use Rattle.nursery_book.specs.Book.{HasNursery}
 use Rattle.nursery_book.specs.declared.book.NurseryBook.{NurseryBook}
-use Rattle.turn_semantics.specs.Midway.{Place, stack_at}
+use Rattle.turn_semantics.specs.Midway.{Tables, Place, stack_at}
 use Rattle.turn_semantics.specs.Steps.{cancelled_from_after}
 use Rattle.turn_semantics.specs.Names.{names_at, OwnNames}
 use Rattle.turn_semantics.specs.Placed.{PlacedAfter}
@@ -26,7 +26,7 @@ use Rattle.turn_semantics.specs.Turned.{StopsAt, FallsAsleep as FallsAsleepFor}
 use Rattle.task_machine.specs.declared.stop.TaskState.{TaskState}
 use Rattle.task_machine.specs.declared.stop.TaskState.TheVariants.{Asked, Asleep, Waiting, GivingUp, Awaits, Over}
 use Rattle.task_machine.specs.declared.stop.Stop.{Stop}
-use Rattle.task_machine.specs.declared.stop.Stop.TheVariants.{Ask, Sleep, WaitFor, GiveUp, Wait, Ended}
+use Rattle.task_machine.specs.declared.stop.Stop.TheVariants.{Ask, Sleep, WaitFor, GiveUp, Wait, Ended, Queue}
 use Rattle.task_machine.specs.declared.stop.Wake.{Wake}
 use Rattle.task_machine.specs.declared.task.Task.{Task}
 use Rattle.task_machine.specs.declared.world.World.{World}
@@ -78,6 +78,7 @@ pub ends_now : (clock there : Clock) (numbers : Numbers) (book : NurseryBook) (p
 ends_now clock there numbers book part (Ask request) task_state t cancelled_from ps s h q e = tt
 ends_now clock there numbers book part (Sleep due) task_state t cancelled_from ps s h q e = tt
 ends_now clock there numbers book part (WaitFor event) task_state t cancelled_from ps s h q e = tt
+ends_now clock there numbers book part (Queue request) task_state t cancelled_from ps s h q e = tt
 ends_now clock there numbers book part (GiveUp due) task_state t cancelled_from ps s h q e = tt
 ends_now clock there numbers book part (Wait id) task_state t cancelled_from ps s h q e = tt
 ends_now clock there numbers book part (Ended exc) Over t cancelled_from ps (at_end u x) h q e =
@@ -179,8 +180,8 @@ says_now clock there numbers book part (Ended exc) task_state t cancelled_from p
 -- ---- a turn
 
 -- each other task follows as it did
-pub other_follows : (k : Table) (job : Job) (input : List ℕ) (t m s : ℕ) (old new : RunState) (before after : Task) (stop : Stop) →
-    IsSettled k job input → GivesNamesOnce job →
+pub other_follows : (k : Tables) (job : Job) (input : List ℕ) (t m s : ℕ) (old new : RunState) (before after : Task) (stop : Stop) →
+    IsSettledBy k job input → GivesNamesOnce job →
     StartsInNurseries job → (c : Refines k job input t m None old) →
     (T : Turning k job input t m s old new c.numbers before after stop c.interleaving) → (u : ℕ) → u < m → u ≢ s →
     (task : Task) → old.task u ≡ Some task → Follows new T.is.cancelled_from input t T.is.at (numbers_then c.numbers s m T.took.numbers_after)
@@ -188,8 +189,8 @@ pub other_follows : (k : Table) (job : Job) (input : List ℕ) (t m s : ℕ) (ol
 other_follows k job input t m s old new before after stop settled names starting c T u below differs task is =
     others_follow k job input t m s old new before after stop c T (acted c T settled names starting) u below differs task is
 
-module _ (k : Table) (job : Job) (input : List ℕ) (t m s : ℕ) (old new : RunState) (before after : Task) (wake : Wake) (stop : Stop)
-    (settled : IsSettled k job input)
+module _ (k : Tables) (job : Job) (input : List ℕ) (t m s : ℕ) (old new : RunState) (before after : Task) (wake : Wake) (stop : Stop)
+    (settled : IsSettledBy k job input)
     (names : GivesNamesOnce job) (starting : StartsInNurseries job) (c : Refines k job input t m None old)
     (x : TakesTurn t m s old new before after wake stop)
     (may : MayWake c.interleaving.cancelled_from c.interleaving.tasks (record { at = t; own = (now_for wake (state_of before old.world)).own })

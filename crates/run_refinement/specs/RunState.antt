@@ -12,6 +12,7 @@ use Rattle.nursery_book.specs.declared.book.NurseryBook.{NurseryBook}
 use Rattle.task_machine.specs.declared.stop.TaskState.{TaskState}
 use Rattle.task_machine.specs.declared.stop.TaskState.TheVariants.{ToBegin, Asked, Awaits}
 use Rattle.job_tree.specs.Tree.{Tree as Job}
+use Rattle.job_tree.specs.InRange.{IsInRange}
 use Rattle.job_meaning.specs.Log.{Table}
 use Rattle.job_meaning.specs.Moments.{clock_of, tick_of, Now, only_at}
 use Rattle.job_meaning.specs.declared.clock.Clock.{Clock}
@@ -265,6 +266,7 @@ pub record Refines (k : Tables) (job : Job) (input : List ℕ) (t m : ℕ) (leav
   pub counted : turns_taken interleaving.reached ≡ state.turns
   pub clock : state.world.clock ≡ clock_of job.format
   pub tick : state.world.tick ≡ t
+  pub in_range : IsInRange job
   pub small : length input ≤ MAX_INPUT
   pub some : 0 < m
   pub begun : state.start 0 ≡ 0
