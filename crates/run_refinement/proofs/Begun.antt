@@ -41,6 +41,7 @@ use Rattle.run_refinement.specs.Begun.{IsNewWorld, IsRootTask}
 use Rattle.run_refinement.specs.RunState.{Interleaving, RunState, EndedTask, Differ, IsSince, LastEnds, HasHome, Follows, HasEnded, Refines}
 use Rattle.turn_semantics.specs.Midway.{Tables}
 use Rattle.run_refinement.proofs.Inputs.{none_received}
+use Rattle.input_lines.specs.Part.{buffer_of}
 
 -- no label is cancelled
 abbrev none_cancelled_from : Table

@@ -16,6 +16,9 @@ pub mod Mover
 pub mod NewChildren
 pub mod Inputs
 pub mod Goes
+pub mod RunFacts
+pub mod Grants
+pub mod Queues
 pub mod Fresh
 pub mod Taken
 pub mod StateFits

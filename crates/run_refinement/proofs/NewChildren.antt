@@ -54,6 +54,7 @@ use Rattle.task_machine.proofs.StateLemmas.{KeyedAfter, keyed_by, task_state_wai
 use Rattle.task_machine.proofs.Stacked.{one_of}
 use Rattle.run_refinement.proofs.Found.{below_length, same_got, finds}
 use Rattle.run_refinement.proofs.Inputs.{none_received}
+use Rattle.input_lines.specs.Part.{buffer_of}
 
 -- ---- a task that did nothing yet
 

@@ -44,7 +44,7 @@ use Rattle.interleavings.specs.Interleaving.{Started, live}
 use Rattle.interleavings.specs.Acts.{acts_of, acts_of_all, InOrder, granted_so_far}
 use Rattle.interleavings.specs.Rows.{entered_made, children_made}
 use Rattle.interleavings.specs.Runs.{Reached, turns_taken}
-use Rattle.run_refinement.specs.Sharing.{RoundAct, done_by, done_before, done_from, object_after, waits_in, SameObject}
+use Rattle.run_refinement.specs.Sharing.{RoundAct, done_by, done_before, done_from, object_after, waits_in, SameObject, AreAskedBefore, AsksBefore, asked_at}
 
 -- ---- a run of the definitions, and its tasks by their serial numbers
 
@@ -257,6 +257,12 @@ pub record Shares (state : RunState) (tasks : List Started) (at : ℕ → Starte
   pub served : (taken : List Started) → InOrder tasks (0 ∷ []) taken → (l : Label) →
       SameObject at state.through (option_map (object_in (waits_in state.task)) (state.object l)) (object_after unopened (by_moment (done_before state.through (acts_of_all l taken))))
   pub granted : (taken : List Started) → InOrder tasks (0 ∷ []) taken → (s : ℕ) → s < m → GrantedAt state taken s (at s) (at s).rest.stopped
+  -- only tasks of the run did something since
+  pub known : (a : RoundAct) → IsAmong a state.round → a.serial < m
+  -- who is in a queue asked before that moment
+  pub asked : (l : Label) → AreAskedBefore state.through (state.object l)
+  -- and a task does not ask twice in one moment
+  pub once : (s : ℕ) → s < m → AsksBefore (asked_at state.world.tick (at s).rest.stopped) (at s).made
 
 -- The tasks of the program are a run of the definitions in this moment with m tasks, where a table is followed. One task may have
 -- ended whose end is not recorded yet.
