@@ -88,6 +88,7 @@ root_follows k job input state root in_range starting names clock r =
             numbered = λ id i. absurd (let h : ⊥ = subst (λ (bs : List Block). HasBlock id bs) blocks i in h);
             placed = subst (λ (fs : List rest.Frame). Placed fs []) (sym (r.frames (no_numbers 0))) (starting, tt);
             new = subst (λ (fs : List rest.Frame). NewIn fs []) (sym (r.frames (no_numbers 0))) (new_job job names);
+            stop = tt;
             own = tt;
             event = tt;
           };

@@ -92,6 +92,7 @@ module _ (t u m : ℕ) (le : t ≤ u) (old new : RunState) (at : ℕ → Started
           numbered = h.stands.numbered;
           placed = h.stands.placed;
           new = h.stands.new;
+          stop = h.stands.stop;
           own = h.stands.own;
           event = h.stands.event;
         };

@@ -1,6 +1,6 @@
 -- A task leaves: its end is recorded in its nursery, and what is left of it is kept. All others continue unchanged.
 use Rattle.std.proofs.lemmas.Bool.{eqb-true, eq-eqb}
-use Rattle.std.proofs.Common.{◌≡◌, ◌≢◌, ◌⊎◌, inl, inr, ◌==◌, Bool, true, false, ℕ, suc, ◌<◌, ◌≤◌, Option, Some, None, List, [], ◌∷◌, map, length, refl, ap, sym, ◌∙◌, subst, arith}
+use Rattle.std.proofs.Common.{◌≡◌, ◌≢◌, ◌⊎◌, inl, inr, ◌==◌, Bool, true, false, ℕ, suc, ◌<◌, ◌≤◌, Option, Some, None, List, [], ◌∷◌, map, length, refl, ap, sym, ◌∙◌, subst, arith, ◌++◌}
 use Rattle.std.specs.Prelude.{IsSome, slice_get, slice_set}
 use Rattle.std.specs.Option.{option_map}
 use Rattle.std.proofs.lemmas.List.Elements.{All-nil}
@@ -43,6 +43,10 @@ use Rattle.run_refinement.specs.Leaving.{Leaving}
 use Rattle.run_refinement.proofs.Recorded.{same_owner, AllLike, Recorded, stays, tells, recorded, set_long, set_at, set_else, all_like, carry}
 use Rattle.run_refinement.proofs.LabelsApart.{below_of}
 use Rattle.run_refinement.proofs.Found.{finds, gives, puts}
+use Rattle.run_refinement.proofs.SharesKept.{shares_kept}
+use Rattle.run_refinement.specs.Sharing.{waits_in, waits_by, is_queued}
+use Rattle.objects.specs.declared.ticket.Ticket.{Ticket}
+use Rattle.run_refinement.proofs.ActsKeep.{same_or}
 
 -- ---- what stays of a task
 
@@ -95,6 +99,7 @@ stands_kept task w book f numbers stopped ps like h =
           (h.numbered id i);
       placed = h.placed;
       new = h.new;
+      stop = h.stop;
       own = h.own;
       event = h.event;
     }
@@ -132,6 +137,18 @@ over_task_state numbers book (Queued object ask since body) u e h = absurd h
 over_task_state numbers book (GivingUp since) u e h = absurd h
 over_task_state numbers book (Awaits id since) u e h = absurd h
 over_task_state numbers book Over u e h = refl
+
+-- and is in no queue
+no_queue : (numbers : Numbers) (book : NurseryBook) (task_state : TaskState) (u : ℕ) (e : Option Exc) (since : ℕ) →
+    IsTaskState numbers book task_state (rest.at_end u e) → is_queued task_state since ≡ false
+no_queue numbers book (Queued object ask v body) u e since h = absurd h
+no_queue numbers book (ToBegin at) u e since h = refl
+no_queue numbers book (Asked kernel purpose) u e since h = refl
+no_queue numbers book (Asleep paced ticks v) u e since h = refl
+no_queue numbers book (Waiting event v) u e since h = refl
+no_queue numbers book (GivingUp v) u e since h = refl
+no_queue numbers book (Awaits id v) u e since h = refl
+no_queue numbers book Over u e since h = refl
 
 none_opened : (labels : Labels) (book : NurseryBook) (own : List Own) → Opened labels book [] own None → own ≡ []
 none_opened labels book [] h = refl
@@ -181,6 +198,7 @@ state_left k job input t m s old new task exc c l =
       counted = c.counted ∙ sym l.turns;
       clock = clock ∙ c.clock;
       tick = ap (λ (w : World). w.tick) l.world ∙ c.tick;
+      in_range = c.in_range;
       small = c.small;
       some = c.some;
       begun = l.start 0 ∙ c.begun;
@@ -201,6 +219,11 @@ state_left k job input t m s old new task exc c l =
           (started_kept old.world.clock old.start new.start c.interleaving.at (c.interleaving.at p).child (c.interleaving.at p).made l.start
           (c.started p lt));
       children = λ p lt. l.children p ∙ c.children p lt;
+      through = subst (λ (v : ℕ). (v ≡ t) ⊎ (v ≡ suc t)) (sym l.objects.through) c.through;
+      path_of_root = l.path 0 ∙ c.path_of_root;
+      path_of_child = λ p child lt i. l.path child ∙ (c.path_of_child p child lt (subst (IsAmong child) (l.children p) i)
+          ∙ ap (λ (ps : List ℕ). ps ++ child ∷ []) (sym (l.path p)));
+      shares = shares_kept old new c.interleaving.tasks c.interleaving.at m same_waits (ap (λ (w : World). w.tick) l.world) l.objects c.shares;
     }
   where
     q : Started
@@ -238,6 +261,18 @@ state_left k job input t m s old new task exc c l =
         (subst (λ (w : Option ℕ). Opened (label_at old.world) old.world.book [] task.own.items w) waits
         (subst (λ (bs : List Block). Opened (label_at old.world) old.world.book bs task.own.items (waits_of task.task_state)) blocks
         it.goes.opened))
+
+    -- and is in no queue
+    same_waits : (ticket : Ticket) → waits_in new.task ticket ≡ waits_in old.task ticket
+    same_waits ticket = by_row (same_or ticket.row s)
+      where
+        by_row : (ticket.row ≡ s) ⊎ (ticket.row ≢ s) → waits_in new.task ticket ≡ waits_in old.task ticket
+        by_row (inl e) =
+            ap (λ (o : Option Task). waits_by o ticket.since) (ap new.task e ∙ l.left)
+            ∙ (sym (no_queue (c.numbers s) old.world.book task.task_state t exc ticket.since
+            (subst (λ (x : rest.Stopped). IsTaskState (c.numbers s) old.world.book task.task_state x) l.ended it.task_state))
+            ∙ sym (ap (λ (o : Option Task). waits_by o ticket.since) (ap old.task e ∙ l.was)))
+        by_row (inr differs) = ap (λ (o : Option Task). waits_by o ticket.since) (l.others ticket.row differs).0
 
     no_nursery : (id : ℕ) (x : Task) → old.task s ≡ Some x → HasNurseryOf id (blocks_of x.frames.items) (waits_of x.task_state) → ⊥
     no_nursery id x e h =

@@ -19,6 +19,7 @@ pub mod Goes
 pub mod RunFacts
 pub mod Grants
 pub mod Queues
+pub mod SharesKept
 pub mod Fresh
 pub mod Taken
 pub mod StateFits

@@ -21,7 +21,7 @@ use Rattle.job_meaning.specs.Rest as rest
 use Rattle.job_meaning.specs.Rest.{Event, Stopped, to_begin, asking, asleep, waiting_for, giving_up, awaiting, at_end, queued}
 use Rattle.task_machine.specs.States.{state_of}
 use Rattle.task_machine.specs.Noted.{entry_of, IsSlice, shown_made, AreNoted}
-use Rattle.turn_semantics.specs.Names.{NewIn}
+use Rattle.turn_semantics.specs.Names.{NewIn, NewStop}
 use Rattle.turn_semantics.specs.Placed.{PlacedAfter, outer_places}
 use Rattle.turn_semantics.specs.Turned.{StopsAt}
 use Rattle.turn_semantics.specs.Midway.{Tables, Place, own_after}
@@ -186,6 +186,7 @@ module _ (k : Tables) (job : Job) (input : List ℕ) (t m s : ℕ) (old new : Ru
         new =
             subst (λ (gs : List rest.Frame). NewIn gs (outer_places (Some T.stopped) T.move.places)) (sym T.took.frames_after)
             (subst (λ (o : Option Stopped). NewIn T.move.frames (outer_places o T.move.places)) T.stops T.names.frames);
+        stop = subst (λ (o : Option Stopped). NewStop o T.move.places) T.stops T.names.stop;
         own = T.names.own;
         event =
             subst (λ (o : Option Stopped).

@@ -208,6 +208,7 @@ module _ (k : Tables) (job : Job) (input : List ℕ) (t m s : ℕ) (old new : Ru
           numbered = λ id has. absurd (subst (HasBlock id) no_blocks has);
           placed = subst (λ (gs : List rest.Frame). PlacedAfter (Some to_begin) gs b.places) (sym frames_are) (body_starts, tt);
           new = subst (λ (gs : List rest.Frame). NewIn gs b.places) (sym frames_are) (new_names.0, tt);
+          stop = tt;
           own = new_names.1;
           event = tt;
         }

@@ -155,6 +155,7 @@ module _ (k : Tables) (job : Job) (input : List ℕ) (t m s : ℕ) (old new : Ru
               (was.stands.numbered id has);
           placed = was.stands.placed;
           new = was.stands.new;
+          stop = was.stands.stop;
           own = was.stands.own;
         }
 

@@ -199,4 +199,4 @@ state_over job input names starting t m state c none =
     means : (taken : List ℕ) → DepthFirst rows (0 ∷ []) taken →
         (records_by rows taken ≡ meaning_records job input) × (cancelled_from_in rows taken ≡ meaning_cancelled_from job input)
         × ((rows 0).end ≡ meaning_end job input)
-    means taken d = runs_are_the_meaning job input names starting f t m c.interleaving.tasks c.interleaving.reached rows has_row label c.begun taken d
+    means taken d = runs_are_the_meaning job input names c.in_range c.small starting f t m c.interleaving.tasks c.interleaving.reached rows has_row label c.begun taken d

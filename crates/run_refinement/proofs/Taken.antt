@@ -41,6 +41,7 @@ use Rattle.run_refinement.proofs.Inputs.{on_at, turn_on_input}
 use Rattle.run_refinement.proofs.Goes.{may_can, WentOn, went_on}
 use Rattle.run_refinement.proofs.Fresh.{fresh_after}
 use Rattle.run_refinement.proofs.LabelsApart.{below_of}
+use Rattle.interleavings.specs.Runs.{keeping}
 
 -- as many tasks as children begun
 pub begun_long : (clock : Clock) (at : ℕ) (numbers : Numbers) (book : NurseryBook) (bs : List Block) (waits : Option ℕ) (ts : List Task)
@@ -88,7 +89,7 @@ now_at_tick Settled s t e = ap (λ (m : ℕ). only_at m) e
 pub turning : (k : Tables) (job : Job) (input : List ℕ) (t m s : ℕ) (old new : RunState) (before after : Task) (wake : Wake) (stop : Stop) →
     IsSettledBy k job input → GivesNamesOnce job → StartsInNurseries job → (c : Refines k job input t m None old) →
     TakesTurn t m s old new before after wake stop → Fits (state_of before old.world) (waits_of before.task_state) →
-    MayWake c.interleaving.cancelled_from c.interleaving.tasks (record { at = t; own = (now_for wake (state_of before old.world)).own })
+    MayWake (keeping c.interleaving.cancelled_from k) c.interleaving.tasks (record { at = t; own = (now_for wake (state_of before old.world)).own })
     (c.interleaving.at s) (wake_in old.world.book before.task_state wake)
     (c.interleaving.at s).rest.stopped →
     Turning k job input t m s old new c.numbers before after stop c.interleaving
@@ -108,7 +109,7 @@ turning k job input t m s old new before after wake stop settled names starting 
       took = took;
       promise = promise;
       names = turn_stays_new turn.steps now q.here c.interleaving.cancelled_from w q.rest q.places q.count can
-          (subst (λ (gs : List rest.Frame). NewIn gs (outer_places (Some q.rest.stopped) q.places)) f.frames f.stands.new) f.stands.own;
+          (subst (λ (gs : List rest.Frame). NewIn gs (outer_places (Some q.rest.stopped) q.places)) f.frames f.stands.new) f.stands.stop f.stands.own;
       fresh = fresh_after k job input t m s now.own c.interleaving o at_stop.0 settled names starting less went;
       inputs = on_at q.here.input o.begun (turn_on_input turn.steps c.interleaving.cancelled_from now q.here w q.rest.stopped q.rest.frames q.places
           q.count);
@@ -140,7 +141,7 @@ turning k job input t m s old new before after wake stop settled names starting 
     w = wake_in old.world.book before.task_state wake
 
     can : CanWake w q.rest.stopped
-    can = may_can c.interleaving.cancelled_from c.interleaving.tasks now q w q.rest.stopped may
+    can = may_can (keeping c.interleaving.cancelled_from k) c.interleaving.tasks now q w q.rest.stopped may
 
     turn : TookTurn (state_of before old.world) (state_of after new.world) wake stop c.interleaving.cancelled_from (c.numbers s) q.rest.stopped q.places q.count
     turn = code.turn c.interleaving.cancelled_from (c.numbers s) q.places q.count q.rest.stopped f.task_state f.stands
