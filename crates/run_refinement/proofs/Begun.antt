@@ -42,6 +42,10 @@ use Rattle.run_refinement.specs.RunState.{Interleaving, RunState, EndedTask, Dif
 use Rattle.turn_semantics.specs.Midway.{Tables}
 use Rattle.run_refinement.proofs.Inputs.{none_received}
 use Rattle.input_lines.specs.Part.{buffer_of}
+use Rattle.run_refinement.proofs.SharesKept.{shares_none}
+use Rattle.interleavings.specs.Acts.{acts_of}
+use Rattle.exceptions.specs.Exceptions.{Label}
+use Rattle.turn_semantics.specs.Lists.{IsAmong}
 
 -- no label is cancelled
 abbrev none_cancelled_from : Table
@@ -171,9 +175,10 @@ pub state_begins : (k : Tables) (job : Job) (input : List ℕ) (state : RunState
     GivesNamesOnce job → length input ≤ MAX_INPUT →
     IsNewWorld job state.world → IsRootTask job input root → state.task 0 ≡ Some root → ((p : ℕ) → state.task (suc p) ≡ None) →
     ((p : ℕ) → state.ended_task p ≡ None) → state.start 0 ≡ 0 →
-    state.children 0 ≡ [] → state.turns ≡ 0 → BeginsAs k job input state
+    state.children 0 ≡ [] → state.turns ≡ 0 → state.path 0 ≡ 0 ∷ [] → state.through ≡ 0 → ((l : Label) → state.object l ≡ None) → state.round ≡ [] →
+    ((p : ℕ) → state.granted p ≡ None) → BeginsAs k job input state
 unfolding begun_interleaving
-state_begins k job input state root in_range starting names small world r first others ended_task start children turns =
+state_begins k job input state root in_range starting names small world r first others ended_task start children turns path through objects round granted =
     record {
       is =
           record {
@@ -182,6 +187,7 @@ state_begins k job input state root in_range starting names small world r first 
             counted = sym turns;
             clock = world.clock;
             tick = world.tick;
+            in_range = in_range;
             small = small;
             some = omega arith;
             begun = start;
@@ -195,10 +201,23 @@ state_begins k job input state root in_range starting names small world r first 
             soon = λ key from e. absurd (not_both (world.events key) e);
             started = λ s lt. tt;
             children = λ s lt. let e : s ≡ 0 = omega (arith, lt) in ap state.children e ∙ children;
+            through = inl through;
+            path_of_root = path;
+            path_of_child = λ s c lt i. absurd (no_child s c lt i);
+            shares = shares_none state (root_task k job input ∷ []) (λ s. root_task k job input) 1 (λ l q i. by_root l q i) (λ s lt. (inl refl, refl, refl))
+                objects round granted;
           };
       at = refl;
     }
   where
+    no_child : (s c : ℕ) → s < 1 → IsAmong c (state.children s) → ⊥
+    no_child s c lt i = let e : s ≡ 0 = omega (arith, lt) in
+        let j : IsAmong c [] = subst (IsAmong c) (ap state.children e ∙ children) i in j
+
+    by_root : (l : Label) (q : Started) → IsAmong q (root_task k job input ∷ []) → acts_of l q ≡ []
+    by_root l q (inl e) = ap (acts_of l) e
+    by_root l q (inr i) = absurd i
+
     is_first : (s : ℕ) (task : Task) → state.task s ≡ Some task → s ≡ 0
     is_first zero task e = refl
     is_first (suc s) task e = absurd (let f : None ≡ Some task = sym (others s) ∙ e in cc)
@@ -230,6 +249,7 @@ pub state_begun : (k : Tables) (job : Job) (input : List ℕ) (state : RunState)
     GivesNamesOnce job → length input ≤ MAX_INPUT →
     IsNewWorld job state.world → IsRootTask job input root → state.task 0 ≡ Some root → ((p : ℕ) → state.task (suc p) ≡ None) →
     ((p : ℕ) → state.ended_task p ≡ None) → state.start 0 ≡ 0 →
-    state.children 0 ≡ [] → state.turns ≡ 0 → Refines k job input 0 1 None state
-state_begun k job input state root in_range starting names small world r first others ended_task start children turns =
-    (state_begins k job input state root in_range starting names small world r first others ended_task start children turns).is
+    state.children 0 ≡ [] → state.turns ≡ 0 → state.path 0 ≡ 0 ∷ [] → state.through ≡ 0 → ((l : Label) → state.object l ≡ None) → state.round ≡ [] →
+    ((p : ℕ) → state.granted p ≡ None) → Refines k job input 0 1 None state
+state_begun k job input state root in_range starting names small world r first others ended_task start children turns path through objects round granted =
+    (state_begins k job input state root in_range starting names small world r first others ended_task start children turns path through objects round granted).is
