@@ -18,6 +18,7 @@ pub mod Inputs
 pub mod Goes
 pub mod RunFacts
 pub mod Grants
+pub mod DoneLists
 pub mod Counts
 pub mod Queues
 pub mod SharesKept
