@@ -26,6 +26,7 @@ pub mod Fresh
 pub mod Taken
 pub mod StateFits
 pub mod Jumped
+pub mod JumpsOn
 pub mod LabelsApart
 pub mod EventPlaces
 pub mod OtherScopes
