@@ -23,7 +23,7 @@ use Rattle.run_refinement.specs.Turning.{Turning}
 
 -- ---- the children among events
 
-made_join : (child : ℕ → ℕ) (es fs : List Event) → children_made child (es ++ fs) ≡ children_made child es ++ children_made child fs
+pub made_join : (child : ℕ → ℕ) (es fs : List Event) → children_made child (es ++ fs) ≡ children_made child es ++ children_made child fs
 made_join child [] fs = refl
 made_join child (noted t e ∷ es) fs = made_join child es fs
 made_join child (acts shared t done ∷ es) fs = made_join child es fs
@@ -32,7 +32,7 @@ made_join child (enters l t d ∷ es) fs = made_join child es fs
 made_join child (starts i l t ∷ es) fs = ap (λ (ns : List ℕ). child i ∷ ns) (made_join child es fs)
 
 -- those that were started before have their serial numbers
-made_before : (count m : ℕ) (child : ℕ → ℕ) (es : List Event) → ((i : ℕ) → StartsChild i es → i < count) →
+pub made_before : (count m : ℕ) (child : ℕ → ℕ) (es : List Event) → ((i : ℕ) → StartsChild i es → i < count) →
     children_made (child_from count child m) es ≡ children_made child es
 made_before count m child [] below = refl
 made_before count m child (noted t e ∷ es) below = made_before count m child es below
@@ -44,7 +44,7 @@ made_before count m child (starts i l t ∷ es) below =
     ∙ ap (λ (ns : List ℕ). child i ∷ ns) (made_before count m child es (λ j h. below j (inr h)))
 
 -- and those of a turn the next ones
-made_now : (count m j n p : ℕ) (child : ℕ → ℕ) (es : List Event) (bs : List Begun) → n ≡ count + j → p ≡ m + j → Starts n es bs →
+pub made_now : (count m j n p : ℕ) (child : ℕ → ℕ) (es : List Event) (bs : List Begun) → n ≡ count + j → p ≡ m + j → Starts n es bs →
     children_made (child_from count child m) es ≡ serials_from p (length bs)
 made_now count m j n p child [] [] e f h = refl
 made_now count m j n p child [] (b ∷ bs) e f h = absurd h

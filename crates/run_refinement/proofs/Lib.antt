@@ -20,6 +20,7 @@ pub mod RunFacts
 pub mod Grants
 pub mod DoneLists
 pub mod Counts
+pub mod Orders
 pub mod Queues
 pub mod SharesKept
 pub mod Fresh
