@@ -449,6 +449,7 @@ module _ (k : Tables) (job : Job) (input : List ℕ) (t u m : ℕ) (old : RunSta
               (object_after unopened (by_moment (done_before u (acts_of_all l taken)))))
               (λ i ticket. ap (λ (o : Option Task). waits_by o ticket.since) (sym (same.task ticket.row)) i) (object_then taken order l)));
           granted = λ taken order s below. granted_then taken order s below (at s).rest.stopped refl (c.shares.granted taken order s below);
+          ungranted = λ s le. passes.granted s ∙ c.shares.ungranted s le;
           known = λ a i. absurd (let j : IsAmong a [] = subst (λ (r : List RoundAct). IsAmong a r) passes.round i in j);
           asked = λ l.
               subst (λ (v : ℕ). AreAskedBefore v (new.object l)) (sym passes.through)

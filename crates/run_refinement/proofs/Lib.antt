@@ -21,6 +21,8 @@ pub mod Grants
 pub mod DoneLists
 pub mod Counts
 pub mod Orders
+pub mod RoundLists
+pub mod OtherAskers
 pub mod Queues
 pub mod SharesKept
 pub mod Fresh

@@ -54,6 +54,7 @@ shares_kept old new tasks at m waits tick same h =
           (object_after unopened (by_moment (done_before old.through (acts_of_all l taken))))) (λ i ticket. sym (waits ticket) i)
           (h.served taken order l)));
       granted = λ taken order s lt. granted_kept old new taken s (at s) (at s).rest.stopped same.through (same.granted s) (h.granted taken order s lt);
+      ungranted = λ s le. same.granted s ∙ h.ungranted s le;
       known = λ a i. h.known a (subst (λ (r : List RoundAct). IsAmong a r) same.round i);
       asked = λ l.
           subst (λ (v : ℕ). AreAskedBefore v (new.object l)) (sym same.through)
@@ -85,6 +86,7 @@ shares_none state tasks at m none begun objects round granted =
           (sym (none_done tasks l (none l) (0 ∷ []) taken order)) tt);
       granted = λ taken order s lt.
           subst (GrantedAt state taken s (at s)) (sym (begun s lt).2) (granted s);
+      ungranted = λ s le. granted s;
       known = λ a i. absurd (let j : IsAmong a [] = subst (λ (r : List RoundAct). IsAmong a r) round i in j);
       asked = λ l waits. ap (option_map (object_in (asked_before state.through waits))) (objects l)
           ∙ sym (ap (option_map (object_in waits)) (objects l));

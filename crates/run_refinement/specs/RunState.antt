@@ -257,6 +257,7 @@ pub record Shares (state : RunState) (tasks : List Started) (at : ℕ → Starte
   pub served : (taken : List Started) → InOrder tasks (0 ∷ []) taken → (l : Label) →
       SameObject at state.through (option_map (object_in (waits_in state.task)) (state.object l)) (object_after unopened (by_moment (done_before state.through (acts_of_all l taken))))
   pub granted : (taken : List Started) → InOrder tasks (0 ∷ []) taken → (s : ℕ) → s < m → GrantedAt state taken s (at s) (at s).rest.stopped
+  pub ungranted : (s : ℕ) → m ≤ s → state.granted s ≡ None
   -- only tasks of the run did something since
   pub known : (a : RoundAct) → IsAmong a state.round → a.serial < m
   -- who is in a queue asked before that moment
