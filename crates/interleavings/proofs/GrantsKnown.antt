@@ -40,7 +40,7 @@ abbrev pub cut : ℕ → List Done → List Done
 cut c [] = []
 cut c (d ∷ ds) = done_if (nat_lt d.at c) (cut_done c d) (cut c ds)
 
-cut_append : (c : ℕ) (xs ys : List Done) → cut c (xs ++ ys) ≡ cut c xs ++ cut c ys
+pub cut_append : (c : ℕ) (xs ys : List Done) → cut c (xs ++ ys) ≡ cut c xs ++ cut c ys
 cut_append c [] ys = refl
 cut_append c (d ∷ xs) ys = by_order (nat_lt d.at c) (cut_append c xs ys)
   where
@@ -50,7 +50,7 @@ cut_append c (d ∷ xs) ys = by_order (nat_lt d.at c) (cut_append c xs ys)
     by_order false h = h
 
 -- of acts from c on nothing is known before c
-cut_late : (c : ℕ) (ds : List Done) → Each (λ t. c ≤ t) ds → cut c ds ≡ []
+pub cut_late : (c : ℕ) (ds : List Done) → Each (λ t. c ≤ t) ds → cut c ds ≡ []
 cut_late c [] h = refl
 cut_late c (d ∷ ds) h = ap (λ (b : Bool). done_if b (cut_done c d) (cut c ds)) (le-ltb d.at c h.0) ∙ cut_late c ds h.1
 

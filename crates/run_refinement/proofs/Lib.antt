@@ -23,6 +23,7 @@ pub mod Counts
 pub mod Orders
 pub mod RoundLists
 pub mod OtherAskers
+pub mod TurnedObjects
 pub mod Queues
 pub mod SharesKept
 pub mod Fresh
