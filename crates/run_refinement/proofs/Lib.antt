@@ -24,6 +24,7 @@ pub mod Orders
 pub mod RoundLists
 pub mod OtherAskers
 pub mod TurnedObjects
+pub mod AlikeActs
 pub mod Queues
 pub mod SharesKept
 pub mod Fresh
