@@ -25,6 +25,7 @@ pub mod RoundLists
 pub mod OtherAskers
 pub mod TurnedObjects
 pub mod AlikeActs
+pub mod Gone
 pub mod Queues
 pub mod SharesKept
 pub mod Fresh

@@ -107,6 +107,9 @@ turning k job input t m s old new before after wake stop settled names starting 
       stopped = at_stop.0;
       stops = at_stop.1;
       took = took;
+      woken = refl;
+      steps = turn.steps;
+      turned = refl;
       promise = promise;
       names = turn_stays_new turn.steps now q.here c.interleaving.cancelled_from w q.rest q.places q.count can
           (subst (λ (gs : List rest.Frame). NewIn gs (outer_places (Some q.rest.stopped) q.places)) f.frames f.stands.new) f.stands.stop f.stands.own;
