@@ -149,7 +149,7 @@ other_moment task since left d lt =
     both false = refl
 
 -- an act that asks nothing stays
-made_fixed : (l task : Label) (label : Label) (since : ℕ) (left : Tick) (es : List Event) → AsksBefore since es →
+pub made_fixed : (l task : Label) (label : Label) (since : ℕ) (left : Tick) (es : List Event) → AsksBefore since es →
     Each (λ (d : Done). done_with (now_left label since left) d ≡ d) (acts_made l task es)
 made_fixed l task label since left [] h = tt
 made_fixed l task label since left (acts m u (asks a part was) ∷ es) h =
@@ -174,7 +174,7 @@ before_fixed [] = tt
 before_fixed (d ∷ xs) = (act_fixed as_before d (λ left. refl), before_fixed xs)
 
 -- events that ask nothing are of this moment
-made_late : (clock : Clock) (t : ℕ) (ls : List Label) (l task : Label) (es : List Event) → MadeAt clock t ls es → AsksNothing es →
+pub made_late : (clock : Clock) (t : ℕ) (ls : List Label) (l task : Label) (es : List Event) → MadeAt clock t ls es → AsksNothing es →
     Each (λ (d : Done). t ≤ d.at) (acts_made l task es)
 made_late clock t ls l task [] h k = tt
 made_late clock t ls l task (acts m u (opens kind) ∷ es) h k =
@@ -193,7 +193,7 @@ made_late clock t ls l task (enters m u d ∷ es) h k = made_late clock t (m ∷
 made_late clock t ls l task (starts i m u ∷ es) h k = made_late clock t ls l task es h.1 k
 
 -- what was asked is known now to have been left so
-asked_left : (h : Asker → Asker) (t since : ℕ) (l task : Label) (ask : Ask) (part : Range) (left : Tick) (b : Bool) → since < t →
+pub asked_left : (h : Asker → Asker) (t since : ℕ) (l task : Label) (ask : Ask) (part : Range) (left : Tick) (b : Bool) → since < t →
     (h (record { task = task; at = since; left = None })).left ≡ left → LeavesIn t left →
     Alike h t (done_if b (record { at = since; task = task; act = asks ask part None }) []) (done_if b (record { at = since; task = task; act = asks ask part left }) [])
 asked_left h t since l task ask part left false lt e g = record { same = refl; early = refl }

@@ -26,6 +26,7 @@ pub mod OtherAskers
 pub mod TurnedObjects
 pub mod AlikeActs
 pub mod Gone
+pub mod SharesTurned
 pub mod Queues
 pub mod SharesKept
 pub mod Fresh

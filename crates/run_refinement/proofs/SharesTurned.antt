@@ -1,0 +1,335 @@
+-- A turn of a task keeps what the code holds of limiters and channels: what it did now is noted to be served, and of what was served before it
+-- is known now who left the queues.
+use Rattle.std.proofs.Common.{◌≡◌, ◌≢◌, ◌⊎◌, inl, inr, ℕ, zero, suc, ◌+◌, ◌-◌, ◌<◌, ◌≤◌, Bool, true, false, not, ◌&&◌, ◌==◌, Option, Some, None, List, [], ◌∷◌, ◌++◌, map, length, refl, ap, sym, ◌∙◌, subst, arith, append_assoc, nat_lt, Bor}
+use Rattle.std.proofs.lemmas.Bool.{eqb-true, eq-eqb, cases_lt, lt-ltb, le-ltb}
+use Rattle.std.proofs.lemmas.Bool.Decides.{nat_tests}
+use Rattle.std.proofs.lemmas.List.{append-nil, map-append}
+use Rattle.std.proofs.lemmas.List.Elements.{filter-append}
+use Rattle.std.specs.Prelude.{slice_get, codes}
+use Rattle.std.specs.List.{filter}
+use Rattle.std.specs.Option.{option_map}
+use Rattle.exceptions.specs.Exceptions.{Label, cancelled, raised}
+use Rattle.cancel_scopes.specs.Sight.{Tick, is_reached}
+use Rattle.cancel_scopes.specs.Tree.{outer_of}
+use Rattle.job_tree.specs.Tree.{Tree as Job, Steps}
+use Rattle.job_tree.specs.Names.{GivesNamesOnce}
+use Rattle.job_tree.specs.Starting.{StartsInNurseries}
+use Rattle.job_tree.specs.declared.object.Ask.{Ask}
+use Rattle.input_lines.specs.Lines.{Range}
+use Rattle.input_lines.specs.Part.{buffer_of, range_of}
+use Rattle.nursery_book.specs.declared.book.NurseryBook.{NurseryBook}
+use Rattle.objects.specs.Held.{ObjectOf, object_in, what_in}
+use Rattle.objects.specs.Whats.{What}
+use Rattle.objects.specs.Whats as whats
+use Rattle.objects.specs.declared.ticket.Ticket.{Ticket}
+use Rattle.objects.specs.declared.object.Object.{Object as HeldObject}
+use Rattle.job_meaning.specs.Log.{Act, opens, asks, gives_back, closes, Table, same_label}
+use Rattle.job_meaning.specs.Moments.{tick_of, a_round_after, Now}
+use Rattle.job_meaning.specs.declared.clock.Clock.{Clock}
+use Rattle.job_meaning.specs.Sharing.{Done, done_if, Asker, Granted, Object, unopened, stays_at, granted_before, find_given, by_moment, serve_acts}
+use Rattle.job_meaning.specs.Walk.{Here}
+use Rattle.job_meaning.specs.Rest as rest
+use Rattle.job_meaning.specs.Rest.{Event, noted, signs, enters, acts, starts, Frame, Stopped, queued, inside}
+use Rattle.job_meaning.proofs.Distinct.{same_label_equal, same_label_itself}
+use Rattle.turn_semantics.specs.Lists.{Each, IsAmong}
+use Rattle.turn_semantics.specs.Midway.{Place, label_among, Tables, Begun, Move, then_move}
+use Rattle.turn_semantics.specs.Placed.{IsSome, PlacedStop}
+use Rattle.turn_semantics.specs.Turned.{MadeAt, AsksNothing, LeavesIn, AsksFirst, AskedFirst, StopsAt}
+use Rattle.turn_semantics.specs.Wakes as wakes
+use Rattle.turn_semantics.specs.Wakes.{Wake, turn_from, wake_of}
+use Rattle.task_machine.specs.declared.stop.Stop.{Stop}
+use Rattle.task_machine.specs.declared.stop.Wake as code
+use Rattle.task_machine.specs.declared.stop.Wake.TheVariants as kinds
+use Rattle.task_machine.specs.declared.stop.TaskState.{TaskState}
+use Rattle.task_machine.specs.declared.stop.TaskState.TheVariants.{ToBegin, Asked, Asleep, Waiting, Queued, GivingUp, Awaits, Over}
+use Rattle.task_machine.specs.declared.task.Task.{Task}
+use Rattle.task_machine.specs.declared.world.World.{World}
+use Rattle.task_machine.specs.Serving.{Acted, acted_of, acts_to_serve}
+use Rattle.task_machine.specs.Stops.{Numbers, IsTaskState}
+use Rattle.task_machine.specs.Tasks.{scope_of, lent_of}
+use Rattle.task_machine.specs.Waking.{WakesFrom, wake_in}
+use Rattle.interleavings.specs.Interleaving.{Started, StartsChild}
+use Rattle.interleavings.specs.Acts.{acts_made, acts_pending, acts_of, acts_of_all, InOrder, all_taken, next_taken, granted_so_far}
+use Rattle.interleavings.specs.Going.{task_after_turn, child_from}
+use Rattle.interleavings.specs.Laws.{IsSettledBy}
+use Rattle.interleavings.specs.Rows.{children_made}
+use Rattle.interleavings.proofs.GrantsKnown.{cut, served_before}
+use Rattle.interleavings.proofs.Ordering.{orders_exist}
+use Rattle.interleavings.proofs.Running.{runs_keep_invariant}
+use Rattle.run_refinement.specs.RunState.{RunState, Refines, Follows, GrantedAt, Shares}
+use Rattle.run_refinement.specs.Ready.{IsTimely, MayGo}
+use Rattle.run_refinement.specs.Sharing.{RoundAct, done_by, done_before, done_from, object_after, waits_in, waits_by, is_queued, Waiter, waiter_of, waiter_in, asked_before, SameObject, AreAskedBefore, AsksBefore, asked_at, round_act, asked_by}
+use Rattle.run_refinement.specs.Turn.{child_at, serials_from}
+use Rattle.run_refinement.specs.Turning.{Turning}
+use Rattle.run_refinement.proofs.ActsKeep.{not_both, same_or}
+use Rattle.run_refinement.proofs.AlikeActs.{known_left, left_if, now_left, as_before, same_left, same_before, Alike, alike_append, alike_fixed, alike_late, other_label, made_fixed, before_fixed, made_late, asked_left}
+use Rattle.run_refinement.proofs.Children.{made_join, made_before, made_now}
+use Rattle.run_refinement.proofs.Counts.{count, of_asker, in_object}
+use Rattle.run_refinement.proofs.DoneLists.{each_weaker, each_filter, sorted_each}
+use Rattle.run_refinement.proofs.EventPlaces.{has_event}
+use Rattle.run_refinement.proofs.Gone.{asked_then, none_queued, acts_label}
+use Rattle.run_refinement.proofs.Grants.{granted_in}
+use Rattle.run_refinement.proofs.JumpsOn.{is_late, left_after, no_late_object, taken_in}
+use Rattle.run_refinement.proofs.LabelsApart.{below_of}
+use Rattle.run_refinement.proofs.Orders.{one_has_label, labels_differ, all_are_taken, all_born}
+use Rattle.run_refinement.proofs.OtherAskers.{done_with, object_with, IsSameAsker, sorted_with, objects_with}
+use Rattle.run_refinement.proofs.RoundLists.{AskedEarlier, done_by_append, done_by_none, round_acted, turn_round, pending_past, pending_round}
+use Rattle.run_refinement.proofs.RunFacts.{IsBy, DoneBy, all_by, all_acts_by, each_append}
+use Rattle.run_refinement.proofs.TurnedObjects.{EachTicket, EachAsker, tickets_weaker, askers_weaker, askers_all, askers_none, left_in, object_left, tickets_wait, object_turned}
+
+-- ---- the turn of a task that was in a queue
+
+acts_join : (l task : Label) (xs ys : List Event) → acts_made l task (xs ++ ys) ≡ acts_made l task xs ++ acts_made l task ys
+acts_join l task [] ys = refl
+acts_join l task (acts m u a ∷ xs) ys = by_label (same_label l m) (acts_join l task xs ys)
+  where
+    d : Done
+    d = record { at = u; task = task; act = a }
+
+    by_label : (b : Bool) → acts_made l task (xs ++ ys) ≡ acts_made l task xs ++ acts_made l task ys →
+        done_if b d (acts_made l task (xs ++ ys)) ≡ done_if b d (acts_made l task xs) ++ acts_made l task ys
+    by_label true h = ap (λ (ds : List Done). d ∷ ds) h
+    by_label false h = h
+acts_join l task (noted u e ∷ xs) ys = acts_join l task xs ys
+acts_join l task (signs m u ∷ xs) ys = acts_join l task xs ys
+acts_join l task (enters m u d ∷ xs) ys = acts_join l task xs ys
+acts_join l task (starts i m u ∷ xs) ys = acts_join l task xs ys
+
+asks_append : (v : ℕ) (xs ys : List Event) → AsksBefore v xs → AsksBefore v ys → AsksBefore v (xs ++ ys)
+asks_append v [] ys h k = k
+asks_append v (acts l u (asks a part left) ∷ xs) ys h k = (h.0, asks_append v xs ys h.1 k)
+asks_append v (acts l u (opens kind) ∷ xs) ys h k = asks_append v xs ys h k
+asks_append v (acts l u gives_back ∷ xs) ys h k = asks_append v xs ys h k
+asks_append v (acts l u closes ∷ xs) ys h k = asks_append v xs ys h k
+asks_append v (noted u e ∷ xs) ys h k = asks_append v xs ys h k
+asks_append v (signs m u ∷ xs) ys h k = asks_append v xs ys h k
+asks_append v (enters m u d ∷ xs) ys h k = asks_append v xs ys h k
+asks_append v (starts i m u ∷ xs) ys h k = asks_append v xs ys h k
+
+nothing_asked : (v : ℕ) (es : List Event) → AsksNothing es → AsksBefore v es
+nothing_asked v [] h = tt
+nothing_asked v (acts l u (asks a part left) ∷ es) h = absurd h
+nothing_asked v (acts l u (opens kind) ∷ es) h = nothing_asked v es h
+nothing_asked v (acts l u gives_back ∷ es) h = nothing_asked v es h
+nothing_asked v (acts l u closes ∷ es) h = nothing_asked v es h
+nothing_asked v (noted u e ∷ es) h = nothing_asked v es h
+nothing_asked v (signs m u ∷ es) h = nothing_asked v es h
+nothing_asked v (enters m u d ∷ es) h = nothing_asked v es h
+nothing_asked v (starts i m u ∷ es) h = nothing_asked v es h
+
+first_asked : (t v : ℕ) (o : Option Label) (here : Here) (ask : Ask) (since : ℕ) (es : List Event) → since < v → AsksFirst t o here ask since es → AsksBefore v es
+first_asked t v None here ask since es lt h = nothing_asked v es h
+first_asked t v (Some l) here ask since [] lt h = absurd h
+first_asked t v (Some l) here ask since (acts m u (asks a part left) ∷ es) lt h =
+    (let e : u ≡ since = h.1 in omega (arith, e, lt), nothing_asked v es h.5)
+first_asked t v (Some l) here ask since (acts m u (opens kind) ∷ es) lt h = absurd h
+first_asked t v (Some l) here ask since (acts m u gives_back ∷ es) lt h = absurd h
+first_asked t v (Some l) here ask since (acts m u closes ∷ es) lt h = absurd h
+first_asked t v (Some l) here ask since (noted u e ∷ es) lt h = absurd h
+first_asked t v (Some l) here ask since (signs m u ∷ es) lt h = absurd h
+first_asked t v (Some l) here ask since (enters m u d ∷ es) lt h = absurd h
+first_asked t v (Some l) here ask since (starts i m u ∷ es) lt h = absurd h
+
+turn_asks : (t : ℕ) (here : Here) (fs : List Frame) (ps : List Place) (s : Stopped) (es : List Event) → AskedEarlier t s → AskedFirst t here (Some s) fs ps es →
+    AsksBefore t es
+turn_asks t here fs ps (queued name ask since body) es lt h = first_asked t t (label_among true name ps) (inside fs here) ask since es lt h
+turn_asks t here fs ps rest.to_begin es lt h = nothing_asked t es h
+turn_asks t here fs ps (rest.asking kernel purpose) es lt h = nothing_asked t es h
+turn_asks t here fs ps (rest.asleep paced n since) es lt h = nothing_asked t es h
+turn_asks t here fs ps (rest.waiting_for event since) es lt h = nothing_asked t es h
+turn_asks t here fs ps (rest.giving_up since) es lt h = nothing_asked t es h
+turn_asks t here fs ps (rest.awaiting children ended exc) es lt h = nothing_asked t es h
+turn_asks t here fs ps (rest.at_end u e) es lt h = nothing_asked t es h
+
+-- when a task leaves its queue by a wake
+abbrev left_by : Wake → ℕ → Tick
+left_by (wakes.is_granted what) t = None
+left_by _ t = Some t
+
+-- a wake of a task in a queue
+abbrev IsOfQueue : Wake → Type 0
+IsOfQueue wakes.sees = Unit {0}
+IsOfQueue wakes.is_due = Unit {0}
+IsOfQueue (wakes.is_granted what) = Unit {0}
+IsOfQueue _ = ⊥
+
+-- events that begin with this one
+abbrev Begins : Event → List Event → Type 0
+Begins e es = (others : List Event) × (es ≡ e ∷ others)
+
+begins_then : (o p : Move) (e : Event) (es : List Event) → o.stopped ≡ None → o.made ≡ e ∷ es → Begins e (then_move o.stopped o p).made
+begins_then o p e es s i = (es ++ p.made, ap (λ (z : Option Stopped). (then_move z o p).made) s ∙ ap (λ (xs : List Event). xs ++ p.made) i)
+
+-- a turn of a task in a queue makes first what it asked
+made_first : (n : ℕ) (f : Table) (now : Now) (here : Here) (w : Wake) (name : List ℕ) (ask : Ask) (since : ℕ) (body : Steps) (fs : List Frame) (ps : List Place)
+    (count : ℕ) (l : Label) → IsOfQueue w → label_among true name ps ≡ Some l →
+    Begins (acts l since (asks ask (inside fs here).part (left_by w now.at))) (turn_from n f now here w (queued name ask since body) fs ps count).made
+unfolding turn_from
+made_first n f now here w name ask since body fs ps count l of_queue label =
+    let b = first w of_queue in begins_then (wake_of f now here w (queued name ask since body) fs ps) _ _ b.0 b.1 b.2
+  where
+    First : Wake → Move → Type 0
+    First w o = (es : List Event) × (o.stopped ≡ None) × (o.made ≡ acts l since (asks ask (inside fs here).part (left_by w now.at)) ∷ es)
+
+    granted : (what : What) → First (wakes.is_granted what) (wakes.granted_move l (inside fs here) ask since now.at body what fs ps)
+    granted whats.a_token = (_, refl, refl)
+    granted whats.was_sent = (_, refl, refl)
+    granted (whats.a_part part) = (_, refl, refl)
+    granted whats.closed_resource = (_, refl, refl)
+    granted whats.end_of_channel = (_, refl, refl)
+
+    first : (w : Wake) → IsOfQueue w → First w (wake_of f now here w (queued name ask since body) fs ps)
+    first wakes.sees h =
+        subst (λ (o : Option Label). First wakes.sees (wakes.leaves_the_queue o (inside fs here) ask since now.at cancelled fs ps)) (sym label) ([], refl, refl)
+    first wakes.is_due h =
+        subst (λ (o : Option Label). First wakes.is_due (wakes.leaves_the_queue o (inside fs here) ask since now.at
+        (raised (codes "Deadlock") here.task (tick_of here.clock now.at)) fs ps)) (sym label) ([], refl, refl)
+    first (wakes.is_granted what) h =
+        subst (λ (o : Option Label). First (wakes.is_granted what) (wakes.granted_on o (inside fs here) ask since now.at body what fs ps)) (sym label)
+        (granted what)
+    first wakes.begins h = absurd h
+    first wakes.gives_up h = absurd h
+    first (wakes.has_answer a) h = absurd h
+    first (wakes.settles exc) h = absurd h
+
+left_in_time : (w : Wake) (t : ℕ) → LeavesIn t (left_by w t)
+left_in_time (wakes.is_granted what) t = tt
+left_in_time wakes.sees t = refl
+left_in_time wakes.is_due t = refl
+left_in_time wakes.begins t = refl
+left_in_time wakes.gives_up t = refl
+left_in_time (wakes.has_answer a) t = refl
+left_in_time (wakes.settles exc) t = refl
+
+-- ---- a turn
+
+module _ (k : Tables) (job : Job) (input : List ℕ) (t m s : ℕ) (old new : RunState) (before after : Task) (stop : Stop)
+    (settled : IsSettledBy k job input) (names : GivesNamesOnce job) (starting : StartsInNurseries job) (c : Refines k job input t m None old)
+    (T : Turning k job input t m s old new c.numbers before after stop c.interleaving)
+  where
+  abbrev at : ℕ → Started
+  at = c.interleaving.at
+
+  abbrev at' : ℕ → Started
+  at' = T.is.at
+
+  abbrev qs : List Started
+  qs = c.interleaving.tasks
+
+  abbrev qs' : List Started
+  qs' = T.is.tasks
+
+  abbrev q : Started
+  q = c.interleaving.at s
+
+  abbrev f : Table
+  f = c.interleaving.cancelled_from
+
+  mover : Follows old f input t at c.numbers None s before
+  mover = c.follows s before T.code.task
+
+  there : IsAmong q qs
+  there = (c.interleaving.has s T.below).0
+
+  order : (taken : List Started) × InOrder qs (0 ∷ []) taken
+  order = orders_exist k job input names starting settled f t m qs c.interleaving.reached
+
+  tick : old.world.tick ≡ t
+  tick = c.tick
+
+  tick' : new.world.tick ≡ t
+  tick' = ap (λ (w : World). w.tick) T.code.world ∙ c.tick
+
+  through' : new.through ≡ t
+  through' = T.code.through_after ∙ T.code.unserved
+
+  -- ---- where the task was in a queue
+
+  record InQueue (name : List ℕ) (wanted : Ask) (since : ℕ) (body : Steps) : Type 0 where
+    label : Label
+    named : label_among true name q.places ≡ Some label
+    past : since < t
+    left : Tick
+    leaves : LeavesIn t left
+    first : Begins (acts label since (asks wanted (inside q.rest.frames q.here).part left)) T.move.made
+    granted : left ≡ None → (w : What) × (old.granted s ≡ Some w)
+    state : (key : ℕ) × (a : Ask) × (steps : Bor Steps) × (before.task_state ≡ Queued key a since steps)
+
+  module _ (name : List ℕ) (wanted : Ask) (since : ℕ) (body : Steps) (is : q.rest.stopped ≡ queued name wanted since body) where
+    shared : GrantedAt old order.0 s q (queued name wanted since body)
+    shared = subst (GrantedAt old order.0 s q) is (c.shares.granted order.0 order.1 s T.below)
+
+    by_label : (o : Option Label) → label_among true name q.places ≡ o → IsSome o → (l : Label) × (label_among true name q.places ≡ Some l)
+    by_label None e h = absurd h
+    by_label (Some l) e h = (l, e)
+
+    its_label : (l : Label) × (label_among true name q.places ≡ Some l)
+    its_label =
+        by_label (label_among true name q.places) refl
+        (subst (λ (x : Stopped). PlacedStop x q.rest.frames q.places) is
+        (subst (λ (gs : List Frame). PlacedStop q.rest.stopped gs q.places) mover.frames mover.stands.placed)).0
+
+    abbrev Its : Wake → Type 0
+    Its w = (since < t) × IsOfQueue w × (left_by w t ≡ None → (x : What) × (old.granted s ≡ Some x))
+
+    by_wake : (key : ℕ) (a : Ask) (v : ℕ) (steps : Bor Steps) → v ≡ since → (w : code.Wake) → WakesFrom (Queued key a v steps) (lent_of before) old.world.book w →
+        IsTimely old.world (old.granted s) (scope_of before) (Queued key a v steps) w → Its (wake_in old.world.book (Queued key a v steps) w)
+    by_wake key a v steps e kinds.Due fits timely =
+        ((let g : v < old.world.tick = timely.1 in omega (arith, g, e, tick)), tt, λ z. absurd (not_both z refl))
+    by_wake key a v steps e kinds.Seen fits timely =
+        ((let g : v < old.world.tick = timely.1 in omega (arith, g, e, tick)), tt, λ z. absurd (not_both z refl))
+    by_wake key a v steps e (kinds.Granted grant) fits timely = (by_order (cases_lt since t), tt, λ z. (what_in grant, timely))
+      where
+        by_order : (since < t) ⊎ (t ≤ since) → since < t
+        by_order (inl lt) = lt
+        by_order (inr le) = absurd (not_both (shared.1 (subst (λ (x : ℕ). x ≤ since) (sym T.code.unserved) le)) timely)
+    by_wake key a v steps e kinds.Begin fits timely = absurd fits
+    by_wake key a v steps e (kinds.Answer answer) fits timely = absurd fits
+    by_wake key a v steps e kinds.Settled fits timely = absurd fits
+
+    by_state : (task_state : TaskState) → before.task_state ≡ task_state → IsTaskState (c.numbers s) old.world.book task_state (queued name wanted since body) →
+        (WakesFrom task_state (lent_of before) old.world.book T.woken_by) → IsTimely old.world (old.granted s) (scope_of before) task_state T.woken_by →
+        Its (wake_in old.world.book task_state T.woken_by) × ((key : ℕ) × (a : Ask) × (steps : Bor Steps) × (before.task_state ≡ Queued key a since steps))
+    by_state (Queued key a v steps) e h fits timely =
+        (by_wake key a v steps h.1 T.woken_by fits timely, (key, a, steps, e ∙ ap (λ (x : ℕ). Queued key a x steps) h.1))
+    by_state (ToBegin v) e h fits timely = absurd h
+    by_state (Asked kernel purpose) e h fits timely = absurd h
+    by_state (Asleep paced ticks v) e h fits timely = absurd h
+    by_state (Waiting key v) e h fits timely = absurd h
+    by_state (GivingUp v) e h fits timely = absurd h
+    by_state (Awaits id v) e h fits timely = absurd h
+    by_state Over e h fits timely = absurd h
+
+    in_queue : InQueue name wanted since body
+    in_queue =
+        let x = by_state before.task_state refl
+        (subst (λ (z : Stopped). IsTaskState (c.numbers s) old.world.book before.task_state z) is mover.task_state) T.code.goes.fits T.code.goes.timely in
+        let its : Its T.wake = subst Its (sym T.woken) x.0 in
+        record {
+          label = its_label.0;
+          named = its_label.1;
+          past = its.0;
+          left = left_by T.wake t;
+          leaves = left_in_time T.wake t;
+          first =
+              subst (λ (o : Move). Begins (acts its_label.0 since (asks wanted (inside q.rest.frames q.here).part (left_by T.wake t))) o.made) (sym T.turned)
+              (subst (λ (z : Stopped). Begins (acts its_label.0 since (asks wanted (inside q.rest.frames q.here).part (left_by T.wake t)))
+              (turn_from T.steps f (record { at = t; own = T.own }) q.here T.wake z q.rest.frames q.places q.count).made) (sym is)
+              (made_first T.steps f (record { at = t; own = T.own }) q.here T.wake name wanted since body q.rest.frames q.places q.count its_label.0 its.1
+              its_label.1));
+          granted = its.2;
+          state = x.1;
+        }
+
+  asked_earlier : (stopped : Stopped) → q.rest.stopped ≡ stopped → AskedEarlier t stopped
+  asked_earlier (queued name wanted since body) is = (in_queue name wanted since body is).past
+  asked_earlier rest.to_begin is = tt
+  asked_earlier (rest.asking kernel purpose) is = tt
+  asked_earlier (rest.asleep paced n since) is = tt
+  asked_earlier (rest.waiting_for event since) is = tt
+  asked_earlier (rest.giving_up since) is = tt
+  asked_earlier (rest.awaiting children ended exc) is = tt
+  asked_earlier (rest.at_end u e) is = tt
+
+  earlier : AskedEarlier t q.rest.stopped
+  earlier = asked_earlier q.rest.stopped refl
