@@ -34,7 +34,7 @@ use Rattle.job_meaning.proofs.Distinct.{same_label_equal, same_label_itself}
 use Rattle.turn_semantics.specs.Lists.{Each, IsAmong}
 use Rattle.turn_semantics.specs.Midway.{Place, label_among, Tables, Begun, Move, then_move}
 use Rattle.turn_semantics.specs.Placed.{IsSome, PlacedStop}
-use Rattle.turn_semantics.specs.Turned.{MadeAt, AsksNothing, LeavesIn, AsksFirst, AskedFirst, StopsAt}
+use Rattle.turn_semantics.specs.Turned.{labels_of, MadeAt, AsksNothing, LeavesIn, AsksFirst, AskedFirst, StopsAt}
 use Rattle.turn_semantics.specs.Wakes as wakes
 use Rattle.turn_semantics.specs.Wakes.{Wake, turn_from, wake_of}
 use Rattle.task_machine.specs.declared.stop.Stop.{Stop}
@@ -45,7 +45,17 @@ use Rattle.task_machine.specs.declared.stop.TaskState.TheVariants.{ToBegin, Aske
 use Rattle.task_machine.specs.declared.task.Task.{Task}
 use Rattle.task_machine.specs.declared.world.World.{World}
 use Rattle.task_machine.specs.Serving.{Acted, acted_of, acts_to_serve}
-use Rattle.task_machine.specs.Stops.{Numbers, IsTaskState}
+use Rattle.task_machine.specs.Frames.{frames_of}
+use Rattle.task_machine.specs.Standing.{here_of}
+use Rattle.task_machine.specs.Stacked.{AwaitsEvent}
+use Rattle.task_machine.specs.Worlds.{label_at}
+use Rattle.task_machine.proofs.FrameLemmas.{cuts_inside}
+use Rattle.task_machine.specs.declared.serving.ObjectAct.{ObjectAct}
+use Rattle.task_machine.specs.declared.stop.ObjectRequest.{ObjectRequest}
+use Rattle.task_machine.specs.declared.stop.Stop.TheVariants as stops
+use Rattle.turn_semantics.specs.Steps.{cancelled_from_after}
+use Rattle.input_lines.specs.declared.part.Part.{Part}
+use Rattle.task_machine.specs.Stops.{Numbers, IsTaskState, IsReturned, StopsAs}
 use Rattle.task_machine.specs.Tasks.{scope_of, lent_of}
 use Rattle.task_machine.specs.Waking.{WakesFrom, wake_in}
 use Rattle.interleavings.specs.Interleaving.{Started, StartsChild}
@@ -58,22 +68,23 @@ use Rattle.interleavings.proofs.Ordering.{orders_exist}
 use Rattle.interleavings.proofs.Running.{runs_keep_invariant}
 use Rattle.run_refinement.specs.RunState.{RunState, Refines, Follows, GrantedAt, Shares}
 use Rattle.run_refinement.specs.Ready.{IsTimely, MayGo}
-use Rattle.run_refinement.specs.Sharing.{RoundAct, done_by, done_before, done_from, object_after, waits_in, waits_by, is_queued, Waiter, waiter_of, waiter_in, asked_before, SameObject, AreAskedBefore, AsksBefore, asked_at, round_act, asked_by}
+use Rattle.run_refinement.specs.Sharing.{RoundAct, done_by, done_before, done_from, object_after, waits_in, waits_by, is_queued, Waiter, waiter_of, waiter_in, asked_before, SameObject, AreAskedBefore, AsksBefore, asked_at, round_act, asked_by, asked_of}
 use Rattle.run_refinement.specs.Turn.{child_at, serials_from}
 use Rattle.run_refinement.specs.Turning.{Turning}
 use Rattle.run_refinement.proofs.ActsKeep.{not_both, same_or}
 use Rattle.run_refinement.proofs.AlikeActs.{known_left, left_if, now_left, as_before, same_left, same_before, Alike, alike_append, alike_fixed, alike_late, other_label, made_fixed, before_fixed, made_late, asked_left}
 use Rattle.run_refinement.proofs.Children.{made_join, made_before, made_now}
 use Rattle.run_refinement.proofs.Counts.{count, of_asker, in_object}
-use Rattle.run_refinement.proofs.DoneLists.{each_weaker, each_filter, sorted_each}
+use Rattle.run_refinement.proofs.DoneLists.{each_weaker, each_filter, sorted_each, from_append}
 use Rattle.run_refinement.proofs.EventPlaces.{has_event}
+use Rattle.run_refinement.proofs.Found.{nth}
 use Rattle.run_refinement.proofs.Gone.{asked_then, none_queued, acts_label}
 use Rattle.run_refinement.proofs.Grants.{granted_in}
 use Rattle.run_refinement.proofs.JumpsOn.{is_late, left_after, no_late_object, taken_in}
 use Rattle.run_refinement.proofs.LabelsApart.{below_of}
 use Rattle.run_refinement.proofs.Orders.{one_has_label, labels_differ, all_are_taken, all_born}
 use Rattle.run_refinement.proofs.OtherAskers.{done_with, object_with, IsSameAsker, sorted_with, objects_with}
-use Rattle.run_refinement.proofs.RoundLists.{AskedEarlier, done_by_append, done_by_none, round_acted, turn_round, pending_past, pending_round}
+use Rattle.run_refinement.proofs.RoundLists.{AskedEarlier, done_acted, done_by_append, done_by_none, round_acted, turn_round, pending_past, pending_round}
 use Rattle.run_refinement.proofs.RunFacts.{IsBy, DoneBy, all_by, all_acts_by, each_append}
 use Rattle.run_refinement.proofs.TurnedObjects.{EachTicket, EachAsker, tickets_weaker, askers_weaker, askers_all, askers_none, left_in, object_left, tickets_wait, object_turned}
 
@@ -333,3 +344,166 @@ module _ (k : Tables) (job : Job) (input : List ℕ) (t m s : ℕ) (old new : Ru
 
   earlier : AskedEarlier t q.rest.stopped
   earlier = asked_earlier q.rest.stopped refl
+
+  -- ---- what it does in this moment
+
+  stops_now : StopsAt q.here.clock t (cancelled_from_after f T.move.made) (Some T.stopped) T.move.places
+  stops_now = subst (λ (o : Option Stopped). StopsAt q.here.clock t (cancelled_from_after f T.move.made) o T.move.places) T.stops T.promise.stops
+
+  blocks_on : IsTaskState T.took.numbers_after new.world.book after.task_state T.stopped
+      × IsReturned old.world.clock (lent_of after) stop after.task_state T.stopped
+  blocks_on = subst (λ (o : Option Stopped). StopsAs old.world.clock T.took.numbers_after new.world.book (lent_of after) stop after.task_state o) T.stops
+      T.took.moves.1
+
+  abbrev made : Label → List Done
+  made l = acts_made l q.here.task q.made
+
+  abbrev more : Label → List Done
+  more l = acts_made l q.here.task T.move.made
+
+  abbrev pending : Label → List Done
+  pending l = acts_pending l q.here q.rest.frames q.places q.rest.stopped
+
+  abbrev pending' : Label → List Done
+  pending' l = acts_pending l q.here T.move.frames T.move.places T.stopped
+
+  acts_after : (l : Label) → acts_of l (at' s) ≡ made l ++ (more l ++ pending' l)
+  acts_after l =
+      ap (acts_of l) T.of_task
+      ∙ (ap (λ (ds : List Done). ds ++ pending' l) (acts_join l q.here.task q.made T.move.made) ∙ append_assoc (made l) (more l) (pending' l))
+
+  label_after : (at' s).here.task ≡ q.here.task
+  label_after = ap (λ (x : Started). x.here.task) T.of_task
+
+  frames_are : frames_of T.took.numbers_after after.frames.items ≡ T.move.frames
+  frames_are = T.took.frames_after
+
+  part_now : (lent_of after).range ≡ (inside T.move.frames q.here).part
+  part_now =
+      sym (cuts_inside T.took.numbers_after after.frames.items (buffer_of after.part) (range_of after.part))
+      ∙ (ap (λ (gs : List Frame). (inside gs (here_of old.world.clock after)).part) frames_are
+      ∙ (ap (λ (p : Part). (inside T.move.frames (record (here_of old.world.clock after) { input = buffer_of p; part = range_of p })).part)
+      (ap (λ (x : Task). x.part) T.code.stays)
+      ∙ ap (λ (h : Here). (inside T.move.frames h).part) (here_stays ∙ mover.here)))
+    where
+      here_stays : record (here_of old.world.clock after) { input = buffer_of before.part; part = range_of before.part } ≡ here_of old.world.clock before
+      here_stays = ap (λ (l : Label). record (here_of old.world.clock before) { task = l; path = l.indices }) (ap (λ (x : Task). x.label) T.code.stays)
+
+  pending_now : (l : Label) → done_from t (pending' l) ≡ done_by s l t q.here.task (asked_by s after (label_at new.world) stop)
+  pending_now l =
+      pending_round s l t q.here T.move.frames T.move.places after (label_at new.world) (outer_of new.world.scopes (scope_of after)) old.world.clock
+      T.took.numbers_after new.world.book q.here.clock (cancelled_from_after f T.move.made) (lent_of after) stop after.task_state T.stopped blocks_on.0 blocks_on.1
+      stops_now
+      (subst (λ (o : Option Stopped). AwaitsEvent (label_at new.world) (outer_of new.world.scopes (scope_of after)) o after.task_state T.move.places) T.stops
+      T.took.event)
+      part_now
+
+  abbrev noted_now : List RoundAct
+  noted_now = map (round_act s) new.world.acts.items
+
+  abbrev asked_now : List RoundAct
+  asked_now = asked_by s after (label_at new.world) stop
+
+  noted_acts : map acted_of new.world.acts.items ≡ acts_to_serve T.move.made
+  noted_acts = T.took.served ∙ ap (λ (xs : List ObjectAct). map acted_of xs ++ acts_to_serve T.move.made) T.code.none_done
+
+  more_now : (l : Label) → done_from t (more l) ≡ done_by s l t q.here.task noted_now
+  more_now l =
+      turn_round q.here.clock t (labels_of q.places) q.here q.rest.frames q.places q.rest.stopped l q.here.task T.move.made earlier T.promise.made_now
+      T.promise.asked
+      ∙ sym (round_acted s l t q.here.task new.world.acts.items ∙ ap (done_acted l t q.here.task) noted_acts)
+
+  old_round : (p : ℕ) → p < m → (l : Label) → done_from t (acts_of l (at p)) ≡ done_by p l t (at p).here.task old.round
+  old_round p below l =
+      ap (λ (v : ℕ). done_from v (acts_of l (at p))) (sym T.code.unserved) ∙ (c.shares.round p below l
+      ∙ ap (λ (v : ℕ). done_by p l v (at p).here.task old.round) tick)
+
+  made_now' : (l : Label) → done_from t (made l) ≡ done_by s l t q.here.task old.round
+  made_now' l =
+      sym (append-nil (done_from t (made l)))
+      ∙ (ap (λ (ds : List Done). done_from t (made l) ++ ds) (sym (pending_past t l q.here q.rest.frames q.places q.rest.stopped earlier))
+      ∙ (sym (from_append t (made l) (pending l)) ∙ old_round s T.below l))
+
+  mover_round : (l : Label) → done_from t (acts_of l (at' s)) ≡ done_by s l t q.here.task new.round
+  mover_round l =
+      ap (done_from t) (acts_after l)
+      ∙ (from_append t (made l) (more l ++ pending' l)
+      ∙ (ap (λ (ds : List Done). done_from t (made l) ++ ds) (from_append t (more l) (pending' l))
+      ∙ (ap (λ (ds : List Done). ds ++ (done_from t (more l) ++ done_from t (pending' l))) (made_now' l)
+      ∙ (ap (λ (ds : List Done). done_by s l t q.here.task old.round ++ (ds ++ done_from t (pending' l))) (more_now l)
+      ∙ (ap (λ (ds : List Done). done_by s l t q.here.task old.round ++ (done_by s l t q.here.task noted_now ++ ds)) (pending_now l)
+      ∙ (ap (λ (ds : List Done). done_by s l t q.here.task old.round ++ ds) (sym (done_by_append s l t q.here.task noted_now asked_now))
+      ∙ (sym (done_by_append s l t q.here.task old.round (noted_now ++ asked_now))
+      ∙ ap (done_by s l t q.here.task) (sym T.code.round_after))))))))
+
+  -- each act that it noted is its own
+  mine : Each (λ (a : RoundAct). a.serial ≡ s) (noted_now ++ asked_now)
+  mine = each_append (λ (a : RoundAct). a.serial ≡ s) noted_now asked_now (of_items new.world.acts.items) (of_stop stop)
+    where
+      of_items : (items : List ObjectAct) → Each (λ (a : RoundAct). a.serial ≡ s) (map (round_act s) items)
+      of_items [] = tt
+      of_items (a ∷ items) = (refl, of_items items)
+
+      of_label : (request : ObjectRequest) (o : Option Label) → Each (λ (a : RoundAct). a.serial ≡ s) (asked_of s request o)
+      of_label request None = tt
+      of_label request (Some l) = (refl, tt)
+
+      of_stop : (stop : Stop) → Each (λ (a : RoundAct). a.serial ≡ s) (asked_by s after (label_at new.world) stop)
+      of_stop (stops.Queue request) = of_label request (label_at new.world request.object)
+      of_stop (stops.Ask request) = tt
+      of_stop (stops.Sleep due) = tt
+      of_stop (stops.WaitFor event) = tt
+      of_stop (stops.GiveUp due) = tt
+      of_stop (stops.Wait id) = tt
+      of_stop (stops.Ended exc) = tt
+
+  other_round : (p : ℕ) → p ≢ s → (l task : Label) → done_by p l t task new.round ≡ done_by p l t task old.round
+  other_round p differs l task =
+      ap (done_by p l t task) T.code.round_after
+      ∙ (done_by_append p l t task old.round (noted_now ++ asked_now)
+      ∙ (ap (λ (ds : List Done). done_by p l t task old.round ++ ds)
+      (done_by_none p l t task (noted_now ++ asked_now)
+      (each_weaker (λ (a : RoundAct). a.serial ≡ s) (λ (a : RoundAct). a.serial ≢ p) (noted_now ++ asked_now) (λ a e g. differs (sym g ∙ e)) mine))
+      ∙ append-nil (done_by p l t task old.round)))
+
+  -- a serial number is that of the task, of one that was there, or of a new one
+  abbrev Whose : ℕ → Type 0
+  Whose p = (p ≡ s) ⊎ (((p < m) × (p ≢ s)) ⊎ ((i : ℕ) × (m + i ≡ p)))
+
+  whose : (p : ℕ) → Whose p
+  whose p = by_order (same_or p s) (cases_lt p m)
+    where
+      by_order : (p ≡ s) ⊎ (p ≢ s) → (p < m) ⊎ (m ≤ p) → Whose p
+      by_order (inl e) o = inl e
+      by_order (inr differs) (inl below) = inr (inl (below, differs))
+      by_order (inr differs) (inr le) = inr (inr (p - m, omega (arith, le)))
+
+  -- a new child has done nothing
+  born : (i : ℕ) → i < length T.move.begun → (b : Begun) × (at' (m + i) ≡ child_at k (a_round_after q.here.clock t) (m + i) b)
+  born i lt = let b = nth T.move.begun i lt in (b.0, T.of_child i b.0 b.1)
+
+  round_then : (p : ℕ) → p < m + length T.move.begun → (l : Label) →
+      done_from new.through (acts_of l (at' p)) ≡ done_by p l new.world.tick (at' p).here.task new.round
+  round_then p less l =
+      ap (λ (v : ℕ). done_from v (acts_of l (at' p))) through'
+      ∙ (by_whose (whose p) ∙ ap (λ (v : ℕ). done_by p l v (at' p).here.task new.round) (sym tick'))
+    where
+      Round : ℕ → Type 0
+      Round p = done_from t (acts_of l (at' p)) ≡ done_by p l t (at' p).here.task new.round
+
+      by_whose : Whose p → Round p
+      by_whose (inl e) = subst Round (sym e) (mover_round l ∙ ap (λ (x : Label). done_by s l t x new.round) (sym label_after))
+      by_whose (inr (inl o)) =
+          subst (λ (x : Started). done_from t (acts_of l x) ≡ done_by p l t x.here.task new.round) (sym (T.of_other p o.0 o.1))
+          (old_round p o.0 l ∙ sym (other_round p o.1 l (at p).here.task))
+      by_whose (inr (inr i)) =
+          let b = born i.0 (let e = i.1 in omega (arith, e, less)) in
+          let differs : m + i.0 ≢ s = λ e. absurd (let low = T.below in omega (arith, e, low)) in
+          subst Round i.1
+          (ap (λ (x : Started). done_from t (acts_of l x)) b.1
+          ∙ sym (other_round (m + i.0) differs l (at' (m + i.0)).here.task ∙ done_by_none (m + i.0) l t (at' (m + i.0)).here.task old.round
+          (none_new old.round (λ a j. c.shares.known a j))))
+        where
+          none_new : (xs : List RoundAct) → ((a : RoundAct) → IsAmong a xs → a.serial < m) → Each (λ (a : RoundAct). a.serial ≢ m + i.0) xs
+          none_new [] h = tt
+          none_new (a ∷ xs) h = ((λ e. absurd (let low = h a (inl refl) in omega (arith, e, low))), none_new xs (λ b j. h b (inr j)))
