@@ -59,7 +59,7 @@ use Rattle.task_machine.specs.Stops.{Numbers, IsTaskState, IsReturned, StopsAs}
 use Rattle.task_machine.specs.Tasks.{scope_of, lent_of}
 use Rattle.task_machine.specs.Waking.{WakesFrom, wake_in}
 use Rattle.interleavings.specs.Interleaving.{Started, StartsChild}
-use Rattle.interleavings.specs.Acts.{acts_made, acts_pending, acts_of, acts_of_all, InOrder, all_taken, next_taken, granted_so_far}
+use Rattle.interleavings.specs.Acts.{acts_made, acts_pending, acts_of, acts_of_all, InOrder, all_taken, next_taken, granted_so_far, asked_on}
 use Rattle.interleavings.specs.Going.{task_after_turn, child_from}
 use Rattle.interleavings.specs.Laws.{IsSettledBy}
 use Rattle.interleavings.specs.Rows.{children_made}
@@ -87,6 +87,7 @@ use Rattle.run_refinement.proofs.OtherAskers.{done_with, object_with, IsSameAske
 use Rattle.run_refinement.proofs.RoundLists.{AskedEarlier, done_acted, done_by_append, done_by_none, round_acted, turn_round, pending_past, pending_round}
 use Rattle.run_refinement.proofs.RunFacts.{IsBy, DoneBy, all_by, all_acts_by, each_append}
 use Rattle.run_refinement.proofs.TurnedObjects.{EachTicket, EachAsker, tickets_weaker, askers_weaker, askers_all, askers_none, left_in, object_left, tickets_wait, object_turned}
+use Rattle.task_machine.proofs.Stacked.{one_of}
 
 -- ---- the turn of a task that was in a queue
 
@@ -507,3 +508,257 @@ module _ (k : Tables) (job : Job) (input : List ℕ) (t m s : ℕ) (old new : Ru
           none_new : (xs : List RoundAct) → ((a : RoundAct) → IsAmong a xs → a.serial < m) → Each (λ (a : RoundAct). a.serial ≢ m + i.0) xs
           none_new [] h = tt
           none_new (a ∷ xs) h = ((λ e. absurd (let low = h a (inl refl) in omega (arith, e, low))), none_new xs (λ b j. h b (inr j)))
+
+  -- ---- what was done before this moment
+
+  pending_late : (l : Label) → Each (λ (d : Done). t ≤ d.at) (pending' l)
+  pending_late l = of_stop T.stopped stops_now
+    where
+      of_label : (o : Option Label) (wanted : Ask) (since : ℕ) → since ≡ t →
+          Each (λ (d : Done). t ≤ d.at) (asked_on l o q.here.task (inside T.move.frames q.here) wanted since)
+      of_label None wanted since e = tt
+      of_label (Some n) wanted since e = by_test (same_label l n)
+        where
+          by_test : (b : Bool) → Each (λ (d : Done). t ≤ d.at)
+              (done_if b (record { at = since; task = q.here.task; act = asks wanted (inside T.move.frames q.here).part None }) [])
+          by_test true = (omega (arith, e), tt)
+          by_test false = tt
+
+      of_stop : (x : Stopped) → StopsAt q.here.clock t (cancelled_from_after f T.move.made) (Some x) T.move.places →
+          Each (λ (d : Done). t ≤ d.at) (acts_pending l q.here T.move.frames T.move.places x)
+      of_stop (queued name wanted since body) h = of_label (label_among true name T.move.places) wanted since h.0
+      of_stop rest.to_begin h = tt
+      of_stop (rest.asking kernel purpose) h = tt
+      of_stop (rest.asleep paced n since) h = tt
+      of_stop (rest.waiting_for event since) h = tt
+      of_stop (rest.giving_up since) h = tt
+      of_stop (rest.awaiting children ended exc) h = tt
+      of_stop (rest.at_end u e) h = tt
+
+  -- what is known of the task that had its turn: whom it was in the queues, and who is left there
+  record Turns : Type 0 where
+    other : Asker → Asker
+    same : IsSameAsker t other
+    weaker : (a : Asker) → stays_at t (other a) ≡ true → stays_at t a ≡ true
+    keep : Waiter → Bool
+    own : (l : Label) → Alike other t (acts_of l q) (acts_of l (at' s))
+    others : (d : Done) → (q.here.task ≡ d.task → ⊥) → done_with other d ≡ d
+    tickets : (ticket : Ticket) → waits_in old.task ticket ≡ true → keep (waiter_of at ticket) ≡ not (ticket.row == s)
+    askers : (taken : List Started) → InOrder qs (0 ∷ []) taken → (l : Label) →
+        EachAsker (λ a. stays_at t a ≡ true → keep (waiter_in a) ≡ stays_at t (other a)) (object_after unopened (by_moment (done_before t (acts_of_all l taken))))
+
+  -- a ticket that waits is of a task that is in a queue since its moment
+  ticket_task : (ticket : Ticket) → waits_in old.task ticket ≡ true → (task : Task) × (old.task ticket.row ≡ Some task) × (is_queued task.task_state ticket.since ≡ true)
+  ticket_task ticket h = by_task (old.task ticket.row) refl h
+    where
+      by_task : (o : Option Task) → old.task ticket.row ≡ o → waits_by o ticket.since ≡ true →
+          (task : Task) × (old.task ticket.row ≡ Some task) × (is_queued task.task_state ticket.since ≡ true)
+      by_task None e g = absurd (let z : false ≡ true = g in cc)
+      by_task (Some task) e g = (task, e, g)
+
+  not_row : (ticket : Ticket) → ticket.row ≢ s → not (ticket.row == s) ≡ true
+  not_row ticket differs = ap not (by_test (ticket.row == s) refl)
+    where
+      by_test : (b : Bool) → (ticket.row == s) ≡ b → (ticket.row == s) ≡ false
+      by_test false e = e
+      by_test true e = absurd (differs (eqb-true ticket.row s e))
+
+  own_row : (ticket : Ticket) → ticket.row ≡ s → not (ticket.row == s) ≡ false
+  own_row ticket e = ap (λ (n : ℕ). not (n == s)) e ∙ ap not (eq-eqb s s refl)
+
+  other_task : (p : ℕ) → p < m → p ≢ s → q.here.task ≡ (at p).here.task → ⊥
+  other_task p below differs e =
+      differs (sym (c.interleaving.has p below).1 ∙ (sym (labels_differ k job input f t m qs settled names starting c.interleaving.reached order.0 order.1 q (at p)
+      there (c.interleaving.has p below).0 e) ∙ (c.interleaving.has s T.below).1))
+
+  own_made : (v : ℕ) → AsksBefore v q.made → (label : Label) (left : Tick) (l : Label) → Alike (now_left label v left) t (made l) (made l)
+  own_made v h label left l = alike_fixed (now_left label v left) t (made l) (made_fixed l q.here.task label v left q.made h)
+
+  -- a task in no queue leaves none
+  in_none : (pending_none : (l : Label) → pending l ≡ []) → AsksNothing T.move.made → ((ticket : Ticket) → waits_in old.task ticket ≡ true → ticket.row ≢ s) → Turns
+  in_none pending_none asks_none no_ticket =
+      record {
+        other = as_before;
+        same = same_before t;
+        weaker = λ a h. h;
+        keep = λ w. true;
+        own = λ l.
+            subst (λ (ds : List Done). Alike as_before t ds (acts_of l (at' s))) (sym (ap (λ (ds : List Done). made l ++ ds) (pending_none l)))
+            (subst (λ (ds : List Done). Alike as_before t (made l ++ []) ds) (sym (acts_after l))
+            (alike_append as_before t (made l) (made l) [] (more l ++ pending' l) (alike_fixed as_before t (made l) (before_fixed (made l)))
+            (alike_late as_before t (more l ++ pending' l)
+            (each_append (λ (d : Done). t ≤ d.at) (more l) (pending' l)
+            (made_late q.here.clock t (labels_of q.places) l q.here.task T.move.made T.promise.made_now asks_none) (pending_late l)))));
+        others = λ d e. each_first d;
+        tickets = λ ticket h. sym (not_row ticket (no_ticket ticket h));
+        askers = λ taken ord l. askers_all (λ a. stays_at t a ≡ true → true ≡ stays_at t a) _ (λ a h. sym h);
+      }
+    where
+      each_first : (d : Done) → done_with as_before d ≡ d
+      each_first d = (before_fixed (d ∷ [])).0
+
+  -- one in a queue leaves it
+  in_one : (name : List ℕ) (wanted : Ask) (since : ℕ) (body : Steps) → q.rest.stopped ≡ queued name wanted since body → Turns
+  in_one name wanted since body is =
+      record {
+        other = left_now;
+        same = same_left t q.here.task since x.left x.leaves;
+        weaker = λ a h. by_left (asked_then q.here.task since a.task a.at) a.left h;
+        keep = λ w. not (asked_then q.here.task since w.task w.since);
+        own = own_alike;
+        others = λ d e. other_label q.here.task since x.left d e;
+        tickets = its_tickets;
+        askers = its_askers x.left x.leaves refl x.granted;
+      }
+    where
+      x : InQueue name wanted since body
+      x = in_queue name wanted since body is
+
+      left_now : Asker → Asker
+      left_now = now_left q.here.task since x.left
+
+      before_since : AsksBefore since q.made
+      before_since = subst (λ (z : Stopped). AsksBefore (asked_at old.world.tick z) q.made) is (c.shares.once s T.below)
+
+      by_left : (b : Bool) (left : Tick) → not (is_reached (left_if b x.left left) t) ≡ true → not (is_reached left t) ≡ true
+      by_left false left h = h
+      by_left true None h = refl
+      by_left true (Some u) h = h
+
+      pending_is : (l : Label) → pending l ≡ done_if (same_label l x.label) (record { at = since; task = q.here.task; act = asks wanted (inside q.rest.frames q.here).part None }) []
+      pending_is l =
+          ap (λ (z : Stopped). acts_pending l q.here q.rest.frames q.places z) is
+          ∙ ap (λ (o : Option Label). asked_on l o q.here.task (inside q.rest.frames q.here) wanted since) x.named
+
+      asked_first : AsksFirst t (Some x.label) (inside q.rest.frames q.here) wanted since
+          (acts x.label since (asks wanted (inside q.rest.frames q.here).part x.left) ∷ x.first.0)
+      asked_first =
+          subst (λ (es : List Event). AsksFirst t (Some x.label) (inside q.rest.frames q.here) wanted since es) x.first.1
+          (subst (λ (o : Option Label). AsksFirst t o (inside q.rest.frames q.here) wanted since T.move.made) x.named
+          (subst (λ (z : Stopped). AskedFirst t q.here (Some z) q.rest.frames q.places T.move.made) is T.promise.asked))
+
+      made_others : MadeAt q.here.clock t (labels_of q.places) x.first.0
+      made_others = (subst (MadeAt q.here.clock t (labels_of q.places)) x.first.1 T.promise.made_now).1
+
+      more_is : (l : Label) → more l ≡ done_if (same_label l x.label)
+          (record { at = since; task = q.here.task; act = asks wanted (inside q.rest.frames q.here).part x.left }) [] ++ acts_made l q.here.task x.first.0
+      more_is l = ap (acts_made l q.here.task) x.first.1 ∙ split (same_label l x.label)
+        where
+          d : Done
+          d = record { at = since; task = q.here.task; act = asks wanted (inside q.rest.frames q.here).part x.left }
+
+          split : (b : Bool) → done_if b d (acts_made l q.here.task x.first.0) ≡ done_if b d [] ++ acts_made l q.here.task x.first.0
+          split true = refl
+          split false = refl
+
+      known_now : (left_now (record { task = q.here.task; at = since; left = None })).left ≡ x.left
+      known_now =
+          ap (λ (b : Bool). left_if (b && (since == since)) x.left None) (same_label_itself q.here.task)
+          ∙ ap (λ (b : Bool). left_if b x.left None) (eq-eqb since since refl)
+
+      own_alike : (l : Label) → Alike left_now t (acts_of l q) (acts_of l (at' s))
+      own_alike l =
+          subst (λ (ds : List Done). Alike left_now t (acts_of l q) ds) (sym (acts_after l))
+          (alike_append left_now t (made l) (made l) (pending l) (more l ++ pending' l) (own_made since before_since q.here.task x.left l)
+          (subst (λ (ds : List Done). Alike left_now t ds (more l ++ pending' l)) (append-nil (pending l))
+          (alike_append left_now t (pending l) (more l) [] (pending' l)
+          (subst (λ (ds : List Done). Alike left_now t ds (more l)) (sym (pending_is l) )
+          (subst (λ (ds : List Done). Alike left_now t (one l None) ds) (sym (more_is l))
+          (subst (λ (ds : List Done). Alike left_now t ds (one l x.left ++ acts_made l q.here.task x.first.0)) (append-nil (one l None))
+          (alike_append left_now t (one l None) (one l x.left) [] (acts_made l q.here.task x.first.0)
+          (asked_left left_now t since l q.here.task wanted (inside q.rest.frames q.here).part x.left (same_label l x.label) x.past known_now x.leaves)
+          (alike_late left_now t (acts_made l q.here.task x.first.0)
+          (made_late q.here.clock t (labels_of q.places) l q.here.task x.first.0 made_others asked_first.5))))))
+          (alike_late left_now t (pending' l) (pending_late l)))))
+        where
+          one : Label → Tick → List Done
+          one l left = done_if (same_label l x.label) (record { at = since; task = q.here.task; act = asks wanted (inside q.rest.frames q.here).part left }) []
+
+      its_tickets : (ticket : Ticket) → waits_in old.task ticket ≡ true →
+          not (asked_then q.here.task since (at ticket.row).here.task ticket.since) ≡ not (ticket.row == s)
+      its_tickets ticket h = by_row (same_or ticket.row s)
+        where
+          w : (task : Task) × (old.task ticket.row ≡ Some task) × (is_queued task.task_state ticket.since ≡ true)
+          w = ticket_task ticket h
+
+          by_row : (ticket.row ≡ s) ⊎ (ticket.row ≢ s) → not (asked_then q.here.task since (at ticket.row).here.task ticket.since) ≡ not (ticket.row == s)
+          by_row (inl e) =
+              ap not (ap (λ (n : ℕ). same_label q.here.task (at n).here.task && (since == ticket.since)) e
+              ∙ (ap (λ (b : Bool). b && (since == ticket.since)) (same_label_itself q.here.task) ∙ waits))
+              ∙ sym (own_row ticket e)
+            where
+              its : w.0 ≡ before
+              its = one_of w.0 before (sym w.1 ∙ (ap old.task e ∙ T.code.task))
+
+              waits : (since == ticket.since) ≡ true
+              waits = ap (λ (z : TaskState). is_queued z ticket.since) (sym (ap (λ (y : Task). y.task_state) its ∙ x.state.3)) ∙ w.2
+          by_row (inr differs) =
+              ap (λ (b : Bool). not (b && (since == ticket.since))) (other (same_label q.here.task (at ticket.row).here.task) refl) ∙ sym (not_row ticket differs)
+            where
+              other : (b : Bool) → same_label q.here.task (at ticket.row).here.task ≡ b → same_label q.here.task (at ticket.row).here.task ≡ false
+              other false e = e
+              other true e =
+                  absurd (other_task ticket.row (below_of c ticket.row w.0 w.1) differs (same_label_equal q.here.task (at ticket.row).here.task e))
+
+      -- where it gave up, it is in no queue any more
+      given_up : (u : ℕ) → u ≡ t → (b : Bool) (was : Tick) → left_after t was ≡ false → not (is_reached was t) ≡ true →
+          not b ≡ not (is_reached (left_if b (Some u) was) t)
+      given_up u e false was late stays = sym stays
+      given_up u e true None late stays = ap not (sym now)
+        where
+          now : is_reached (Some u) t ≡ true
+          now = grind (arith, nat_tests)
+      given_up u e true (Some v) late stays = absurd (let z : false ≡ true = sym (ap not now) ∙ stays in cc)
+        where
+          now : is_reached (Some v) t ≡ true
+          now = grind (arith, nat_tests)
+
+      Kept : Tick → Object → Type 0
+      Kept left o =
+          EachAsker (λ a. stays_at t a ≡ true → not (asked_then q.here.task since a.task a.at)
+          ≡ not (is_reached (left_if (asked_then q.here.task since a.task a.at) left a.left) t)) o
+
+      its_askers : (left : Tick) → LeavesIn t left → x.left ≡ left → (left ≡ None → (w : What) × (old.granted s ≡ Some w)) → (taken : List Started) →
+          InOrder qs (0 ∷ []) taken → (l : Label) → Kept x.left (object_after unopened (by_moment (done_before t (acts_of_all l taken))))
+      its_askers (Some u) leaves e granted taken ord l =
+          subst (λ (z : Tick). Kept z (object_after unopened (by_moment (done_before t (acts_of_all l taken))))) (sym e)
+          (askers_weaker (λ a. is_late t a ≡ false)
+          (λ a. stays_at t a ≡ true → not (asked_then q.here.task since a.task a.at)
+          ≡ not (is_reached (left_if (asked_then q.here.task since a.task a.at) (Some u) a.left) t))
+          (object_after unopened (by_moment (done_before t (acts_of_all l taken))))
+          (λ a late stays. given_up u leaves (asked_then q.here.task since a.task a.at) a.left late stays)
+          (askers_none (is_late t) (object_after unopened (by_moment (done_before t (acts_of_all l taken))))
+          (no_late_object t (done_before t (acts_of_all l taken)) before_by)))
+        where
+          done_by_now : Each (DoneBy t) (acts_of_all l taken)
+          done_by_now =
+              all_acts_by k t l taken (λ y i. all_by k job input settled names starting f t m qs c.interleaving.reached y (taken_in qs (0 ∷ []) taken ord y i))
+
+          before_by : Each (DoneBy t) (done_before t (acts_of_all l taken))
+          before_by =
+              each_weaker (λ (d : Done). DoneBy t d × (nat_lt d.at t ≡ true)) (DoneBy t) (done_before t (acts_of_all l taken)) (λ d g. g.0)
+              (each_filter (DoneBy t) (λ (d : Done). nat_lt d.at t) (acts_of_all l taken) done_by_now)
+      its_askers None leaves e granted taken ord l =
+          subst (λ (z : Tick). Kept z (object_after unopened (by_moment (done_before t (acts_of_all l taken))))) (sym e)
+          (askers_weaker (λ a. of_asker (asked_then q.here.task since) a ≡ false)
+          (λ a. stays_at t a ≡ true → not (asked_then q.here.task since a.task a.at)
+          ≡ not (is_reached (left_if (asked_then q.here.task since a.task a.at) None a.left) t))
+          (object_after unopened (by_moment (done_before t (acts_of_all l taken))))
+          (λ a none stays. ap not none ∙ (sym stays ∙ ap (λ (b : Bool). not (is_reached (left_if b None a.left) t)) (sym none)))
+          (askers_none (of_asker (asked_then q.here.task since)) (object_after unopened (by_moment (done_before t (acts_of_all l taken))))
+          (none_queued job t l x.label q name wanted since body (granted refl).0 taken is x.named before_since one
+          (one_has_label k job input f t m qs settled names starting c.interleaving.reached taken ord q.here.task) known)))
+        where
+          one : (y : Started) → IsAmong y taken → y.here.task ≡ q.here.task → y ≡ q
+          one y i g =
+              let j = taken_in qs (0 ∷ []) taken ord y i in
+              let same : y.serial ≡ s =
+              labels_differ k job input f t m qs settled names starting c.interleaving.reached order.0 order.1 y q j there g ∙ (c.interleaving.has s T.below).1 in
+              (c.interleaving.one y j).0 ∙ ap at same
+
+          known : granted_before (suc t) (granted_so_far taken x.label q.here.task since) ≡ granted_in t (Some (granted refl).0)
+          known =
+              subst (λ (v : ℕ). granted_before (suc v) (granted_so_far taken x.label q.here.task since) ≡ granted_in v (Some (granted refl).0)) T.code.unserved
+              ((subst (GrantedAt old taken s q) is (c.shares.granted taken ord s T.below)).0
+              (subst (λ (v : ℕ). since < v) (sym T.code.unserved) x.past) x.label x.named
+              ∙ ap (granted_in old.through) (granted refl).1)
