@@ -75,16 +75,19 @@ use Rattle.run_refinement.proofs.ActsKeep.{not_both, same_or}
 use Rattle.run_refinement.proofs.AlikeActs.{known_left, left_if, now_left, as_before, same_left, same_before, Alike, alike_append, alike_fixed, alike_late, other_label, made_fixed, before_fixed, made_late, asked_left}
 use Rattle.run_refinement.proofs.Children.{made_join, made_before, made_now}
 use Rattle.run_refinement.proofs.Counts.{count, of_asker, in_object}
-use Rattle.run_refinement.proofs.DoneLists.{each_weaker, each_filter, sorted_each, from_append}
+use Rattle.run_refinement.proofs.DoneLists.{all_kept, none_kept, each_weaker, each_filter, sorted_each, from_append}
 use Rattle.run_refinement.proofs.EventPlaces.{has_event}
 use Rattle.run_refinement.proofs.Found.{nth}
+use Rattle.run_refinement.proofs.Parts.{begun_at}
+use Rattle.task_machine.specs.Fitting.{blocks_of, waits_of}
+use Rattle.task_machine.specs.Standing.{IsBegun}
 use Rattle.run_refinement.proofs.Gone.{asked_then, none_queued, acts_label}
 use Rattle.run_refinement.proofs.Grants.{granted_in}
 use Rattle.run_refinement.proofs.JumpsOn.{is_late, left_after, no_late_object, taken_in}
 use Rattle.run_refinement.proofs.LabelsApart.{below_of}
-use Rattle.run_refinement.proofs.Orders.{one_has_label, labels_differ, all_are_taken, all_born}
+use Rattle.run_refinement.proofs.Orders.{Rises, one_has_label, labels_differ, all_are_taken, all_born}
 use Rattle.run_refinement.proofs.OtherAskers.{done_with, object_with, IsSameAsker, sorted_with, objects_with}
-use Rattle.run_refinement.proofs.RoundLists.{AskedEarlier, done_acted, done_by_append, done_by_none, round_acted, turn_round, pending_past, pending_round}
+use Rattle.run_refinement.proofs.RoundLists.{IsQueued, AskedEarlier, done_acted, done_by_append, done_by_none, round_acted, turn_round, pending_past, pending_round}
 use Rattle.run_refinement.proofs.RunFacts.{IsBy, DoneBy, all_by, all_acts_by, each_append}
 use Rattle.run_refinement.proofs.TurnedObjects.{EachTicket, EachAsker, tickets_weaker, askers_weaker, askers_all, askers_none, left_in, object_left, tickets_wait, object_turned}
 use Rattle.task_machine.proofs.Stacked.{one_of}
@@ -762,3 +765,302 @@ module _ (k : Tables) (job : Job) (input : List ℕ) (t m s : ℕ) (old new : Ru
               ((subst (GrantedAt old taken s q) is (c.shares.granted taken ord s T.below)).0
               (subst (λ (v : ℕ). since < v) (sym T.code.unserved) x.past) x.label x.named
               ∙ ap (granted_in old.through) (granted refl).1)
+
+  -- it is one of these
+  no_ticket : (stopped : Stopped) → (IsQueued stopped → ⊥) → q.rest.stopped ≡ stopped → (ticket : Ticket) → waits_in old.task ticket ≡ true → ticket.row ≢ s
+  no_ticket stopped not_queued is ticket h e =
+      by_state before.task_state stopped not_queued
+      (subst (λ (z : Stopped). IsTaskState (c.numbers s) old.world.book before.task_state z) is mover.task_state)
+      (ap (λ (y : Task). is_queued y.task_state ticket.since) (sym its) ∙ w.2)
+    where
+      w : (task : Task) × (old.task ticket.row ≡ Some task) × (is_queued task.task_state ticket.since ≡ true)
+      w = ticket_task ticket h
+
+      its : w.0 ≡ before
+      its = one_of w.0 before (sym w.1 ∙ (ap old.task e ∙ T.code.task))
+
+      by_state : (task_state : TaskState) (stopped : Stopped) → (IsQueued stopped → ⊥) → IsTaskState (c.numbers s) old.world.book task_state stopped →
+          is_queued task_state ticket.since ≡ true → ⊥
+      by_state (Queued key a v steps) (queued name wanted since body) never is g = never tt
+      by_state (Queued key a v steps) _ never is g = is
+      by_state (ToBegin v) x never is g = let z : false ≡ true = g in cc
+      by_state (Asked kernel purpose) x never is g = let z : false ≡ true = g in cc
+      by_state (Asleep paced ticks v) x never is g = let z : false ≡ true = g in cc
+      by_state (Waiting key v) x never is g = let z : false ≡ true = g in cc
+      by_state (GivingUp v) x never is g = let z : false ≡ true = g in cc
+      by_state (Awaits id v) x never is g = let z : false ≡ true = g in cc
+      by_state Over x never is g = let z : false ≡ true = g in cc
+
+  turns_by : (stopped : Stopped) → q.rest.stopped ≡ stopped → Turns
+  turns_by (queued name wanted since body) is = in_one name wanted since body is
+  turns_by rest.to_begin is =
+      in_none (λ l. ap (acts_pending l q.here q.rest.frames q.places) is)
+      (subst (λ (z : Stopped). AskedFirst t q.here (Some z) q.rest.frames q.places T.move.made) is T.promise.asked) (no_ticket rest.to_begin (λ z. z) is)
+  turns_by (rest.asking kernel purpose) is =
+      in_none (λ l. ap (acts_pending l q.here q.rest.frames q.places) is)
+      (subst (λ (z : Stopped). AskedFirst t q.here (Some z) q.rest.frames q.places T.move.made) is T.promise.asked)
+      (no_ticket (rest.asking kernel purpose) (λ z. z) is)
+  turns_by (rest.asleep paced n since) is =
+      in_none (λ l. ap (acts_pending l q.here q.rest.frames q.places) is)
+      (subst (λ (z : Stopped). AskedFirst t q.here (Some z) q.rest.frames q.places T.move.made) is T.promise.asked)
+      (no_ticket (rest.asleep paced n since) (λ z. z) is)
+  turns_by (rest.waiting_for event since) is =
+      in_none (λ l. ap (acts_pending l q.here q.rest.frames q.places) is)
+      (subst (λ (z : Stopped). AskedFirst t q.here (Some z) q.rest.frames q.places T.move.made) is T.promise.asked)
+      (no_ticket (rest.waiting_for event since) (λ z. z) is)
+  turns_by (rest.giving_up since) is =
+      in_none (λ l. ap (acts_pending l q.here q.rest.frames q.places) is)
+      (subst (λ (z : Stopped). AskedFirst t q.here (Some z) q.rest.frames q.places T.move.made) is T.promise.asked)
+      (no_ticket (rest.giving_up since) (λ z. z) is)
+  turns_by (rest.awaiting children ended exc) is =
+      in_none (λ l. ap (acts_pending l q.here q.rest.frames q.places) is)
+      (subst (λ (z : Stopped). AskedFirst t q.here (Some z) q.rest.frames q.places T.move.made) is T.promise.asked)
+      (no_ticket (rest.awaiting children ended exc) (λ z. z) is)
+  turns_by (rest.at_end u e) is =
+      in_none (λ l. ap (acts_pending l q.here q.rest.frames q.places) is)
+      (subst (λ (z : Stopped). AskedFirst t q.here (Some z) q.rest.frames q.places T.move.made) is T.promise.asked)
+      (no_ticket (rest.at_end u e) (λ z. z) is)
+
+  turns : Turns
+  turns = turns_by q.rest.stopped refl
+
+  -- ---- the order of the tasks before the turn
+
+  abbrev is_old : ℕ → Bool
+  is_old p = nat_lt p m
+
+  rises : (p : ℕ) → p < m → Rises m (children_made (at p).child (at p).made)
+  rises p below = (all_born k job input settled names starting f t m qs c.interleaving.reached (at p) (c.interleaving.has p below).0).rises
+
+  rises_old : (xs : List ℕ) → Rises m xs → Each (λ (n : ℕ). is_old n ≡ true) xs
+  rises_old [] h = tt
+  rises_old (x ∷ xs) h = (let lt : x < m = h.0 in grind (arith, nat_tests), rises_old xs h.2)
+
+  rises_among : (xs : List ℕ) → Rises m xs → (n : ℕ) → IsAmong n xs → n < m
+  rises_among [] h n i = absurd i
+  rises_among (x ∷ xs) h n (inl e) = let lt : x < m = h.0 in omega (arith, lt, e)
+  rises_among (x ∷ xs) h n (inr i) = rises_among xs h.2 n i
+
+  new_serials : (p n : ℕ) → m ≤ p → Each (λ (x : ℕ). is_old x ≡ false) (serials_from p n)
+  new_serials p zero le = tt
+  new_serials p (suc n) le = (grind (arith, nat_tests), new_serials (suc p) n (omega (arith, le)))
+
+  children_after : children_made (at' s).child (at' s).made ≡ children_made q.child q.made ++ serials_from m (length T.move.begun)
+  children_after =
+      ap (λ (x : Started). children_made x.child x.made) T.of_task
+      ∙ (made_join (child_from q.count q.child m) q.made T.move.made
+      ∙ (ap (λ (ns : List ℕ). ns ++ children_made (child_from q.count q.child m) T.move.made) (made_before q.count m q.child q.made numbered)
+      ∙ ap (λ (ns : List ℕ). children_made q.child q.made ++ ns)
+      (made_now q.count m 0 q.count m q.child T.move.made T.move.begun (omega arith) (omega arith) T.promise.starts)))
+    where
+      numbered : (i : ℕ) → StartsChild i q.made → i < q.count
+      numbered = (runs_keep_invariant k job input settled names starting f t m qs c.interleaving.reached).0.numbered q there
+
+  record Ordered (stack : List ℕ) (taken' : List Started) : Type 0 where
+    taken : List Started
+    order : InOrder qs (filter is_old stack) taken
+    alike : (l : Label) → Alike turns.other t (acts_of_all l taken) (acts_of_all l taken')
+
+  first_kept : (p : ℕ) (stack : List ℕ) → is_old p ≡ true → filter is_old (p ∷ stack) ≡ p ∷ filter is_old stack
+  first_kept p stack e = rw e refl
+
+  first_gone : (p : ℕ) (stack : List ℕ) → is_old p ≡ false → filter is_old (p ∷ stack) ≡ filter is_old stack
+  first_gone p stack e = rw e refl
+
+  old_is : (p : ℕ) → p < m → is_old p ≡ true
+  old_is p lt = grind (arith, nat_tests)
+
+  ordered : (stack : List ℕ) (taken' : List Started) → InOrder qs' stack taken' → Ordered stack taken'
+  ordered _ _ all_taken = record { taken = []; order = all_taken; alike = λ l. record { same = refl; early = refl } }
+  ordered _ _ (next_taken y stack taken' i ord) = by_whose (whose y.serial) (ordered (children_made y.child y.made ++ stack) taken' ord)
+    where
+      is : y ≡ at' y.serial
+      is = (T.is.one y i).0
+
+      -- the children that are older
+      older : (xs more : List ℕ) → Each (λ (n : ℕ). is_old n ≡ true) xs → Each (λ (n : ℕ). is_old n ≡ false) more →
+          children_made y.child y.made ≡ xs ++ more → filter is_old (children_made y.child y.made ++ stack) ≡ xs ++ filter is_old stack
+      older xs more a b e =
+          filter-append is_old (children_made y.child y.made) stack
+          ∙ ap (λ (ns : List ℕ). ns ++ filter is_old stack)
+          (ap (filter is_old) e ∙ (filter-append is_old xs more
+          ∙ (ap (λ (ns : List ℕ). ns ++ filter is_old more) (all_kept is_old xs a)
+          ∙ (ap (λ (ns : List ℕ). xs ++ ns) (none_kept is_old more b) ∙ append-nil xs))))
+
+      -- a task that was there
+      kept : (p : ℕ) → (below : p < m) → y.serial ≡ p → (more : List ℕ) → Each (λ (n : ℕ). is_old n ≡ false) more →
+          children_made y.child y.made ≡ children_made (at p).child (at p).made ++ more → ((l : Label) → Alike turns.other t (acts_of l (at p)) (acts_of l y)) →
+          Ordered (children_made y.child y.made ++ stack) taken' → Ordered (y.serial ∷ stack) (y ∷ taken')
+      kept p below e more new_ones children own r =
+          record {
+            taken = at p ∷ r.taken;
+            order =
+                subst (λ (ns : List ℕ). InOrder qs ns (at p ∷ r.taken))
+                (ap (λ (n : ℕ). n ∷ filter is_old stack) ((c.interleaving.has p below).1 ∙ sym e)
+                ∙ sym (first_kept y.serial stack (ap is_old e ∙ old_is p below)))
+                (next_taken (at p) (filter is_old stack) r.taken (c.interleaving.has p below).0
+                (subst (λ (ns : List ℕ). InOrder qs ns r.taken)
+                (older (children_made (at p).child (at p).made) more (rises_old (children_made (at p).child (at p).made) (rises p below)) new_ones children)
+                r.order));
+            alike = λ l. alike_append turns.other t (acts_of l (at p)) (acts_of l y) (acts_of_all l r.taken) (acts_of_all l taken') (own l) (r.alike l);
+          }
+
+      by_whose : Whose y.serial → Ordered (children_made y.child y.made ++ stack) taken' → Ordered (y.serial ∷ stack) (y ∷ taken')
+      by_whose (inl e) r =
+          let y_is : y ≡ at' s = is ∙ ap at' e in
+          kept s T.below e (serials_from m (length T.move.begun)) (new_serials m (length T.move.begun) (omega arith))
+          (ap (λ (z : Started). children_made z.child z.made) y_is ∙ children_after)
+          (λ l. subst (λ (z : Started). Alike turns.other t (acts_of l q) (acts_of l z)) (sym y_is) (turns.own l)) r
+      by_whose (inr (inl o)) r =
+          let y_is : y ≡ at y.serial = is ∙ T.of_other y.serial o.0 o.1 in
+          kept y.serial o.0 refl [] tt
+          (ap (λ (z : Started). children_made z.child z.made) y_is ∙ sym (append-nil (children_made (at y.serial).child (at y.serial).made)))
+          (λ l. subst (λ (z : Started). Alike turns.other t (acts_of l (at y.serial)) (acts_of l z)) (sym y_is)
+          (alike_fixed turns.other t (acts_of l (at y.serial))
+          (each_weaker (λ (d : Done). d.task ≡ (at y.serial).here.task) (λ (d : Done). done_with turns.other d ≡ d) (acts_of l (at y.serial))
+          (λ d g. turns.others d (λ z. other_task y.serial o.0 o.1 (z ∙ g))) (acts_label l (at y.serial))))) r
+      by_whose (inr (inr j)) r =
+          let less = (T.is.one y i).1 in
+          let b = born j.0 (let e = j.1 in omega (arith, e, less)) in
+          let y_is : y ≡ child_at k (a_round_after q.here.clock t) (m + j.0) b.0 = is ∙ (ap at' (sym j.1) ∙ b.1) in
+          record {
+            taken = r.taken;
+            order =
+                subst (λ (ns : List ℕ). InOrder qs ns r.taken)
+                (ap (λ (z : Started). filter is_old (children_made z.child z.made ++ stack)) y_is
+                ∙ sym (first_gone y.serial stack (let e = j.1 in grind (arith, nat_tests)))) r.order;
+            alike = λ l. subst (λ (ds : List Done). Alike turns.other t (acts_of_all l r.taken) (ds ++ acts_of_all l taken')) (sym (ap (acts_of l) y_is)) (r.alike l);
+          }
+
+  -- an order of the tasks before
+  order_before : (taken' : List Started) → InOrder qs' (0 ∷ []) taken' →
+      (taken : List Started) × InOrder qs (0 ∷ []) taken × ((l : Label) → Alike turns.other t (acts_of_all l taken) (acts_of_all l taken'))
+  order_before taken' ord =
+      let r = ordered (0 ∷ []) taken' ord in
+      (r.taken, subst (λ (ns : List ℕ). InOrder qs ns r.taken) (first_kept 0 [] (old_is 0 c.some)) r.order, r.alike)
+
+  -- ---- the objects after it
+
+  abbrev not_mover : Ticket → Bool
+  not_mover ticket = not (ticket.row == s)
+
+  -- a task that stopped now is in a queue since now, if it is in one
+  queued_now : (since : ℕ) → since < t → is_queued after.task_state since ≡ false
+  queued_now since lt = by_state after.task_state T.stopped blocks_on.0 stops_now
+    where
+      by_state : (task_state : TaskState) (stopped : Stopped) → IsTaskState T.took.numbers_after new.world.book task_state stopped →
+          StopsAt q.here.clock t (cancelled_from_after f T.move.made) (Some stopped) T.move.places → is_queued task_state since ≡ false
+      by_state (Queued key a v steps) (queued name wanted u body) is stops = differs (v == since) refl
+        where
+          differs : (b : Bool) → (v == since) ≡ b → (v == since) ≡ false
+          differs false e = e
+          differs true e = absurd (let g : v ≡ since = eqb-true v since e in let x : v ≡ u = is.1 in let y : u ≡ t = stops.0 in omega (arith, g, x, y, lt))
+      by_state (Queued key a v steps) _ is stops = absurd is
+      by_state (ToBegin v) x is stops = refl
+      by_state (Asked kernel purpose) x is stops = refl
+      by_state (Asleep paced ticks v) x is stops = refl
+      by_state (Waiting key v) x is stops = refl
+      by_state (GivingUp v) x is stops = refl
+      by_state (Awaits id v) x is stops = refl
+      by_state Over x is stops = refl
+
+  -- of those who waited all but this task still wait
+  waits_still : (ticket : Ticket) → asked_before t (waits_in new.task) ticket ≡ (not_mover ticket && asked_before t (waits_in old.task) ticket)
+  waits_still ticket = by_time (nat_lt ticket.since t) refl
+    where
+      none_both : (b : Bool) → false ≡ (b && false)
+      none_both true = refl
+      none_both false = refl
+
+      by_whose : ticket.since < t → Whose ticket.row → waits_in new.task ticket ≡ (not_mover ticket && waits_in old.task ticket)
+      by_whose lt (inl e) =
+          ap (λ (n : ℕ). waits_by (new.task n) ticket.since) e
+          ∙ (ap (λ (o : Option Task). waits_by o ticket.since) T.code.task_after
+          ∙ (queued_now ticket.since lt ∙ sym (ap (λ (b : Bool). b && waits_in old.task ticket) (own_row ticket e))))
+      by_whose lt (inr (inl o)) =
+          ap (λ (z : Option Task). waits_by z ticket.since) (T.code.other_after ticket.row o.0 o.1)
+          ∙ sym (ap (λ (b : Bool). b && waits_in old.task ticket) (not_row ticket o.1))
+      by_whose lt (inr (inr i)) =
+          by_task (slice_get T.took.tasks i.0) refl
+          ∙ (none_both (not_mover ticket)
+          ∙ ap (λ (b : Bool). not_mover ticket && b) (sym (ap (λ (z : Option Task). waits_by z ticket.since) (c.unborn ticket.row (let e = i.1 in omega (arith, e))).0)))
+        where
+          by_task : (o : Option Task) → slice_get T.took.tasks i.0 ≡ o → waits_in new.task ticket ≡ false
+          by_task None e = ap (λ (z : Option Task). waits_by z ticket.since) (ap new.task (sym i.1) ∙ (T.child_after i.0 ∙ e))
+          by_task (Some task) e =
+              ap (λ (z : Option Task). waits_by z ticket.since) (ap new.task (sym i.1) ∙ (T.child_after i.0 ∙ e))
+              ∙ ap (λ (z : TaskState). is_queued z ticket.since) b.2.task_state
+            where
+              b : (b : Begun) × (slice_get T.move.begun i.0 ≡ Some b) × IsBegun old.world.clock (a_round_after old.world.clock old.world.tick)
+                  T.took.numbers_after new.world.book (blocks_of after.frames.items) (waits_of after.task_state) task b
+              b =
+                  begun_at old.world.clock (a_round_after old.world.clock old.world.tick) T.took.numbers_after new.world.book (blocks_of after.frames.items)
+                  (waits_of after.task_state) T.took.tasks T.move.begun T.took.begun i.0 task e
+
+      by_time : (b : Bool) → nat_lt ticket.since t ≡ b → (b && waits_in new.task ticket) ≡ (not_mover ticket && (b && waits_in old.task ticket))
+      by_time false e = none_both (not_mover ticket)
+      by_time true e = by_whose (let lt : ticket.since < t = grind (arith, nat_tests) in lt) (whose ticket.row)
+
+  asked_old : (l : Label) → AreAskedBefore t (old.object l)
+  asked_old l = subst (λ (v : ℕ). AreAskedBefore v (old.object l)) T.code.unserved (c.shares.asked l)
+
+  option_left : (w : Ticket → Bool) (o : Option HeldObject) →
+      option_map (object_in (λ ticket. not_mover ticket && w ticket)) o ≡ option_map (left_in not_mover) (option_map (object_in w) o)
+  option_left w None = refl
+  option_left w (Some o) = ap (λ (x : ObjectOf). Some x) (object_left not_mover w o)
+
+  objects_now : (l : Label) → option_map (object_in (waits_in new.task)) (new.object l)
+      ≡ option_map (left_in not_mover) (option_map (object_in (waits_in old.task)) (old.object l))
+  objects_now l =
+      ap (option_map (object_in (waits_in new.task))) (T.code.object_after l)
+      ∙ (sym (asked_old l (waits_in new.task))
+      ∙ (ap (λ (w : Ticket → Bool). option_map (object_in w) (old.object l)) (λ i ticket. waits_still ticket i)
+      ∙ (option_left (asked_before t (waits_in old.task)) (old.object l)
+      ∙ ap (option_map (left_in not_mover)) (asked_old l (waits_in old.task)))))
+
+  -- whom a ticket stands for
+  waiter_stays : (ticket : Ticket) → ticket.row < m → waiter_of at' ticket ≡ waiter_of at ticket
+  waiter_stays ticket below = ap (λ (x : Label). record { task = x; since = ticket.since }) (by_row (same_or ticket.row s))
+    where
+      by_row : (ticket.row ≡ s) ⊎ (ticket.row ≢ s) → (at' ticket.row).here.task ≡ (at ticket.row).here.task
+      by_row (inl e) = ap (λ (n : ℕ). (at' n).here.task) e ∙ (label_after ∙ sym (ap (λ (n : ℕ). (at n).here.task) e))
+      by_row (inr differs) = ap (λ (x : Started). x.here.task) (T.of_other ticket.row below differs)
+
+  served_then : (taken' : List Started) → InOrder qs' (0 ∷ []) taken' → (l : Label) →
+      SameObject at' new.through (option_map (object_in (waits_in new.task)) (new.object l))
+      (object_after unopened (by_moment (done_before new.through (acts_of_all l taken'))))
+  served_then taken' ord l =
+      subst (λ (v : ℕ). SameObject at' v (option_map (object_in (waits_in new.task)) (new.object l))
+      (object_after unopened (by_moment (done_before v (acts_of_all l taken'))))) (sym through')
+      (subst (λ (x : Option ObjectOf). SameObject at' t x (object_after unopened (by_moment (done_before t (acts_of_all l taken'))))) (sym (objects_now l))
+      (subst (λ (x : Object). SameObject at' t (option_map (left_in not_mover) (option_map (object_in (waits_in old.task)) (old.object l))) x) (sym meant)
+      (object_turned at at' t turns.other not_mover turns.keep (option_map (object_in (waits_in old.task)) (old.object l)) was turns.same turns.weaker
+      (tickets_weaker (λ ticket. waits_in old.task ticket ≡ true)
+      (λ ticket. (waiter_of at' ticket ≡ waiter_of at ticket) × (turns.keep (waiter_of at ticket) ≡ not_mover ticket))
+      (option_map (object_in (waits_in old.task)) (old.object l))
+      (λ ticket h. (waiter_stays ticket (let w = ticket_task ticket h in below_of c ticket.row w.0 w.1), turns.tickets ticket h))
+      (tickets_wait (waits_in old.task) (old.object l)))
+      (turns.askers r.0 r.1 l)
+      (subst (λ (v : ℕ). SameObject at v (option_map (object_in (waits_in old.task)) (old.object l))
+      (object_after unopened (by_moment (done_before v (acts_of_all l r.0))))) T.code.unserved (c.shares.served r.0 r.1 l)))))
+    where
+      r : (taken : List Started) × InOrder qs (0 ∷ []) taken × ((l : Label) → Alike turns.other t (acts_of_all l taken) (acts_of_all l taken'))
+      r = order_before taken' ord
+
+      was : Object
+      was = object_after unopened (by_moment (done_before t (acts_of_all l r.0)))
+
+      befores : (ds : List Done) → Each (λ (d : Done). d.at < t) (done_before t ds)
+      befores [] = tt
+      befores (d ∷ ds) = by_time (nat_lt d.at t) refl (befores ds)
+        where
+          by_time : (b : Bool) → nat_lt d.at t ≡ b → Each (λ (x : Done). x.at < t) (done_before t ds) → Each (λ (x : Done). x.at < t) (done_before t (d ∷ ds))
+          by_time true e h = rw e (let lt : d.at < t = grind (arith, nat_tests) in (lt, h))
+          by_time false e h = rw e h
+
+      meant : object_after unopened (by_moment (done_before t (acts_of_all l taken'))) ≡ object_with turns.other was
+      meant =
+          ap (λ (ds : List Done). object_after unopened (by_moment ds)) (r.2 l).same
+          ∙ (ap (object_after unopened) (sorted_with turns.other (done_before t (acts_of_all l r.0)))
+          ∙ objects_with t turns.other turns.same unopened (by_moment (done_before t (acts_of_all l r.0)))
+          (sorted_each (λ (d : Done). d.at < t) (done_before t (acts_of_all l r.0)) (befores (acts_of_all l r.0))))
