@@ -64,6 +64,7 @@ use Rattle.interleavings.specs.Going.{task_after_turn, child_from}
 use Rattle.interleavings.specs.Laws.{IsSettledBy}
 use Rattle.interleavings.specs.Rows.{children_made}
 use Rattle.interleavings.proofs.GrantsKnown.{cut, served_before}
+use Rattle.interleavings.proofs.Readings.{in_either}
 use Rattle.interleavings.proofs.Ordering.{orders_exist}
 use Rattle.interleavings.proofs.Running.{runs_keep_invariant}
 use Rattle.run_refinement.specs.RunState.{RunState, Refines, Follows, GrantedAt, Shares}
@@ -75,7 +76,7 @@ use Rattle.run_refinement.proofs.ActsKeep.{not_both, same_or}
 use Rattle.run_refinement.proofs.AlikeActs.{known_left, left_if, now_left, as_before, same_left, same_before, Alike, alike_append, alike_fixed, alike_late, other_label, made_fixed, before_fixed, made_late, asked_left}
 use Rattle.run_refinement.proofs.Children.{made_join, made_before, made_now}
 use Rattle.run_refinement.proofs.Counts.{count, of_asker, in_object}
-use Rattle.run_refinement.proofs.DoneLists.{all_kept, none_kept, each_weaker, each_filter, sorted_each, from_append}
+use Rattle.run_refinement.proofs.DoneLists.{each_among, all_kept, none_kept, each_weaker, each_filter, sorted_each, from_append}
 use Rattle.run_refinement.proofs.EventPlaces.{has_event}
 use Rattle.run_refinement.proofs.Found.{nth}
 use Rattle.run_refinement.proofs.Parts.{begun_at}
@@ -83,7 +84,7 @@ use Rattle.task_machine.specs.Fitting.{blocks_of, waits_of}
 use Rattle.task_machine.specs.Standing.{IsBegun}
 use Rattle.run_refinement.proofs.Gone.{asked_then, none_queued, acts_label}
 use Rattle.run_refinement.proofs.Grants.{granted_in}
-use Rattle.run_refinement.proofs.JumpsOn.{is_late, left_after, no_late_object, taken_in}
+use Rattle.run_refinement.proofs.JumpsOn.{once_later, is_late, left_after, no_late_object, taken_in}
 use Rattle.run_refinement.proofs.LabelsApart.{below_of}
 use Rattle.run_refinement.proofs.Orders.{Rises, one_has_label, labels_differ, all_are_taken, all_born}
 use Rattle.run_refinement.proofs.OtherAskers.{done_with, object_with, IsSameAsker, sorted_with, objects_with}
@@ -1064,3 +1065,172 @@ module _ (k : Tables) (job : Job) (input : List ℕ) (t m s : ℕ) (old new : Ru
           ∙ (ap (object_after unopened) (sorted_with turns.other (done_before t (acts_of_all l r.0)))
           ∙ objects_with t turns.other turns.same unopened (by_moment (done_before t (acts_of_all l r.0)))
           (sorted_each (λ (d : Done). d.at < t) (done_before t (acts_of_all l r.0)) (befores (acts_of_all l r.0))))
+
+  -- ---- what is granted
+
+  -- to another task the same is granted as before the turn
+  so_far_same : (taken' : List Started) (ord : InOrder qs' (0 ∷ []) taken') → (l label : Label) (since : ℕ) →
+      granted_before (suc t) (granted_so_far taken' l label since) ≡ granted_before (suc t) (granted_so_far (order_before taken' ord).0 l label since)
+  so_far_same taken' ord l label since =
+      let r = order_before taken' ord in
+      served_before t job l label since (acts_of_all l taken')
+      ∙ (ap (λ (ds : List Done). granted_before (suc t) (find_given label since (serve_acts unopened (by_moment ds)))) (r.2 l).early
+      ∙ sym (served_before t job l label since (acts_of_all l r.0)))
+
+  granted_other : (taken' : List Started) (ord : InOrder qs' (0 ∷ []) taken') → (p : ℕ) → p ≢ s → (x : Started) (stopped : Stopped) →
+      GrantedAt old (order_before taken' ord).0 p x stopped → GrantedAt new taken' p x stopped
+  granted_other taken' ord p differs x (queued name wanted since body) h = (
+    λ lt l e.
+        subst (λ (v : ℕ). granted_before (suc v) (granted_so_far taken' l x.here.task since) ≡ granted_in v (new.granted p)) (sym through')
+        (so_far_same taken' ord l x.here.task since
+        ∙ (subst (λ (v : ℕ). granted_before (suc v) (granted_so_far (order_before taken' ord).0 l x.here.task since) ≡ granted_in v (old.granted p)) T.code.unserved
+        (h.0 (subst (λ (v : ℕ). since < v) T.code.through_after lt) l e)
+        ∙ ap (granted_in t) (sym (T.code.granted_after p differs)))),
+    λ le. T.code.granted_after p differs ∙ h.1 (subst (λ (v : ℕ). v ≤ since) T.code.through_after le),
+  )
+  granted_other taken' ord p differs x rest.to_begin h = T.code.granted_after p differs ∙ h
+  granted_other taken' ord p differs x (rest.asking kernel purpose) h = T.code.granted_after p differs ∙ h
+  granted_other taken' ord p differs x (rest.asleep paced n since) h = T.code.granted_after p differs ∙ h
+  granted_other taken' ord p differs x (rest.waiting_for event since) h = T.code.granted_after p differs ∙ h
+  granted_other taken' ord p differs x (rest.giving_up since) h = T.code.granted_after p differs ∙ h
+  granted_other taken' ord p differs x (rest.awaiting children ended exc) h = T.code.granted_after p differs ∙ h
+  granted_other taken' ord p differs x (rest.at_end u e) h = T.code.granted_after p differs ∙ h
+
+  granted_mover : (taken' : List Started) (x : Started) (stopped : Stopped) →
+      StopsAt q.here.clock t (cancelled_from_after f T.move.made) (Some stopped) T.move.places → GrantedAt new taken' s x stopped
+  granted_mover taken' x (queued name wanted since body) stops = (
+    λ lt l e. absurd (let a : since ≡ t = stops.0 in let b : since < t = subst (λ (v : ℕ). since < v) through' lt in omega (arith, a, b)),
+    λ le. T.code.granted_task,
+  )
+  granted_mover taken' x rest.to_begin stops = T.code.granted_task
+  granted_mover taken' x (rest.asking kernel purpose) stops = T.code.granted_task
+  granted_mover taken' x (rest.asleep paced n since) stops = T.code.granted_task
+  granted_mover taken' x (rest.waiting_for event since) stops = T.code.granted_task
+  granted_mover taken' x (rest.giving_up since) stops = T.code.granted_task
+  granted_mover taken' x (rest.awaiting children ended exc) stops = T.code.granted_task
+  granted_mover taken' x (rest.at_end u e) stops = T.code.granted_task
+
+  granted_then : (taken' : List Started) → InOrder qs' (0 ∷ []) taken' → (p : ℕ) → p < m + length T.move.begun →
+      GrantedAt new taken' p (at' p) (at' p).rest.stopped
+  granted_then taken' ord p less = by_whose (whose p)
+    where
+      Granted : ℕ → Type 0
+      Granted p = GrantedAt new taken' p (at' p) (at' p).rest.stopped
+
+      by_whose : Whose p → Granted p
+      by_whose (inl e) =
+          subst Granted (sym e)
+          (subst (GrantedAt new taken' s (at' s)) (sym (ap (λ (x : Started). x.rest.stopped) T.of_task)) (granted_mover taken' (at' s) T.stopped stops_now))
+      by_whose (inr (inl o)) =
+          subst (λ (x : Started). GrantedAt new taken' p x x.rest.stopped) (sym (T.of_other p o.0 o.1))
+          (granted_other taken' ord p o.1 (at p) (at p).rest.stopped (c.shares.granted (order_before taken' ord).0 (order_before taken' ord).1 p o.0))
+      by_whose (inr (inr i)) =
+          let b = born i.0 (let e = i.1 in omega (arith, e, less)) in
+          let differs : p ≢ s = λ e. absurd (let low = T.below in let g = i.1 in omega (arith, e, low, g)) in
+          subst (λ (x : Started). GrantedAt new taken' p x x.rest.stopped) (sym (ap at' (sym i.1) ∙ b.1))
+          (T.code.granted_after p differs ∙ c.shares.ungranted p (let g = i.1 in omega (arith, g)))
+
+  -- ---- a task does not ask twice in one moment
+
+  asks_later : (u v : ℕ) (es : List Event) → u ≤ v → AsksBefore u es → AsksBefore v es
+  asks_later u v es le h = once_later u v rest.to_begin es le h
+
+  once_mover : AsksBefore (asked_at t T.stopped) (q.made ++ T.move.made)
+  once_mover = by_stop T.stopped stops_now
+    where
+      was : (stopped : Stopped) → AskedEarlier t stopped → AsksBefore (asked_at old.world.tick stopped) q.made → AsksBefore t q.made
+      was (queued name wanted since body) lt h = asks_later since t q.made (omega (arith, lt)) h
+      was rest.to_begin lt h = subst (λ (v : ℕ). AsksBefore v q.made) tick h
+      was (rest.asking kernel purpose) lt h = subst (λ (v : ℕ). AsksBefore v q.made) tick h
+      was (rest.asleep paced n since) lt h = subst (λ (v : ℕ). AsksBefore v q.made) tick h
+      was (rest.waiting_for event since) lt h = subst (λ (v : ℕ). AsksBefore v q.made) tick h
+      was (rest.giving_up since) lt h = subst (λ (v : ℕ). AsksBefore v q.made) tick h
+      was (rest.awaiting children ended exc) lt h = subst (λ (v : ℕ). AsksBefore v q.made) tick h
+      was (rest.at_end u e) lt h = subst (λ (v : ℕ). AsksBefore v q.made) tick h
+
+      all : AsksBefore t (q.made ++ T.move.made)
+      all =
+          asks_append t q.made T.move.made (was q.rest.stopped earlier (c.shares.once s T.below))
+          (turn_asks t q.here q.rest.frames q.places q.rest.stopped T.move.made earlier T.promise.asked)
+
+      by_stop : (stopped : Stopped) → StopsAt q.here.clock t (cancelled_from_after f T.move.made) (Some stopped) T.move.places →
+          AsksBefore (asked_at t stopped) (q.made ++ T.move.made)
+      by_stop (queued name wanted since body) stops = subst (λ (v : ℕ). AsksBefore v (q.made ++ T.move.made)) (sym stops.0) all
+      by_stop rest.to_begin stops = all
+      by_stop (rest.asking kernel purpose) stops = all
+      by_stop (rest.asleep paced n since) stops = all
+      by_stop (rest.waiting_for event since) stops = all
+      by_stop (rest.giving_up since) stops = all
+      by_stop (rest.awaiting children ended exc) stops = all
+      by_stop (rest.at_end u e) stops = all
+
+  once_then : (p : ℕ) → p < m + length T.move.begun → AsksBefore (asked_at new.world.tick (at' p).rest.stopped) (at' p).made
+  once_then p less = subst (λ (v : ℕ). AsksBefore (asked_at v (at' p).rest.stopped) (at' p).made) (sym tick') (by_whose (whose p))
+    where
+      Once : Started → Type 0
+      Once x = AsksBefore (asked_at t x.rest.stopped) x.made
+
+      by_whose : Whose p → Once (at' p)
+      by_whose (inl e) = subst Once (sym (ap at' e ∙ T.of_task)) once_mover
+      by_whose (inr (inl o)) =
+          subst Once (sym (T.of_other p o.0 o.1))
+          (subst (λ (v : ℕ). AsksBefore (asked_at v (at p).rest.stopped) (at p).made) tick (c.shares.once p o.0))
+      by_whose (inr (inr i)) =
+          let b = born i.0 (let e = i.1 in omega (arith, e, less)) in subst Once (sym (ap at' (sym i.1) ∙ b.1)) tt
+
+  -- ---- all of it
+
+  pub shares_turned : Shares new qs' at' (m + length T.move.begun)
+  shares_turned =
+      record {
+        round = round_then;
+        served = served_then;
+        granted = granted_then;
+        ungranted = λ p le.
+            T.code.granted_after p (λ e. absurd (let low = T.below in omega (arith, e, low, le))) ∙ c.shares.ungranted p (omega (arith, le));
+        known = λ a i. by_round a (in_either a old.round (noted_now ++ asked_now) (subst (λ (xs : List RoundAct). IsAmong a xs) T.code.round_after i));
+        asked = λ l.
+            subst (λ (v : ℕ). AreAskedBefore v (new.object l)) (sym through')
+            (subst (λ (o : Option HeldObject). AreAskedBefore t o) (sym (T.code.object_after l)) (asked_old l));
+        once = once_then;
+      }
+    where
+      by_round : (a : RoundAct) → IsAmong a old.round ⊎ IsAmong a (noted_now ++ asked_now) → a.serial < m + length T.move.begun
+      by_round a (inl i) = let lt = c.shares.known a i in omega (arith, lt)
+      by_round a (inr i) =
+          let e = each_among (λ (x : RoundAct). x.serial ≡ s) (noted_now ++ asked_now) mine a i in let low = T.below in omega (arith, e, low)
+
+  -- paths go on to the new children
+  pub paths_turned : (p child : ℕ) → p < m + length T.move.begun → IsAmong child (new.children p) → new.path child ≡ new.path p ++ child ∷ []
+  paths_turned p child less i = by_whose (whose p)
+    where
+      -- a child that was there
+      old_child_path : (p : ℕ) → p < m → IsAmong child (old.children p) → new.path child ≡ new.path p ++ child ∷ []
+      old_child_path p below j =
+          let low : child < m =
+          rises_among (children_made (at p).child (at p).made) (rises p below) child (subst (IsAmong child) (c.children p below) j) in
+          T.code.path_after child low
+          ∙ (c.path_of_child p child below j ∙ ap (λ (ps : List ℕ). ps ++ child ∷ []) (sym (T.code.path_after p below)))
+
+      among_new : (x n : ℕ) → IsAmong child (serials_from x n) → (j : ℕ) × (j < n) × (x + j ≡ child)
+      among_new x zero j = absurd j
+      among_new x (suc n) (inl e) = (0, omega arith, omega (arith, e))
+      among_new x (suc n) (inr j) =
+          let h = among_new (suc x) n j in (suc h.0, (let e = h.1 in omega (arith, e)), (let e = h.2 in omega (arith, e)))
+
+      mover_child : IsAmong child (old.children s) ⊎ IsAmong child (serials_from m (length new.world.started.items)) → new.path child ≡ new.path s ++ child ∷ []
+      mover_child (inl j) = old_child_path s T.below j
+      mover_child (inr j) =
+          let h = among_new m (length new.world.started.items) j in
+          subst (λ (n : ℕ). new.path n ≡ new.path s ++ n ∷ []) h.2
+          (T.code.path_child h.0 h.1 ∙ ap (λ (ps : List ℕ). ps ++ (m + h.0) ∷ []) (sym (T.code.path_after s T.below)))
+
+      by_whose : Whose p → new.path child ≡ new.path p ++ child ∷ []
+      by_whose (inl e) =
+          mover_child (in_either child (old.children s) (serials_from m (length new.world.started.items))
+          (subst (IsAmong child) (ap new.children e ∙ T.code.more_children) i))
+          ∙ ap (λ (n : ℕ). new.path n ++ child ∷ []) (sym e)
+      by_whose (inr (inl o)) = old_child_path p o.0 (subst (IsAmong child) (T.code.children_after p o.0 o.1) i)
+      by_whose (inr (inr j)) =
+          absurd (let none : IsAmong child [] =
+          subst (IsAmong child) (ap new.children (sym j.1) ∙ T.no_children j.0 (let e = j.1 in omega (arith, e, less))) i in none)

@@ -50,6 +50,7 @@ use Rattle.run_refinement.proofs.Parts.{own_or, begun_at}
 use Rattle.task_machine.proofs.Stacked.{one_of}
 use Rattle.run_refinement.proofs.Found.{below_length, past_length, nth}
 use Rattle.run_refinement.proofs.Taken.{tasks_long}
+use Rattle.run_refinement.proofs.SharesTurned.{shares_turned, paths_turned}
 
 -- ---- moments of cancellation
 
@@ -393,6 +394,7 @@ module _ (k : Tables) (job : Job) (input : List ℕ) (t m s : ℕ) (old new : Ru
         counted = T.counts ∙ (ap (λ (n : ℕ). n + 1) c.counted ∙ sym T.code.turns);
         clock = clock ∙ c.clock;
         tick = ap (λ (w : World). w.tick) T.code.world ∙ c.tick;
+        in_range = c.in_range;
         small = c.small;
         some = (let first : 0 < m = c.some in omega (arith, first));
         begun = T.code.start_after 0 c.some ∙ c.begun;
@@ -410,6 +412,10 @@ module _ (k : Tables) (job : Job) (input : List ℕ) (t m s : ℕ) (old new : Ru
         started = λ p less.
             subst (λ (x : Clock). AreStarted x new.start T.is.at (T.is.at p).child (T.is.at p).made) (sym clock) (started_after p less);
         children = children_kept k job input t m s old new before after stop settled names starting c T;
+        through = inl (T.code.through_after ∙ T.code.unserved);
+        path_of_root = T.code.path_after 0 c.some ∙ c.path_of_root;
+        path_of_child = paths_turned k job input t m s old new before after stop settled names starting c T;
+        shares = shares_turned k job input t m s old new before after stop settled names starting c T;
       },
       refl,
     )
