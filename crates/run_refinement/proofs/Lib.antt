@@ -27,6 +27,7 @@ pub mod TurnedObjects
 pub mod AlikeActs
 pub mod Gone
 pub mod SharesTurned
+pub mod PathOrders
 pub mod Queues
 pub mod SharesKept
 pub mod Fresh
