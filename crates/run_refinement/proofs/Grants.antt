@@ -119,20 +119,20 @@ leaves_from (Some v) u last le e = omega (arith, le, e)
 
 -- ---- grants come a round after an act
 
--- what was granted by acts of this moment or before is known in the next one
-pub given_soon : (t : ℕ) (o : Object) (ds : List Done) → Each (λ (d : Done). d.at ≤ t) ds → Each (λ (g : Given). g.granted.at ≤ suc t) (serve_acts o ds)
-given_soon t o [] h = tt
-given_soon t o (d ∷ ds) h =
-    append (serve_act o d).given (serve_acts (serve_act o d).object ds) (of_act o) (given_soon t (serve_act o d).object ds h.1)
+-- what was granted by acts before a moment is known in it
+pub given_by : (n : ℕ) (o : Object) (ds : List Done) → Each (λ (d : Done). d.at < n) ds → Each (λ (g : Given). g.granted.at ≤ n) (serve_acts o ds)
+given_by n o [] h = tt
+given_by n o (d ∷ ds) h =
+    append (serve_act o d).given (serve_acts (serve_act o d).object ds) (of_act o) (given_by n (serve_act o d).object ds h.1)
   where
     Soon : Given → Type 0
-    Soon g = g.granted.at ≤ suc t
+    Soon g = g.granted.at ≤ n
 
     append : (xs ys : List Given) → Each Soon xs → Each Soon ys → Each Soon (xs ++ ys)
     append [] ys h k = k
     append (x ∷ xs) ys h k = (h.0, append xs ys h.1 k)
 
-    next : d.at + 1 ≤ suc t
+    next : d.at + 1 ≤ n
     next = let e = h.0 in omega (arith, e)
 
     tokens : (xs : List sharing.Asker) → Each Soon (map (λ who. sharing.given_at d.at who sharing.a_token) xs)
@@ -159,6 +159,14 @@ given_soon t o (d ∷ ds) h =
     of_act unopened = of_opening d.act
     of_act (a_limiter l) = tokens (limiters.after_acts l (limiters.leaves (sharing.stays_at d.at) ∷ sharing.limiter_acts d d.act)).granted
     of_act (a_channel c) = grants (channels.after_acts c (channels.leaves (sharing.stays_at d.at) ∷ sharing.channel_acts d d.act)).granted
+
+-- and by acts of a moment or before, in the next one
+pub given_soon : (t : ℕ) (o : Object) (ds : List Done) → Each (λ (d : Done). d.at ≤ t) ds → Each (λ (g : Given). g.granted.at ≤ suc t) (serve_acts o ds)
+given_soon t o ds h = given_by (suc t) o ds (sooner ds h)
+  where
+    sooner : (ds : List Done) → Each (λ (d : Done). d.at ≤ t) ds → Each (λ (d : Done). d.at < suc t) ds
+    sooner [] k = tt
+    sooner (d ∷ ds) k = (let e = k.0 in omega (arith, e), sooner ds k.1)
 
 -- so it is the same in all moments after that
 pub found_soon : (t v : ℕ) (l : Label) (since : ℕ) (gs : List Given) → Each (λ (g : Given). g.granted.at ≤ suc t) gs → suc t < v →

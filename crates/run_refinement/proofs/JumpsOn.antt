@@ -84,38 +84,38 @@ filter_same {A} p q (x ∷ xs) h = by_test (p x) (q x) refl refl (filter_same p 
     by_test true false e f g = absurd (let z : true ≡ false = sym e ∙ (h.0 ∙ f) in cc)
     by_test false true e f g = absurd (let z : false ≡ true = sym e ∙ (h.0 ∙ f) in cc)
 
-stays_alike : (t v : ℕ) (a : Asker) → suc t ≤ v → is_late t a ≡ false → stays_at (suc t) a ≡ stays_at v a
-stays_alike t v a le e = by_left a.left e
+stays_alike : (t w v : ℕ) (a : Asker) → t ≤ w → t ≤ v → is_late t a ≡ false → stays_at w a ≡ stays_at v a
+stays_alike t w v a lo le e = by_left a.left e
   where
-    by_left : (x : Tick) → left_after t x ≡ false → not (is_reached x (suc t)) ≡ not (is_reached x v)
+    by_left : (x : Tick) → left_after t x ≡ false → not (is_reached x w) ≡ not (is_reached x v)
     by_left None f = refl
     by_left (Some u) f = ap not (reached ∙ sym reached_later)
       where
-        reached : is_reached (Some u) (suc t) ≡ true
+        reached : is_reached (Some u) w ≡ true
         reached = grind (arith, nat_tests)
 
         reached_later : is_reached (Some u) v ≡ true
         reached_later = grind (arith, nat_tests)
 
 -- an object is the same by each later moment, if nobody left a queue after this one
-same_later : (at : ℕ → Started) (t v : ℕ) (code : Option ObjectOf) (o : Object) → suc t ≤ v → in_object (is_late t) o ≡ 0 → SameObject at (suc t) code o →
+pub same_later : (at : ℕ → Started) (t w v : ℕ) (code : Option ObjectOf) (o : Object) → t ≤ w → t ≤ v → in_object (is_late t) o ≡ 0 → SameObject at w code o →
     SameObject at v code o
-same_later at t v None unopened le none h = tt
-same_later at t v None (a_limiter l) le none h = absurd h
-same_later at t v None (a_channel c) le none h = absurd h
-same_later at t v (Some (held_limiter l)) unopened le none h = absurd h
-same_later at t v (Some (held_channel c)) unopened le none h = absurd h
-same_later at t v (Some (held_limiter l)) (a_limiter m) le none h =
+same_later at t w v None unopened lo le none h = tt
+same_later at t w v None (a_limiter l) lo le none h = absurd h
+same_later at t w v None (a_channel c) lo le none h = absurd h
+same_later at t w v (Some (held_limiter l)) unopened lo le none h = absurd h
+same_later at t w v (Some (held_channel c)) unopened lo le none h = absurd h
+same_later at t w v (Some (held_limiter l)) (a_limiter m) lo le none h =
     record {
       free = h.free;
       waiting =
           h.waiting
           ∙ ap (map waiter_in)
-          (filter_same (stays_at (suc t)) (stays_at v) m.waiting
-          (each_weaker (λ a. is_late t a ≡ false) (λ a. stays_at (suc t) a ≡ stays_at v a) m.waiting (λ a e. stays_alike t v a le e)
+          (filter_same (stays_at w) (stays_at v) m.waiting
+          (each_weaker (λ a. is_late t a ≡ false) (λ a. stays_at w a ≡ stays_at v a) m.waiting (λ a e. stays_alike t w v a lo le e)
           (count_none (is_late t) m.waiting none)));
     }
-same_later at t v (Some (held_channel c)) (a_channel d) le none h =
+same_later at t w v (Some (held_channel c)) (a_channel d) lo le none h =
     let senders : count (sender_passes (is_late t)) d.senders ≡ 0 = omega (arith, none) in
     let receivers : count (is_late t) d.receivers ≡ 0 = omega (arith, none) in
     record {
@@ -125,18 +125,18 @@ same_later at t v (Some (held_channel c)) (a_channel d) le none h =
       senders =
           h.senders
           ∙ ap (map offer_in)
-          (filter_same (stays_to_send (suc t)) (stays_to_send v) d.senders
-          (each_weaker (λ s. is_late t s.who ≡ false) (λ s. stays_to_send (suc t) s ≡ stays_to_send v s) d.senders (λ s e. stays_alike t v s.who le e)
+          (filter_same (stays_to_send w) (stays_to_send v) d.senders
+          (each_weaker (λ s. is_late t s.who ≡ false) (λ s. stays_to_send w s ≡ stays_to_send v s) d.senders (λ s e. stays_alike t w v s.who lo le e)
           (count_none (sender_passes (is_late t)) d.senders senders)));
       receivers =
           h.receivers
           ∙ ap (map waiter_in)
-          (filter_same (stays_at (suc t)) (stays_at v) d.receivers
-          (each_weaker (λ a. is_late t a ≡ false) (λ a. stays_at (suc t) a ≡ stays_at v a) d.receivers (λ a e. stays_alike t v a le e)
+          (filter_same (stays_at w) (stays_at v) d.receivers
+          (each_weaker (λ a. is_late t a ≡ false) (λ a. stays_at w a ≡ stays_at v a) d.receivers (λ a e. stays_alike t w v a lo le e)
           (count_none (is_late t) d.receivers receivers)));
     }
-same_later at t v (Some (held_limiter l)) (a_channel d) le none h = absurd h
-same_later at t v (Some (held_channel c)) (a_limiter m) le none h = absurd h
+same_later at t w v (Some (held_limiter l)) (a_channel d) lo le none h = absurd h
+same_later at t w v (Some (held_channel c)) (a_limiter m) lo le none h = absurd h
 
 -- nobody has, by acts of this moment or before
 none_late : (t : ℕ) (ds : List Done) → Each (DoneBy t) ds → count (is_late t) (askers_in ds) ≡ 0
@@ -463,7 +463,8 @@ module _ (k : Tables) (job : Job) (input : List ℕ) (t u m : ℕ) (old : RunSta
         object_then taken order l =
             subst (λ (ds : List Done). SameObject at u (option_map (object_in (waits_in old.task)) (old.object l)) (object_after unopened (by_moment ds)))
             (sym (all_before t u (acts_of_all l taken) lt early))
-            (same_later at t u (option_map (object_in (waits_in old.task)) (old.object l)) (object_after unopened (by_moment (acts_of_all l taken))) (omega (arith, lt))
+            (same_later at t (suc t) u (option_map (object_in (waits_in old.task)) (old.object l)) (object_after unopened (by_moment (acts_of_all l taken))) (omega arith)
+            (omega (arith, lt))
             (no_late_object t (acts_of_all l taken) (done_now taken order l))
             (subst (λ (ds : List Done). SameObject at (suc t) (option_map (object_in (waits_in old.task)) (old.object l)) (object_after unopened (by_moment ds)))
             (all_before t (suc t) (acts_of_all l taken) (omega arith) early)

@@ -28,6 +28,7 @@ pub mod AlikeActs
 pub mod Gone
 pub mod SharesTurned
 pub mod PathOrders
+pub mod ServeRound
 pub mod Queues
 pub mod SharesKept
 pub mod Fresh
