@@ -125,7 +125,7 @@ with_count p t (a_channel c) =
     omega (arith, a, b)
 
 -- who was given something is counted
-given_count : (label : Label) (since : ℕ) (gs : List Given) (g : Granted) → find_given label since gs ≡ Some g →
+pub given_count : (label : Label) (since : ℕ) (gs : List Given) (g : Granted) → find_given label since gs ≡ Some g →
     1 ≤ count (of_given (λ task at. same_label label task && (since == at))) gs
 given_count label since [] g e = absurd (not_both refl e)
 given_count label since (x ∷ gs) g e = by_test (same_label label x.task && (since == x.asked)) refl (given_count label since gs g)

@@ -1,5 +1,5 @@
 -- The tasks of the program when the clock jumps or started tasks are taken: everything else stays.
-use Rattle.std.proofs.Common.{◌≡◌, ℕ, ◌≤◌, Option, Some, None, List, [], ◌∷◌, refl, ap, sym, ◌∙◌, subst, arith, ◌⊎◌, inl, suc, ◌++◌}
+use Rattle.std.proofs.Common.{◌≡◌, ℕ, ◌≤◌, Option, Some, None, List, [], ◌∷◌, refl, ap, sym, ◌∙◌, subst, arith, ◌⊎◌, inl, suc, ◌++◌, inr}
 use Rattle.std.specs.List.{slice_get}
 use Rattle.std.specs.Option.{IsSomeAnd}
 use Rattle.job_tree.specs.Tree.{Tree as Job}
@@ -243,3 +243,13 @@ state_takes k job input t m leaving old new same objects world c =
     (shares_kept old (record new { world = moved_world old.world t new.world }) c.interleaving.tasks c.interleaving.at m
     (λ ticket. ap (λ (o : Option Task). waits_by o ticket.since) (same.task ticket.row)) (sym c.tick)
     (record { through = objects.through; object = objects.object; round = objects.round; granted = objects.granted }) c.shares)
+
+-- what was done in a moment is served
+pub state_serves : (k : Tables) (job : Job) (input : List ℕ) (t m : ℕ) (old new : RunState) → SameTasks old new → new.world ≡ old.world →
+    (c : Refines k job input t m None old) → new.through ≡ suc t →
+    Shares (record new { world = moved_world old.world t new.world }) c.interleaving.tasks c.interleaving.at m → Refines k job input t m None new
+state_serves k job input t m old new same world c through shares =
+    (state_moved k job input t t m None old new (omega arith) same moved c c.interleaving refl refl refl (inr through) shares).0
+  where
+    moved : new.world ≡ moved_world old.world t new.world
+    moved = world ∙ (λ i. moved_world old.world (c.tick i) (sym world i))

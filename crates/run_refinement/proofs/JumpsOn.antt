@@ -217,7 +217,7 @@ abbrev pub StaysQueued : World → (through : ℕ) → Option What → ℕ → O
 StaysQueued world through what u scope since =
     ((what ≡ None) ⊎ (u ≤ through)) × (u ≤ last_grant world.clock since) × ((upto u (sight (outer_of world.scopes scope)) ≡ u) ⊎ (u ≤ suc since))
 
-stays_queued : (world : World) (through : ℕ) (what : Option What) (u : ℕ) (scope : Option ℕ) (numbers : Numbers) (book : NurseryBook) (task_state : TaskState)
+pub stays_queued : (world : World) (through : ℕ) (what : Option What) (u : ℕ) (scope : Option ℕ) (numbers : Numbers) (book : NurseryBook) (task_state : TaskState)
     (name : List ℕ) (wanted : Ask) (since : ℕ) (body : Steps) → IsTaskState numbers book task_state (queued name wanted since body) →
     StaysTo world through what u scope task_state → StaysQueued world through what u scope since
 stays_queued world through what u scope numbers book (Queued key a v steps) name wanted since body h to =

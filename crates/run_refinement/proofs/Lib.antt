@@ -29,6 +29,7 @@ pub mod Gone
 pub mod SharesTurned
 pub mod PathOrders
 pub mod ServeRound
+pub mod SharesServed
 pub mod Queues
 pub mod SharesKept
 pub mod Fresh
