@@ -52,6 +52,7 @@ use Rattle.run_refinement.proofs.Jumped.{state_serves}
 use Rattle.run_refinement.proofs.JumpsOn.{once_later, same_later, no_late_object, taken_in, StaysQueued, stays_queued}
 use Rattle.run_refinement.proofs.LabelsApart.{below_of}
 use Rattle.run_refinement.proofs.Orders.{Rises, labels_differ, all_are_taken, all_born}
+use Rattle.run_refinement.proofs.RoundLists.{IsQueued}
 use Rattle.run_refinement.proofs.PathOrders.{serials, gather, gathered, paths_rise}
 use Rattle.run_refinement.proofs.RunFacts.{IsBy, DoneBy, StopBy, all_by, acts_by_now, all_acts_by, each_append}
 use Rattle.run_refinement.proofs.ServeRound.{Waits, ActFits, Alike, ServedSo, SameGrants, to_done, served_all, found_same}
@@ -532,3 +533,181 @@ module _ (k : Tables) (job : Job) (input : List ℕ) (t m : ℕ) (old new : RunS
       (sym (ap (object_after unopened) (in_moments taken order l)
       ∙ object_append unopened (by_moment (done_before t (acts_of_all l taken))) (map to (acts_on l x.ordered))))
       (served taken order l).alike.0)))
+
+  -- ---- what is granted
+
+  asked_by_now : (s : ℕ) → s < m → (name : List ℕ) (wanted : Ask) (since : ℕ) (body : Steps) → (at s).rest.stopped ≡ queued name wanted since body → since ≤ t
+  asked_by_now s lt name wanted since body is = (subst (StopBy k t (at s).places) is (by_now s lt).stop).0
+
+  all_given : (taken : List Started) → InOrder qs (0 ∷ []) taken → (l : Label) →
+      serve_acts unopened (by_moment (acts_of_all l taken))
+      ≡ serve_acts unopened (by_moment (done_before t (acts_of_all l taken))) ++ serve_acts (before l taken) (map to (acts_on l x.ordered))
+  all_given taken order l =
+      ap (serve_acts unopened) (in_moments taken order l)
+      ∙ serves_append unopened (by_moment (done_before t (acts_of_all l taken))) (map to (acts_on l x.ordered))
+
+  -- a task in a queue was granted nothing before
+  none_before_now : (taken : List Started) → InOrder qs (0 ∷ []) taken → (s : ℕ) → s < m → (name : List ℕ) (wanted : Ask) (since : ℕ) (body : Steps) →
+      (at s).rest.stopped ≡ queued name wanted since body → (l : Label) → label_among true name (at s).places ≡ Some l →
+      find_given (at s).here.task since (serve_acts unopened (by_moment (done_before t (acts_of_all l taken)))) ≡ None
+  none_before_now taken order s lt name wanted since body is l e = by_found (find_given (at s).here.task since gs) refl
+    where
+      gs : List Given
+      gs = serve_acts unopened (by_moment (done_before t (acts_of_all l taken)))
+
+      early : Each (λ (d : Done). d.at < t) (by_moment (done_before t (acts_of_all l taken)))
+      early = sorted_each (λ (d : Done). d.at < t) (done_before t (acts_of_all l taken)) (befores t (acts_of_all l taken))
+
+      w : (task : Task) × (old.task s ≡ Some task) × ((key : ℕ) × (a : Ask) × (steps : Bor Steps) × (task.task_state ≡ Queued key a since steps))
+      w = queued_waits s lt name wanted since body is
+
+      nothing : (old.granted s ≡ None) ⊎ (suc t ≤ old.through) → old.granted s ≡ None
+      nothing (inl g) = g
+      nothing (inr le) = absurd (let a : suc t ≤ t = subst (λ (v : ℕ). suc t ≤ v) x.unserved le in omega (arith, a))
+
+      stays : old.granted s ≡ None
+      stays =
+          nothing (stays_queued old.world old.through (old.granted s) (suc t) (scope_of w.0) (c.numbers s) old.world.book w.0.task_state name wanted since body
+          (subst (λ (z : Stopped). IsTaskState (c.numbers s) old.world.book w.0.task_state z) is (c.follows s w.0 w.1).task_state) (stay s w.0 w.1)).0
+
+      known_none : since < t → granted_before (suc t) (granted_so_far taken l (at s).here.task since) ≡ None
+      known_none before =
+          subst (λ (v : ℕ). granted_before (suc v) (granted_so_far taken l (at s).here.task since) ≡ granted_in v (old.granted s)) x.unserved
+          ((subst (GrantedAt old taken s (at s)) is (c.shares.granted taken order s lt)).0 (subst (λ (v : ℕ). since < v) (sym x.unserved) before) l e)
+          ∙ ap (granted_in t) stays
+
+      by_order : (g : Granted) → find_given (at s).here.task since gs ≡ Some g → (since < t) ⊎ (t ≤ since) → ⊥
+      by_order g found (inl before) =
+          not_both
+          (sym (ap (granted_before (suc t))
+          (ap (find_given (at s).here.task since) (all_given taken order l)
+          ∙ find_first (at s).here.task since gs (serve_acts (unserved l taken) (map to (acts_on l x.ordered))) g found)) ∙ known_none before)
+          (ap (λ (b : Bool). granted_if b g None) in_time)
+        where
+          unserved : Label → List Started → Object
+          unserved l taken = object_after unopened (by_moment (done_before t (acts_of_all l taken)))
+
+          in_time : nat_le (g.at + 1) (suc t) ≡ true
+          in_time = let le : g.at ≤ t = found_at t (at s).here.task since gs g (given_by t unopened (by_moment (done_before t (acts_of_all l taken))) early) found in
+              grind (arith, nat_tests)
+      by_order g found (inr le) =
+          let now : since ≡ t = (let a = asked_by_now s lt name wanted since body is in omega (arith, a, le)) in
+          let given : 1 ≤ count (of_given (asked_then (at s).here.task since)) gs = given_count (at s).here.task since gs g found in
+          let counts = acts_give (asked_then (at s).here.task since) unopened (by_moment (done_before t (acts_of_all l taken))) in
+          let none : count (of_asker (asked_then (at s).here.task since)) (askers_in (by_moment (done_before t (acts_of_all l taken)))) ≡ 0 =
+          ap (λ (v : ℕ). count (of_asker (asked_then (at s).here.task v)) (askers_in (by_moment (done_before t (acts_of_all l taken))))) now
+          ∙ none_before (at s).here.task t (by_moment (done_before t (acts_of_all l taken))) early in
+          omega (arith, given, counts, none)
+
+      by_found : (o : Option Granted) → find_given (at s).here.task since gs ≡ o → find_given (at s).here.task since gs ≡ None
+      by_found None g = g
+      by_found (Some y) g = absurd (by_order y g (cases_lt since t))
+
+  only_one : (s : ℕ) → s < m → (taken : List Started) → InOrder qs (0 ∷ []) taken → (p : ℕ) → p < m → (at s).here.task ≡ (at p).here.task → p ≡ s
+  only_one s lt taken order p below e =
+      sym (c.interleaving.has p below).1
+      ∙ (sym (labels_differ k job input f t m qs settled names starting c.interleaving.reached taken order (at s) (at p) (c.interleaving.has s lt).0
+      (c.interleaving.has p below).0 e)
+      ∙ (c.interleaving.has s lt).1)
+
+  -- what a task in a queue is granted is what it gets now
+  so_far : (taken : List Started) → InOrder qs (0 ∷ []) taken → (s : ℕ) → s < m → (name : List ℕ) (wanted : Ask) (since : ℕ) (body : Steps) →
+      (at s).rest.stopped ≡ queued name wanted since body → (l : Label) → label_among true name (at s).places ≡ Some l →
+      granted_so_far taken l (at s).here.task since ≡ granted_in (suc t) (find_get s since (serve_all waits t (code l) (acts_on l x.ordered)).gets)
+  so_far taken order s lt name wanted since body is l e =
+      ap (find_given (at s).here.task since) (all_given taken order l)
+      ∙ (find_last (at s).here.task since (serve_acts unopened (by_moment (done_before t (acts_of_all l taken))))
+      (serve_acts (before l taken) (map to (acts_on l x.ordered))) (none_before_now taken order s lt name wanted since body is l e)
+      ∙ (found_same at m t waits s since lt (only_one s lt taken order) (serve_all waits t (code l) (acts_on l x.ordered)).gets
+      (serve_acts (before l taken) (map to (acts_on l x.ordered))) (served taken order l).grants
+      ∙ (let next : t + 1 ≡ suc t = omega arith in
+      ap (λ (v : ℕ). granted_in v (find_get s since (serve_all waits t (code l) (acts_on l x.ordered)).gets)) next)))
+
+  -- and that is what the state says
+  granted_is : (s : ℕ) → s < m → (name : List ℕ) (wanted : Ask) (since : ℕ) (body : Steps) → (at s).rest.stopped ≡ queued name wanted since body →
+      (l : Label) → label_among true name (at s).places ≡ Some l →
+      new.granted s ≡ find_get s since (serve_all waits t (code l) (acts_on l x.ordered)).gets
+  granted_is s lt name wanted since body is l e =
+      x.granted s
+      ∙ (ap (granted_to old t x.ordered s) w.1
+      ∙ (ap (granted_for old t x.ordered s) w.2.3
+      ∙ ap (granted_by old t x.ordered s since) (named.1 ∙ e)))
+    where
+      w : (task : Task) × (old.task s ≡ Some task) × ((key : ℕ) × (a : Ask) × (steps : Bor Steps) × (task.task_state ≡ Queued key a since steps))
+      w = queued_waits s lt name wanted since body is
+
+      named : AwaitsEvent (label_at old.world) (outer_of old.world.scopes (scope_of w.0)) (Some (queued name wanted since body)) (Queued w.2.0 w.2.1 since w.2.2)
+          (at s).places
+      named =
+          subst (λ (z : TaskState). AwaitsEvent (label_at old.world) (outer_of old.world.scopes (scope_of w.0)) (Some (queued name wanted since body)) z (at s).places)
+          w.2.3
+          (subst (λ (z : Stopped). AwaitsEvent (label_at old.world) (outer_of old.world.scopes (scope_of w.0)) (Some z) w.0.task_state (at s).places) is
+          (c.follows s w.0 w.1).stands.event)
+
+  -- a task in no queue is granted nothing
+  none_granted : (s : ℕ) → s < m → (stopped : Stopped) → (IsQueued stopped → ⊥) → (at s).rest.stopped ≡ stopped → new.granted s ≡ None
+  none_granted s lt stopped not_queued is = x.granted s ∙ by_task (old.task s) refl
+    where
+      by_state : (task_state : TaskState) (stopped : Stopped) → (IsQueued stopped → ⊥) → IsTaskState (c.numbers s) old.world.book task_state stopped →
+          granted_for old t x.ordered s task_state ≡ None
+      by_state (Queued key a v steps) (queued name wanted since body) never h = absurd (never tt)
+      by_state (Queued key a v steps) _ never h = absurd h
+      by_state (ToBegin v) y never h = refl
+      by_state (Asked kernel purpose) y never h = refl
+      by_state (Asleep paced ticks v) y never h = refl
+      by_state (Waiting key v) y never h = refl
+      by_state (GivingUp v) y never h = refl
+      by_state (Awaits id v) y never h = refl
+      by_state Over y never h = refl
+
+      by_task : (o : Option Task) → old.task s ≡ o → granted_to old t x.ordered s o ≡ None
+      by_task None e = refl
+      by_task (Some task) e =
+          by_state task.task_state stopped not_queued
+          (subst (λ (z : Stopped). IsTaskState (c.numbers s) old.world.book task.task_state z) is (c.follows s task e).task_state)
+
+  abbrev there : RunState
+  there = record new { world = moved_world old.world t new.world }
+
+  granted_then : (taken : List Started) → InOrder qs (0 ∷ []) taken → (s : ℕ) → s < m → (stopped : Stopped) → (at s).rest.stopped ≡ stopped →
+      GrantedAt there taken s (at s) stopped
+  granted_then taken order s lt (queued name wanted since body) is = (
+    λ before l e.
+        subst (λ (v : ℕ). granted_before (suc v) (granted_so_far taken l (at s).here.task since) ≡ granted_in v (new.granted s)) (sym x.through)
+        (found_soon t (suc (suc t)) (at s).here.task since (serve_acts unopened (by_moment (acts_of_all l taken)))
+        (given_soon t unopened (by_moment (acts_of_all l taken)) (sorted_each (λ (d : Done). d.at ≤ t) (acts_of_all l taken) (dones taken order l))) (omega arith)
+        ∙ (so_far taken order s lt name wanted since body is l e ∙ ap (granted_in (suc t)) (sym (granted_is s lt name wanted since body is l e)))),
+    λ le. absurd (let a = asked_by_now s lt name wanted since body is in
+        let b : suc t ≤ since = subst (λ (v : ℕ). v ≤ since) x.through le in omega (arith, a, b)),
+  )
+  granted_then taken order s lt rest.to_begin is = none_granted s lt rest.to_begin (λ z. z) is
+  granted_then taken order s lt (rest.asking kernel purpose) is = none_granted s lt (rest.asking kernel purpose) (λ z. z) is
+  granted_then taken order s lt (rest.asleep paced n since) is = none_granted s lt (rest.asleep paced n since) (λ z. z) is
+  granted_then taken order s lt (rest.waiting_for event since) is = none_granted s lt (rest.waiting_for event since) (λ z. z) is
+  granted_then taken order s lt (rest.giving_up since) is = none_granted s lt (rest.giving_up since) (λ z. z) is
+  granted_then taken order s lt (rest.awaiting children ended exc) is = none_granted s lt (rest.awaiting children ended exc) (λ z. z) is
+  granted_then taken order s lt (rest.at_end u e) is = none_granted s lt (rest.at_end u e) (λ z. z) is
+
+  -- ---- all of it
+
+  shares_served : Shares there qs at m
+  shares_served =
+      record {
+        round = λ s lt l.
+            subst (λ (v : ℕ). done_from v (acts_of l (at s)) ≡ done_by s l t (at s).here.task new.round) (sym x.through)
+            (none_from t (suc t) (acts_of l (at s)) (omega arith)
+            (each_weaker (DoneBy t) (λ d. d.at ≤ t) (acts_of l (at s)) (λ d h. h.0) (acts_by_now k t l (at s) (by_now s lt)))
+            ∙ sym (ap (done_by s l t (at s).here.task) x.round));
+        served = λ taken order l.
+            subst (λ (v : ℕ). SameObject at v (option_map (object_in (waits_in new.task)) (new.object l))
+            (object_after unopened (by_moment (done_before v (acts_of_all l taken))))) (sym x.through) (served_then taken order l);
+        granted = λ taken order s lt. granted_then taken order s lt (at s).rest.stopped refl;
+        ungranted = λ s le. x.granted s ∙ ap (granted_to old t x.ordered s) (c.unborn s le).0;
+        known = λ a i. absurd (let j : IsAmong a [] = subst (λ (r : List RoundAct). IsAmong a r) x.round i in j);
+        asked = λ l. subst (λ (v : ℕ). AreAskedBefore v (new.object l)) (sym x.through) (x.asked l);
+        once = λ s lt. subst (λ (v : ℕ). AsksBefore (asked_at v (at s).rest.stopped) (at s).made) c.tick (c.shares.once s lt);
+      }
+
+  -- so it is the same run, in which that is served
+  pub serves : new.world ≡ old.world → Refines k job input t m None new
+  serves world = state_serves k job input t m old new same world c x.through shares_served

@@ -19,7 +19,7 @@ use Rattle.task_machine.specs.declared.entry.Entry.{Entry}
 use Rattle.task_machine.specs.Noted.{AreNoted}
 use Rattle.turn_semantics.specs.Midway.{Place, Midway, Begun, Move}
 use Rattle.turn_semantics.specs.Placed.{PlacedAfter, outer_places}
-use Rattle.turn_semantics.specs.Names.{NewIn, NewStop, OwnNames, names_at}
+use Rattle.turn_semantics.specs.Names.{NewIn, OwnNames, names_at}
 use Rattle.turn_semantics.specs.Steps.{cancelled_from_after, step_of, turn_of}
 use Rattle.turn_semantics.specs.Wakes as wakes
 use Rattle.turn_semantics.specs.Wakes.{wake_of, turn_from}
@@ -81,14 +81,12 @@ AllNumbered numbers book fs waits = (id : ℕ) → HasNurseryOf id (blocks_of fs
 
 -- A task in the middle of a turn or where it stopped is in these places (the scopes, nurseries and events that enclose it) with
 -- the moments of cancellation of a table, and numbered its children so. Each scope, nursery and event has its place, and nested
--- ones have different names, those of the block that it runs with what it asked for too. An event for which it waits, or a limiter or
--- channel that it asked, is one of them.
+-- ones have different names. An event for which it waits is one of them.
 pub record Stands (s : State) (cancelled_from : Table) (numbers : Numbers) (stopped : Option Stopped) (ps : List Place) : Type 0 where
   pub places : AreAt s.labels s.events cancelled_from (stack_in s) ps
   pub numbered : AreNumbered numbers s.book s.frames
   pub placed : PlacedAfter stopped (frames_of numbers s.frames) ps
   pub new : NewIn (frames_of numbers s.frames) (outer_places stopped ps)
-  pub stop : NewStop stopped ps
   pub own : OwnNames (names_at ps)
   pub event : AwaitsEvent s.labels (stack_in s) stopped s.task_state ps
 

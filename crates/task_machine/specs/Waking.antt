@@ -1,8 +1,6 @@
 -- How a task that stopped continues, in the code.
-use Rattle.std.specs.Prelude.{◌≡◌, ◌≤◌, ◌^◌, true, false, Option, Some, None, map}
+use Rattle.std.specs.Prelude.{◌≡◌, ◌≤◌, ◌^◌, true, Option, Some, None, map}
 use Rattle.input_lines.specs.Part.{span_of}
-use Rattle.job_tree.specs.InRange.{AreInRange}
-use Rattle.job_tree.specs.Starting.{StartsIn}
 use Rattle.job_tree.specs.declared.limits.TheConstants.{MAX_PACE}
 use Rattle.input_lines.specs.Answers.{IsAnswerOn}
 use Rattle.input_lines.specs.declared.answers.Answer as held
@@ -47,14 +45,13 @@ IsInRangePurpose Shows = Unit {0}
 IsInRangePurpose (Needs name) = Unit {0}
 IsInRangePurpose (Paces k) = (1 ≤ k) × (k ≤ MAX_PACE)
 
--- and no sleep is of more than 2 to the 40 ticks, and no wait since a moment after 2 to the 62; and the block that runs with what is
--- asked for can run
+-- and no sleep is of more than 2 to the 40 ticks, and no wait since a moment after 2 to the 62
 abbrev pub IsInRangeTaskState : TaskState → Type 0
 IsInRangeTaskState (ToBegin at) = Unit {0}
 IsInRangeTaskState (Asked kernel purpose) = IsInRangePurpose purpose
 IsInRangeTaskState (Asleep paced ticks since) = ticks ≤ 2 ^ 40
 IsInRangeTaskState (Waiting event since) = since ≤ 2 ^ 62
-IsInRangeTaskState (Queued object ask since body) = (since ≤ 2 ^ 62) × AreInRange body.now × StartsIn false body.now
+IsInRangeTaskState (Queued object ask since body) = since ≤ 2 ^ 62
 IsInRangeTaskState (GivingUp since) = Unit {0}
 IsInRangeTaskState (Awaits id since) = Unit {0}
 IsInRangeTaskState Over = Unit {0}

@@ -7,6 +7,7 @@ use Rattle.run_refinement.proofs.JumpsOn.{jumps}
 use Rattle.run_refinement.proofs.Going.{may_wake}
 use Rattle.run_refinement.proofs.Left.{state_left}
 use Rattle.run_refinement.proofs.Over.{state_over}
+use Rattle.run_refinement.proofs.SharesServed.{serves}
 use Rattle.run_refinement.proofs.Stepped.{stepped, stop_says}
 use Rattle.run_refinement.proofs.laws.law_states.Goals as goal
 
@@ -36,6 +37,10 @@ returns-clause-leave c = state_left
 
 pub returns-clause-take : goal.returns-clause-take
 returns-clause-take c = state_takes
+
+pub returns-clause-serve : goal.returns-clause-serve
+returns-clause-serve c = λ k job input t m old new settled names starting same world x is stay.
+    serves k job input t m old new settled names starting is same x stay world
 
 pub returns-clause-jump : goal.returns-clause-jump
 returns-clause-jump c = λ k job input t u m old new settled names starting lt same passes world is stay.
