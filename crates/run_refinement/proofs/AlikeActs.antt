@@ -1,30 +1,26 @@
 -- What a task did before a moment, before and after a turn in that moment: the same, but that it is known now when it left its queue.
-use Rattle.std.proofs.Common.{◌≡◌, ◌≢◌, ℕ, suc, ◌+◌, ◌<◌, ◌≤◌, Bool, true, false, not, ◌&&◌, ◌==◌, Option, Some, None, List, [], ◌∷◌, ◌++◌, map, refl, ap, sym, ◌∙◌, subst, arith, nat_lt, if◌then◌else◌}
-use Rattle.std.proofs.lemmas.Bool.{eqb-true, eq-eqb, le-ltb}
+use Rattle.std.proofs.Common.{◌≡◌, ℕ, ◌<◌, ◌≤◌, Bool, true, false, not, ◌&&◌, ◌==◌, Some, None, List, [], ◌∷◌, ◌++◌, map, refl, ap, sym, ◌∙◌, arith, nat_lt, if◌then◌else◌}
+use Rattle.std.proofs.lemmas.Bool.{eqb-true, le-ltb}
 use Rattle.std.proofs.lemmas.Bool.Decides.{nat_tests}
-use Rattle.std.proofs.lemmas.List.{map-append, append-nil}
+use Rattle.std.proofs.lemmas.List.{map-append}
 use Rattle.exceptions.specs.Exceptions.{Label}
 use Rattle.input_lines.specs.Lines.{Range}
 use Rattle.cancel_scopes.specs.Sight.{Tick, is_reached}
 use Rattle.job_tree.specs.declared.object.Ask.{Ask}
 use Rattle.job_meaning.specs.Log.{Act, opens, asks, gives_back, closes, same_label}
 use Rattle.job_meaning.specs.declared.clock.Clock.{Clock}
-use Rattle.job_meaning.specs.Before.{act_before, left_before}
-use Rattle.job_meaning.specs.Sharing.{Done, done_if, Asker, asker_of, stays_at}
-use Rattle.job_meaning.specs.Walk.{Here}
-use Rattle.job_meaning.specs.Rest.{Event, noted, signs, enters, acts, starts, Frame, Stopped, to_begin, asking, asleep, waiting_for, queued, giving_up, awaiting, at_end, inside}
-use Rattle.job_meaning.proofs.Distinct.{same_label_equal, same_label_itself}
+use Rattle.job_meaning.specs.Before.{left_before}
+use Rattle.job_meaning.specs.Sharing.{Done, done_if, Asker, asker_of}
+use Rattle.job_meaning.specs.Rest.{Event, noted, signs, enters, acts, starts}
+use Rattle.job_meaning.proofs.Distinct.{same_label_equal}
 use Rattle.turn_semantics.specs.Lists.{Each}
-use Rattle.turn_semantics.specs.Midway.{Place, label_among}
-use Rattle.turn_semantics.specs.Turned.{MadeAt, AsksNothing, LeavesIn, AsksFirst, AskedFirst}
-use Rattle.interleavings.specs.Interleaving.{Started}
-use Rattle.interleavings.specs.Acts.{acts_made, asked_on, acts_pending, acts_of, acts_of_all}
-use Rattle.interleavings.proofs.GrantsKnown.{cut, cut_done, cut_append, cut_late}
+use Rattle.turn_semantics.specs.Turned.{MadeAt, AsksNothing, LeavesIn}
+use Rattle.interleavings.specs.Acts.{acts_made}
+use Rattle.interleavings.proofs.GrantsKnown.{cut, cut_append, cut_late}
 use Rattle.job_meaning.proofs.GrantsBefore as moments
 use Rattle.run_refinement.specs.Sharing.{done_before, AsksBefore}
 use Rattle.run_refinement.proofs.DoneLists.{before_append}
 use Rattle.run_refinement.proofs.OtherAskers.{act_with, done_with, IsSameAsker}
-use Rattle.run_refinement.proofs.RoundLists.{AskedEarlier}
 
 -- ---- who left a queue now
 

@@ -1,5 +1,5 @@
 -- Limiters and channels grant something to who asked, and to each at most as often as it asked: who was granted something is in no queue.
-use Rattle.std.proofs.Common.{◌≡◌, ℕ, zero, suc, ◌+◌, ◌≤◌, Bool, true, false, ◌&&◌, ◌==◌, List, [], ◌∷◌, ◌++◌, map, length, refl, ap, sym, ◌∙◌, subst, arith, nat_lt, if◌then◌else◌}
+use Rattle.std.proofs.Common.{◌≡◌, ℕ, zero, suc, ◌+◌, ◌≤◌, Bool, true, false, List, [], ◌∷◌, ◌++◌, map, length, refl, ap, ◌∙◌, arith, nat_lt, if◌then◌else◌}
 use Rattle.std.specs.List.{filter}
 use Rattle.job_tree.specs.declared.object.Ask.TheVariants.{Acquire, Send, Receive}
 use Rattle.job_tree.specs.declared.object.ObjectKind.{ObjectKind}

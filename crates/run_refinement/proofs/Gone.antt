@@ -1,31 +1,30 @@
 -- A task to which something was granted is in no queue.
-use Rattle.std.proofs.Common.{◌≡◌, ◌≢◌, ◌⊎◌, inl, inr, ℕ, zero, suc, ◌+◌, ◌<◌, ◌≤◌, Bool, true, false, ◌&&◌, ◌==◌, Option, Some, None, List, [], ◌∷◌, ◌++◌, map, refl, ap, sym, ◌∙◌, subst, arith, nat_lt, nat_le, append_assoc, not, if◌then◌else◌}
-use Rattle.std.proofs.lemmas.Bool.{eqb-true, eq-eqb}
+use Rattle.std.proofs.Common.{◌≡◌, inl, inr, ℕ, suc, ◌+◌, ◌<◌, ◌≤◌, Bool, true, false, ◌&&◌, ◌==◌, Option, Some, None, List, [], ◌∷◌, ◌++◌, map, refl, ap, sym, ◌∙◌, subst, arith, nat_lt, nat_le, append_assoc, not, if◌then◌else◌}
+use Rattle.std.proofs.lemmas.Bool.{eqb-true}
 use Rattle.std.proofs.lemmas.Bool.Decides.{nat_tests}
 use Rattle.exceptions.specs.Exceptions.{Label}
 use Rattle.cancel_scopes.specs.Sight.{Tick, is_reached}
 use Rattle.job_tree.specs.Tree.{Tree as Job, Steps}
 use Rattle.job_tree.specs.declared.object.Ask.{Ask}
-use Rattle.objects.specs.Channels.{Sender, Channel}
 use Rattle.objects.specs.Whats.{What}
 use Rattle.input_lines.specs.Lines.{Range}
 use Rattle.job_meaning.specs.Log.{Act, opens, asks, gives_back, closes, same_label}
 use Rattle.job_meaning.specs.Before.{act_before, left_before}
-use Rattle.job_meaning.specs.Sharing.{Done, done_if, Asker, asker_of, stays_at, Given, Granted, granted_if, granted_before, find_given, Object, unopened, a_limiter, a_channel, by_moment, insert_by_moment, serve_acts}
+use Rattle.job_meaning.specs.Sharing.{Done, done_if, Asker, Given, Granted, granted_if, granted_before, find_given, Object, unopened, a_limiter, a_channel, by_moment, insert_by_moment, serve_acts}
 use Rattle.job_meaning.specs.Walk.{Here}
 use Rattle.job_meaning.specs.Rest as rest
 use Rattle.job_meaning.specs.Rest.{Event, noted, signs, enters, acts, starts, Frame, Stopped, queued, inside}
-use Rattle.job_meaning.proofs.Distinct.{same_label_equal, same_label_itself}
+use Rattle.job_meaning.proofs.Distinct.{same_label_equal}
 use Rattle.job_meaning.proofs.ServedAlike.{sender_by}
 use Rattle.turn_semantics.specs.Lists.{Each, IsAmong}
-use Rattle.turn_semantics.specs.Midway.{Place, label_among}
+use Rattle.turn_semantics.specs.Midway.{label_among}
 use Rattle.interleavings.specs.Interleaving.{Started}
 use Rattle.interleavings.specs.Acts.{acts_made, asked_on, acts_pending, acts_of, acts_of_all, granted_so_far}
 use Rattle.interleavings.proofs.GrantsKnown.{cut, cut_done, served_before}
 use Rattle.run_refinement.specs.Sharing.{done_before, object_after, AsksBefore}
 use Rattle.run_refinement.proofs.ActsKeep.{not_both}
-use Rattle.run_refinement.proofs.Counts.{one_if, count, count_append, count_map, in_object, in_channel, sender_passes, asker_in, askers_in, of_asker, of_given, acts_give}
-use Rattle.run_refinement.proofs.DoneLists.{each_filter, each_weaker, sorted_each}
+use Rattle.run_refinement.proofs.Counts.{one_if, count, count_append, count_map, in_object, sender_passes, asker_in, askers_in, of_asker, of_given, acts_give}
+use Rattle.run_refinement.proofs.DoneLists.{each_weaker, sorted_each}
 use Rattle.run_refinement.proofs.Grants.{granted_in}
 use Rattle.run_refinement.proofs.RunFacts.{each_append}
 use Rattle.run_refinement.proofs.OtherAskers.{act_with, done_with, object_with, IsSameAsker, sorted_with, objects_with}

@@ -28,79 +28,79 @@ module _ (t since x y : ℕ) (o : Option Granted) (what : Option What) (before :
     (known : granted_before (suc t) o ≡ granted_in t what) (late : t ≤ granted_or_left (in_time since x o) x)
     (near : min (suc t) x ≡ min (suc t) y)
   where
-  late_by : (p : Option Granted) → granted_before (suc t) p ≡ granted_in t what → t ≤ granted_or_left (in_time since x p) x →
-      what ≡ None → t ≤ y
-  late_by None k l e = omega (arith, l, near)
-  late_by (Some g) k l e = by_tests (nat_le (g.at + 1) (suc t)) refl (nat_lt since g.at) refl (nat_le g.at x) refl
-    where
-      by_tests : (a : Bool) → nat_le (g.at + 1) (suc t) ≡ a → (b : Bool) → nat_lt since g.at ≡ b → (c : Bool) → nat_le g.at x ≡ c → t ≤ y
-      by_tests true i b j c k' =
-          absurd (not_both (ap (granted_in t) e) (sym k ∙ ap (λ (z : Bool). granted_if z g None) i))
-      by_tests false i true j true h =
-          let a : t < g.at = grind (arith, nat_tests) in let b : g.at ≤ x = grind (arith, nat_tests) in omega (arith, a, b, near)
-      by_tests false i true j false h =
-          let a : t ≤ x = subst (λ (z : Bool). t ≤ granted_or_left (granted_if z g None) x) (ap (λ (z : Bool). z && nat_le g.at x) j ∙ h) l in
-          omega (arith, a, near)
-      by_tests false i false j c h =
-          let a : t ≤ x = subst (λ (z : Bool). t ≤ granted_or_left (granted_if z g None) x) (ap (λ (z : Bool). z && nat_le g.at x) j) l in
-          omega (arith, a, near)
+    late_by : (p : Option Granted) → granted_before (suc t) p ≡ granted_in t what → t ≤ granted_or_left (in_time since x p) x →
+        what ≡ None → t ≤ y
+    late_by None k l e = omega (arith, l, near)
+    late_by (Some g) k l e = by_tests (nat_le (g.at + 1) (suc t)) refl (nat_lt since g.at) refl (nat_le g.at x) refl
+      where
+        by_tests : (a : Bool) → nat_le (g.at + 1) (suc t) ≡ a → (b : Bool) → nat_lt since g.at ≡ b → (c : Bool) → nat_le g.at x ≡ c → t ≤ y
+        by_tests true i b j c k' =
+            absurd (not_both (ap (granted_in t) e) (sym k ∙ ap (λ (z : Bool). granted_if z g None) i))
+        by_tests false i true j true h =
+            let a : t < g.at = grind (arith, nat_tests) in let b : g.at ≤ x = grind (arith, nat_tests) in omega (arith, a, b, near)
+        by_tests false i true j false h =
+            let a : t ≤ x = subst (λ (z : Bool). t ≤ granted_or_left (granted_if z g None) x) (ap (λ (z : Bool). z && nat_le g.at x) j ∙ h) l in
+            omega (arith, a, near)
+        by_tests false i false j c h =
+            let a : t ≤ x = subst (λ (z : Bool). t ≤ granted_or_left (granted_if z g None) x) (ap (λ (z : Bool). z && nat_le g.at x) j) l in
+            omega (arith, a, near)
 
-  -- where nothing is granted by now, it leaves now or later
-  pub leaves_late : what ≡ None → t ≤ y
-  leaves_late e = late_by o known late e
+    -- where nothing is granted by now, it leaves now or later
+    pub leaves_late : what ≡ None → t ≤ y
+    leaves_late e = late_by o known late e
 
-  none_by : (p : Option Granted) → granted_before (suc t) p ≡ granted_in t what → what ≡ None → y ≡ t → in_time since y p ≡ None
-  none_by None k e at = refl
-  none_by (Some g) k e at = by_test (nat_le (g.at + 1) (suc t)) refl
-    where
-      by_test : (a : Bool) → nat_le (g.at + 1) (suc t) ≡ a → in_time since y (Some g) ≡ None
-      by_test true i = absurd (not_both (ap (granted_in t) e) (sym k ∙ ap (λ (z : Bool). granted_if z g None) i))
-      by_test false i = by_times (nat_lt since g.at)
-        where
-          past : nat_le g.at y ≡ false
-          past = grind (arith, nat_tests)
+    none_by : (p : Option Granted) → granted_before (suc t) p ≡ granted_in t what → what ≡ None → y ≡ t → in_time since y p ≡ None
+    none_by None k e at = refl
+    none_by (Some g) k e at = by_test (nat_le (g.at + 1) (suc t)) refl
+      where
+        by_test : (a : Bool) → nat_le (g.at + 1) (suc t) ≡ a → in_time since y (Some g) ≡ None
+        by_test true i = absurd (not_both (ap (granted_in t) e) (sym k ∙ ap (λ (z : Bool). granted_if z g None) i))
+        by_test false i = by_times (nat_lt since g.at)
+          where
+            past : nat_le g.at y ≡ false
+            past = grind (arith, nat_tests)
 
-          by_times : (b : Bool) → granted_if (b && nat_le g.at y) g None ≡ None
-          by_times true = ap (λ (z : Bool). granted_if z g None) past
-          by_times false = refl
+            by_times : (b : Bool) → granted_if (b && nat_le g.at y) g None ≡ None
+            by_times true = ap (λ (z : Bool). granted_if z g None) past
+            by_times false = refl
 
-  -- and is granted nothing in time, if it leaves now
-  pub none_in_time : what ≡ None → y ≡ t → in_time since y o ≡ None
-  none_in_time e at = none_by o known e at
+    -- and is granted nothing in time, if it leaves now
+    pub none_in_time : what ≡ None → y ≡ t → in_time since y o ≡ None
+    none_in_time e at = none_by o known e at
 
-  some_by : (p : Option Granted) (w : What) → granted_before (suc t) p ≡ granted_in t what → t ≤ granted_or_left (in_time since x p) x →
-      what ≡ Some w → in_time since y p ≡ Some (record { at = t; what = w })
-  some_by None w k l e = absurd (not_both refl (k ∙ ap (granted_in t) e))
-  some_by (Some g) w k l e = by_test (nat_le (g.at + 1) (suc t)) refl
-    where
-      by_test : (a : Bool) → nat_le (g.at + 1) (suc t) ≡ a → in_time since y (Some g) ≡ Some (record { at = t; what = w })
-      by_test false i = absurd (not_both (ap (λ (z : Bool). granted_if z g None) i) (k ∙ ap (granted_in t) e))
-      by_test true i = ap (λ (z : Bool). granted_if z g None) both ∙ is
-        where
-          is : Some g ≡ Some (record { at = t; what = w })
-          is = sym (ap (λ (z : Bool). granted_if z g None) i) ∙ (k ∙ ap (granted_in t) e)
+    some_by : (p : Option Granted) (w : What) → granted_before (suc t) p ≡ granted_in t what → t ≤ granted_or_left (in_time since x p) x →
+        what ≡ Some w → in_time since y p ≡ Some (record { at = t; what = w })
+    some_by None w k l e = absurd (not_both refl (k ∙ ap (granted_in t) e))
+    some_by (Some g) w k l e = by_test (nat_le (g.at + 1) (suc t)) refl
+      where
+        by_test : (a : Bool) → nat_le (g.at + 1) (suc t) ≡ a → in_time since y (Some g) ≡ Some (record { at = t; what = w })
+        by_test false i = absurd (not_both (ap (λ (z : Bool). granted_if z g None) i) (k ∙ ap (granted_in t) e))
+        by_test true i = ap (λ (z : Bool). granted_if z g None) both ∙ is
+          where
+            is : Some g ≡ Some (record { at = t; what = w })
+            is = sym (ap (λ (z : Bool). granted_if z g None) i) ∙ (k ∙ ap (granted_in t) e)
 
-          at_is : g.at ≡ t
-          at_is = ap (λ (z : Option Granted). granted_or_left z 0) is
+            at_is : g.at ≡ t
+            at_is = ap (λ (z : Option Granted). granted_or_left z 0) is
 
-          after : nat_lt since g.at ≡ true
-          after = grind (arith, nat_tests)
+            after : nat_lt since g.at ≡ true
+            after = grind (arith, nat_tests)
 
-          within : (c : Bool) → nat_le g.at x ≡ c → t ≤ x
-          within true j = grind (arith, nat_tests)
-          within false j =
-              let test : (nat_lt since g.at && nat_le g.at x) ≡ false = ap (λ (z : Bool). z && nat_le g.at x) after ∙ j in
-              subst (λ (z : Bool). t ≤ granted_or_left (granted_if z g None) x) test l
+            within : (c : Bool) → nat_le g.at x ≡ c → t ≤ x
+            within true j = grind (arith, nat_tests)
+            within false j =
+                let test : (nat_lt since g.at && nat_le g.at x) ≡ false = ap (λ (z : Bool). z && nat_le g.at x) after ∙ j in
+                subst (λ (z : Bool). t ≤ granted_or_left (granted_if z g None) x) test l
 
-          in_y : nat_le g.at y ≡ true
-          in_y = let a : t ≤ x = within (nat_le g.at x) refl in let b : t ≤ y = omega (arith, a, near) in grind (arith, nat_tests)
+            in_y : nat_le g.at y ≡ true
+            in_y = let a : t ≤ x = within (nat_le g.at x) refl in let b : t ≤ y = omega (arith, a, near) in grind (arith, nat_tests)
 
-          both : (nat_lt since g.at && nat_le g.at y) ≡ true
-          both = ap (λ (z : Bool). z && nat_le g.at y) after ∙ in_y
+            both : (nat_lt since g.at && nat_le g.at y) ≡ true
+            both = ap (λ (z : Bool). z && nat_le g.at y) after ∙ in_y
 
-  -- what is granted now is granted in time
-  pub some_in_time : (w : What) → what ≡ Some w → in_time since y o ≡ Some (record { at = t; what = w })
-  some_in_time w e = some_by o w known late e
+    -- what is granted now is granted in time
+    pub some_in_time : (w : What) → what ≡ Some w → in_time since y o ≡ Some (record { at = t; what = w })
+    some_in_time w e = some_by o w known late e
 
 -- where a cancellation is seen, a task leaves by now
 pub leaves_seen : (from : Tick) (t last : ℕ) → is_reached from t ≡ true → leaves_queue from last ≤ t

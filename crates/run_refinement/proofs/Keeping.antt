@@ -6,7 +6,6 @@ use Rattle.std.proofs.lemmas.Bool.{cases_lt}
 use Rattle.std.specs.Prelude.{is_some, slice_get}
 use Rattle.std.specs.List.{list_all}
 use Rattle.turn_semantics.specs.Lists.{IsAmong}
-use Rattle.input_lines.specs.declared.part.Part.{Part}
 use Rattle.exceptions.specs.Exceptions.{Exc}
 use Rattle.cancel_scopes.specs.Sight.{seen}
 use Rattle.cancel_scopes.specs.Tree.{outer_of}

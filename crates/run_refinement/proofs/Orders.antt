@@ -1,18 +1,16 @@
 -- In the order of records each task of a run occurs, no two have the same label, and their paths from the root rise.
-use Rattle.std.proofs.Common.{◌≡◌, ◌≢◌, ◌⊎◌, inl, inr, ℕ, zero, suc, ◌+◌, ◌-◌, ◌<◌, ◌≤◌, Bool, true, false, ◌&&◌, ◌||◌, ◌==◌, List, [], ◌∷◌, ◌++◌, length, refl, ap, sym, ◌∙◌, subst, arith, append_assoc, nat_lt, if◌then◌else◌}
-use Rattle.std.proofs.lemmas.Bool.{eqb-true, eq-eqb, cases_lt}
-use Rattle.std.proofs.lemmas.Bool.Decides.{nat_tests}
-use Rattle.std.proofs.lemmas.List.{append-nil}
+use Rattle.std.proofs.Common.{◌≡◌, ◌≢◌, ◌⊎◌, inl, inr, ℕ, zero, suc, ◌+◌, ◌<◌, ◌≤◌, Bool, true, false, ◌==◌, List, [], ◌∷◌, ◌++◌, length, refl, ap, sym, ◌∙◌, subst, arith, if◌then◌else◌}
+use Rattle.std.proofs.lemmas.Bool.{eqb-true, eq-eqb}
 use Rattle.exceptions.specs.Exceptions.{Label}
 use Rattle.job_tree.specs.Tree.{Tree as Job}
 use Rattle.job_tree.specs.Names.{GivesNamesOnce}
 use Rattle.job_tree.specs.Starting.{StartsInNurseries}
 use Rattle.job_meaning.specs.Log.{Log, nil, entry, sign, entered, act, task, followed_by, Result, Table, same_label, times_given}
-use Rattle.job_meaning.specs.Moments.{a_round_after, Now}
-use Rattle.job_meaning.specs.Meaning.{root_label, root_log}
+use Rattle.job_meaning.specs.Moments.{a_round_after}
+use Rattle.job_meaning.specs.Meaning.{root_label}
 use Rattle.job_meaning.specs.Follow.{follow}
 use Rattle.job_meaning.specs.Rest.{Event, noted, signs, enters, acts, starts, fill, rest_comes_to}
-use Rattle.job_meaning.proofs.Distinct.{same_label_equal, same_label_itself}
+use Rattle.job_meaning.proofs.Distinct.{same_label_itself}
 use Rattle.job_meaning.proofs.Once.{labels_once}
 use Rattle.turn_semantics.specs.Lists.{Each, IsAmong}
 use Rattle.turn_semantics.specs.Midway.{Tables, by_tables, stack_at, Begun}
@@ -29,11 +27,9 @@ use Rattle.interleavings.proofs.Picking.{SameTasks, front_same}
 use Rattle.interleavings.proofs.Readings.{in_first, in_second, in_either}
 use Rattle.interleavings.proofs.Running.{runs_keep_invariant}
 use Rattle.interleavings.proofs.Turning.{begun_made}
-use Rattle.run_refinement.specs.Sharing.{precedes}
 use Rattle.run_refinement.specs.Turn.{serials_from}
 use Rattle.run_refinement.proofs.Children.{made_join, made_before, made_now}
 use Rattle.run_refinement.proofs.Counts.{one_if, count}
-use Rattle.run_refinement.proofs.DoneLists.{each_weaker}
 use Rattle.run_refinement.proofs.RunFacts.{each_append}
 
 -- ---- no two tasks have the same label
@@ -353,60 +349,60 @@ module _ (k : Tables) (job : Job) (input : List ℕ) (f : Table) (t m : ℕ) (qs
     (names : GivesNamesOnce job) (starting : StartsInNurseries job) (r : Reached k job input f t m qs) (taken : List Started)
     (order : InOrder qs (0 ∷ []) taken)
   where
-  born : (x : Started) → IsAmong x qs → IsBorn qs m x
-  born = all_born k job input settled names starting f t m qs r
+    born : (x : Started) → IsAmong x qs → IsBorn qs m x
+    born = all_born k job input settled names starting f t m qs r
 
-  interleaving : RunInvariant k f (root_result k job input) qs
-  interleaving = (runs_keep_invariant k job input settled names starting f t m qs r).0
+    interleaving : RunInvariant k f (root_result k job input) qs
+    interleaving = (runs_keep_invariant k job input settled names starting f t m qs r).0
 
-  taken_below : (n : ℕ) (x : Started) → IsAmong x qs → x.serial < n → IsTaken x.serial taken
-  taken_below zero x i lt = absurd (omega (arith, lt))
-  taken_below (suc n) x i lt = by_birth (born x i).by (taken_below n)
-    where
-      by_birth : (x.serial ≡ 0) ⊎ BornOf qs x.serial → ((y : Started) → IsAmong y qs → y.serial < n → IsTaken y.serial taken) → IsTaken x.serial taken
-      by_birth (inl e) lower = taken_stack qs (0 ∷ []) taken order x.serial (inl e)
-      by_birth (inr b) lower =
-          let h = lower b.parent b.among (let e = b.earlier in omega (arith, e, lt)) in
-          let same : h.0 ≡ b.parent =
-          one_serial k job input f t m qs r h.0 b.parent (from_order qs (0 ∷ []) taken order h.0 h.1) b.among h.2 in
-          taken_child qs (0 ∷ []) taken order h.0 h.1 x.serial
-          (subst (λ (z : Started). IsAmong x.serial (children_made z.child z.made)) (sym same) b.born)
+    taken_below : (n : ℕ) (x : Started) → IsAmong x qs → x.serial < n → IsTaken x.serial taken
+    taken_below zero x i lt = absurd (omega (arith, lt))
+    taken_below (suc n) x i lt = by_birth (born x i).by (taken_below n)
+      where
+        by_birth : (x.serial ≡ 0) ⊎ BornOf qs x.serial → ((y : Started) → IsAmong y qs → y.serial < n → IsTaken y.serial taken) → IsTaken x.serial taken
+        by_birth (inl e) lower = taken_stack qs (0 ∷ []) taken order x.serial (inl e)
+        by_birth (inr b) lower =
+            let h = lower b.parent b.among (let e = b.earlier in omega (arith, e, lt)) in
+            let same : h.0 ≡ b.parent =
+            one_serial k job input f t m qs r h.0 b.parent (from_order qs (0 ∷ []) taken order h.0 h.1) b.among h.2 in
+            taken_child qs (0 ∷ []) taken order h.0 h.1 x.serial
+            (subst (λ (z : Started). IsAmong x.serial (children_made z.child z.made)) (sym same) b.born)
 
-  -- each task of the run is taken
-  pub all_are_taken : (x : Started) → IsAmong x qs → IsAmong x taken
-  all_are_taken x i =
-      let h = taken_below (suc x.serial) x i (omega arith) in
-      let same : h.0 ≡ x = one_serial k job input f t m qs r h.0 x (from_order qs (0 ∷ []) taken order h.0 h.1) i h.2 in
-      subst (λ (z : Started). IsAmong z taken) same h.1
+    -- each task of the run is taken
+    pub all_are_taken : (x : Started) → IsAmong x qs → IsAmong x taken
+    all_are_taken x i =
+        let h = taken_below (suc x.serial) x i (omega arith) in
+        let same : h.0 ≡ x = one_serial k job input f t m qs r h.0 x (from_order qs (0 ∷ []) taken order h.0 h.1) i h.2 in
+        subst (λ (z : Started). IsAmong z taken) same h.1
 
-  -- a label is that of one of them at most
-  pub one_has_label : (l : Label) → count (λ (x : Started). same_label l x.here.task) taken ≤ 1
-  unfolding follow
-  one_has_label l =
-      let root : Started = interleaving.root.root in
-      let a : count (λ (x : Started). same_label l x.here.task) taken
-      ≤ given_once l root.here.task + times_given l root.final_result.log + 0 =
-      taken_given k f (root_result k job input) qs interleaving (one_serial k job input f t m qs r)
-      (kids_named k job input names starting settled f t m qs r) l order (root ∷ []) (interleaving.root.among, tt)
-      (ap (λ (n : ℕ). n ∷ []) (sym interleaving.root.first)) in
-      let label : given_once l root.here.task ≡ given_once l (root_label job.name) =
-      ap (given_once l) (root_named k job input f t m qs r root interleaving.root.among interleaving.root.first) in
-      let whole : times_given l root.final_result.log ≡ times_given l (follow k.cancelled_from k.granted job input).log =
-      ap (λ (z : Result). times_given l z.log) interleaving.root.comes in
-      let once : given_once l (root_label job.name) + (times_given l (follow k.cancelled_from k.granted job input).log + 0) ≤ 1 =
-      labels_once (by_tables k) job input names l in
-      omega (arith, a, label, whole, once)
+    -- a label is that of one of them at most
+    pub one_has_label : (l : Label) → count (λ (x : Started). same_label l x.here.task) taken ≤ 1
+    unfolding follow
+    one_has_label l =
+        let root : Started = interleaving.root.root in
+        let a : count (λ (x : Started). same_label l x.here.task) taken
+        ≤ given_once l root.here.task + times_given l root.final_result.log + 0 =
+        taken_given k f (root_result k job input) qs interleaving (one_serial k job input f t m qs r)
+        (kids_named k job input names starting settled f t m qs r) l order (root ∷ []) (interleaving.root.among, tt)
+        (ap (λ (n : ℕ). n ∷ []) (sym interleaving.root.first)) in
+        let label : given_once l root.here.task ≡ given_once l (root_label job.name) =
+        ap (given_once l) (root_named k job input f t m qs r root interleaving.root.among interleaving.root.first) in
+        let whole : times_given l root.final_result.log ≡ times_given l (follow k.cancelled_from k.granted job input).log =
+        ap (λ (z : Result). times_given l z.log) interleaving.root.comes in
+        let once : given_once l (root_label job.name) + (times_given l (follow k.cancelled_from k.granted job input).log + 0) ≤ 1 =
+        labels_once (by_tables k) job input names l in
+        omega (arith, a, label, whole, once)
 
-  -- so tasks with the same label are the same
-  pub labels_differ : (x y : Started) → IsAmong x qs → IsAmong y qs → x.here.task ≡ y.here.task → x.serial ≡ y.serial
-  labels_differ x y i j e = by_test (x.serial == y.serial) refl
-    where
-      by_test : (b : Bool) → (x.serial == y.serial) ≡ b → x.serial ≡ y.serial
-      by_test true g = eqb-true x.serial y.serial g
-      by_test false g =
-          let differ : x.serial ≢ y.serial = λ z. absurd (let w : true ≡ false = sym (eq-eqb x.serial y.serial z) ∙ g in cc) in
-          let two : 2 ≤ count (λ (z : Started). same_label x.here.task z.here.task) taken =
-          two_counted (λ (z : Started). same_label x.here.task z.here.task) (λ z. z.serial) taken x y (all_are_taken x i) (all_are_taken y j)
-          (same_label_itself x.here.task) (ap (same_label x.here.task) (sym e) ∙ same_label_itself x.here.task) differ in
-          let one : count (λ (z : Started). same_label x.here.task z.here.task) taken ≤ 1 = one_has_label x.here.task in
-          absurd (omega (arith, two, one))
+    -- so tasks with the same label are the same
+    pub labels_differ : (x y : Started) → IsAmong x qs → IsAmong y qs → x.here.task ≡ y.here.task → x.serial ≡ y.serial
+    labels_differ x y i j e = by_test (x.serial == y.serial) refl
+      where
+        by_test : (b : Bool) → (x.serial == y.serial) ≡ b → x.serial ≡ y.serial
+        by_test true g = eqb-true x.serial y.serial g
+        by_test false g =
+            let differ : x.serial ≢ y.serial = λ z. absurd (let w : true ≡ false = sym (eq-eqb x.serial y.serial z) ∙ g in cc) in
+            let two : 2 ≤ count (λ (z : Started). same_label x.here.task z.here.task) taken =
+            two_counted (λ (z : Started). same_label x.here.task z.here.task) (λ z. z.serial) taken x y (all_are_taken x i) (all_are_taken y j)
+            (same_label_itself x.here.task) (ap (same_label x.here.task) (sym e) ∙ same_label_itself x.here.task) differ in
+            let one : count (λ (z : Started). same_label x.here.task z.here.task) taken ≤ 1 = one_has_label x.here.task in
+            absurd (omega (arith, two, one))

@@ -1,8 +1,5 @@
 -- Limiters and channels by what is known later of who left their queues: other askers in the place of the first ones.
-use Rattle.std.proofs.Common.{◌≡◌, ℕ, suc, ◌+◌, ◌<◌, ◌≤◌, Bool, true, false, Option, Some, None, List, [], ◌∷◌, ◌++◌, map, refl, ap, sym, ◌∙◌, subst, arith, nat_le, if◌then◌else◌}
-use Rattle.std.proofs.lemmas.List.{map-append}
-use Rattle.std.specs.List.{filter}
-use Rattle.exceptions.specs.Exceptions.{Label}
+use Rattle.std.proofs.Common.{◌≡◌, ℕ, ◌<◌, Bool, true, false, List, [], ◌∷◌, map, refl, ap, sym, ◌∙◌, nat_le, if◌then◌else◌}
 use Rattle.input_lines.specs.Lines.{Range}
 use Rattle.job_tree.specs.declared.object.Ask.TheVariants.{Acquire, Send, Receive}
 use Rattle.objects.specs.Limiters as limiters
@@ -11,7 +8,7 @@ use Rattle.job_meaning.specs.Log.{Act, opens, asks, gives_back, closes}
 use Rattle.job_meaning.specs.Sharing.{Done, Asker, asker_of, stays_at, Object, unopened, a_limiter, a_channel, opened_by, object_of, limiter_acts, channel_acts, serve_act, by_moment, insert_by_moment}
 use Rattle.job_tree.specs.declared.object.ObjectKind.{ObjectKind}
 use Rattle.job_tree.specs.declared.object.ObjectKind.TheVariants as kinds
-use Rattle.job_meaning.proofs.ServedAlike.{limiter_by, channel_by, LimiterActsAlike, AllLimiterActsAlike, limiter_alike, ChannelActsAlike, AllChannelActsAlike, channel_alike, limiter_served_by, channel_served_by}
+use Rattle.job_meaning.proofs.ServedAlike.{limiter_by, channel_by, AllLimiterActsAlike, limiter_alike, AllChannelActsAlike, channel_alike}
 use Rattle.turn_semantics.specs.Lists.{Each}
 use Rattle.run_refinement.specs.Sharing.{object_after}
 

@@ -1,5 +1,5 @@
 -- The order of records by the paths of tasks: what is sorted by them is what the tasks did, taken in that order.
-use Rattle.std.proofs.Common.{◌≡◌, ◌≢◌, ◌⊎◌, inl, inr, ℕ, zero, suc, ◌+◌, ◌<◌, ◌≤◌, Bool, true, false, not, ◌&&◌, ◌||◌, ◌==◌, List, [], ◌∷◌, ◌++◌, map, refl, ap, sym, ◌∙◌, subst, arith, append_assoc, nat_lt}
+use Rattle.std.proofs.Common.{◌≡◌, ◌≢◌, ◌⊎◌, inl, inr, ℕ, ◌<◌, Bool, true, false, not, ◌&&◌, ◌||◌, ◌==◌, List, [], ◌∷◌, ◌++◌, refl, ap, sym, ◌∙◌, subst, arith, append_assoc, nat_lt}
 use Rattle.std.proofs.lemmas.Bool.{eqb-true, eq-eqb}
 use Rattle.std.proofs.lemmas.Bool.Decides.{nat_tests}
 use Rattle.std.proofs.lemmas.List.{append-nil}
@@ -89,69 +89,77 @@ record ComesFrom (path : ℕ → List ℕ) (stack : List ℕ) (n : ℕ) : Type 0
 module _ (qs : List Started) (path : ℕ → List ℕ) (m : ℕ) (rises : (q : Started) → IsAmong q qs → Rises m (children_made q.child q.made))
     (goes_on : (q : Started) → IsAmong q qs → (n : ℕ) → IsAmong n (children_made q.child q.made) → path n ≡ path q.serial ++ n ∷ [])
   where
-  children_left : (q : Started) → (xs : List ℕ) → Rises m xs → ((n : ℕ) → IsAmong n xs → path n ≡ path q.serial ++ n ∷ []) → AreLeft path xs
-  children_left q [] r g = tt
-  children_left q (x ∷ xs) r g = (of_rest xs r.1 (λ n i. g n (inr i)), children_left q xs r.2 (λ n i. g n (inr i)))
-    where
-      of_rest : (ys : List ℕ) → Each (λ (y : ℕ). x < y) ys → ((n : ℕ) → IsAmong n ys → path n ≡ path q.serial ++ n ∷ []) →
-          Each (λ (y : ℕ). IsLeft (path x) (path y)) ys
-      of_rest [] h k = tt
-      of_rest (y ∷ ys) h k =
-          (subst (λ (p : List ℕ). IsLeft p (path y)) (sym (g x (inl refl)))
-          (subst (λ (p : List ℕ). IsLeft (path q.serial ++ x ∷ []) p) (sym (k y (inl refl))) (left_children (path q.serial) x y h.0)),
-          of_rest ys h.1 (λ n i. k n (inr i)))
+    children_left : (q : Started) → (xs : List ℕ) → Rises m xs → ((n : ℕ) → IsAmong n xs → path n ≡ path q.serial ++ n ∷ []) → AreLeft path xs
+    children_left q [] r g = tt
+    children_left q (x ∷ xs) r g = (of_rest xs r.1 (λ n i. g n (inr i)), children_left q xs r.2 (λ n i. g n (inr i)))
+      where
+        of_rest : (ys : List ℕ) → Each (λ (y : ℕ). x < y) ys → ((n : ℕ) → IsAmong n ys → path n ≡ path q.serial ++ n ∷ []) →
+            Each (λ (y : ℕ). IsLeft (path x) (path y)) ys
+        of_rest [] h k = tt
+        of_rest (y ∷ ys) h k = (
+          subst (λ (p : List ℕ). IsLeft p (path y)) (sym (g x (inl refl)))
+              (subst (λ (p : List ℕ). IsLeft (path q.serial ++ x ∷ []) p) (sym (k y (inl refl))) (left_children (path q.serial) x y h.0)),
+          of_rest ys h.1 (λ n i. k n (inr i)),
+        )
 
-  children_before : (q : Started) → (xs stack : List ℕ) → Each (λ (y : ℕ). IsLeft (path q.serial) (path y)) stack →
-      ((n : ℕ) → IsAmong n xs → path n ≡ path q.serial ++ n ∷ []) → Each (λ (x : ℕ). Each (λ (y : ℕ). IsLeft (path x) (path y)) stack) xs
-  children_before q [] stack h g = tt
-  children_before q (x ∷ xs) stack h g =
-      (each_weaker (λ (y : ℕ). IsLeft (path q.serial) (path y)) (λ (y : ℕ). IsLeft (path x) (path y)) stack
-      (λ y l. subst (λ (p : List ℕ). IsLeft p (path y)) (sym (g x (inl refl))) (left_extends (path q.serial) (path y) (x ∷ []) l)) h,
-      children_before q xs stack h (λ n i. g n (inr i)))
+    children_before : (q : Started) → (xs stack : List ℕ) → Each (λ (y : ℕ). IsLeft (path q.serial) (path y)) stack →
+        ((n : ℕ) → IsAmong n xs → path n ≡ path q.serial ++ n ∷ []) → Each (λ (x : ℕ). Each (λ (y : ℕ). IsLeft (path x) (path y)) stack) xs
+    children_before q [] stack h g = tt
+    children_before q (x ∷ xs) stack h g = (
+      each_weaker (λ (y : ℕ). IsLeft (path q.serial) (path y)) (λ (y : ℕ). IsLeft (path x) (path y)) stack
+          (λ y l. subst (λ (p : List ℕ). IsLeft p (path y)) (sym (g x (inl refl))) (left_extends (path q.serial) (path y) (x ∷ []) l)) h,
+      children_before q xs stack h (λ n i. g n (inr i)),
+    )
 
-  record Sorted (stack : List ℕ) (taken : List Started) : Type 0 where
-    rise : RiseIn path (serials taken)
-    from : Each (λ (n : ℕ). ComesFrom path stack n) (serials taken)
+    record Sorted (stack : List ℕ) (taken : List Started) : Type 0 where
+      rise : RiseIn path (serials taken)
+      from : Each (λ (n : ℕ). ComesFrom path stack n) (serials taken)
 
-  sorted : (stack : List ℕ) (taken : List Started) → InOrder qs stack taken → AreLeft path stack → Sorted stack taken
-  sorted _ _ all_taken h = record { rise = tt; from = tt }
-  sorted _ _ (next_taken q stack taken i ord) h =
-      by_rest
-      (sorted (children_made q.child q.made ++ stack) taken ord
-      (left_append path (children_made q.child q.made) stack (children_left q (children_made q.child q.made) (rises q i) (goes_on q i)) h.1
-      (children_before q (children_made q.child q.made) stack h.0 (goes_on q i))))
-    where
-      After : ℕ → Type 0
-      After n = (precedes (path n) (path q.serial) ≡ false) × ComesFrom path (q.serial ∷ stack) n
+    sorted : (stack : List ℕ) (taken : List Started) → InOrder qs stack taken → AreLeft path stack → Sorted stack taken
+    sorted _ _ all_taken h = record { rise = tt; from = tt }
+    sorted _ _ (next_taken q stack taken i ord) h =
+        by_rest
+        (sorted (children_made q.child q.made ++ stack) taken ord
+        (left_append path (children_made q.child q.made) stack (children_left q (children_made q.child q.made) (rises q i) (goes_on q i)) h.1
+        (children_before q (children_made q.child q.made) stack h.0 (goes_on q i))))
+      where
+        After : ℕ → Type 0
+        After n = (precedes (path n) (path q.serial) ≡ false) × ComesFrom path (q.serial ∷ stack) n
 
-      one : (n : ℕ) → ComesFrom path (children_made q.child q.made ++ stack) n → After n
-      one n r = by_place (in_either r.from (children_made q.child q.made) stack r.among)
-        where
-          by_place : IsAmong r.from (children_made q.child q.made) ⊎ IsAmong r.from stack → After n
-          by_place (inl j) =
-              let is : path n ≡ path q.serial ++ (r.from ∷ r.more) =
-              r.is ∙ (ap (λ (p : List ℕ). p ++ r.more) (goes_on q i r.from j) ∙ append_assoc (path q.serial) (r.from ∷ []) r.more) in
-              (ap (λ (p : List ℕ). precedes p (path q.serial)) is ∙ prefix_false (path q.serial) r.from r.more,
-              record { from = q.serial; among = inl refl; more = r.from ∷ r.more; is = is })
-          by_place (inr j) =
-              (ap (λ (p : List ℕ). precedes p (path q.serial)) r.is
-              ∙ left_false (path q.serial) (path r.from) r.more (each_among (λ (y : ℕ). IsLeft (path q.serial) (path y)) stack h.0 r.from j),
-              record { from = r.from; among = inr j; more = r.more; is = r.is })
+        one : (n : ℕ) → ComesFrom path (children_made q.child q.made ++ stack) n → After n
+        one n r = by_place (in_either r.from (children_made q.child q.made) stack r.among)
+          where
+            by_place : IsAmong r.from (children_made q.child q.made) ⊎ IsAmong r.from stack → After n
+            by_place (inl j) =
+                let is : path n ≡ path q.serial ++ (r.from ∷ r.more) =
+                r.is ∙ (ap (λ (p : List ℕ). p ++ r.more) (goes_on q i r.from j) ∙ append_assoc (path q.serial) (r.from ∷ []) r.more) in (
+                  ap (λ (p : List ℕ). precedes p (path q.serial)) is ∙ prefix_false (path q.serial) r.from r.more,
+                  record { from = q.serial; among = inl refl; more = r.from ∷ r.more; is = is },
+                )
+            by_place (inr j) = (
+              ap (λ (p : List ℕ). precedes p (path q.serial)) r.is
+                  ∙ left_false (path q.serial) (path r.from) r.more (each_among (λ (y : ℕ). IsLeft (path q.serial) (path y)) stack h.0 r.from j),
+              record { from = r.from; among = inr j; more = r.more; is = r.is },
+            )
 
-      by_rest : Sorted (children_made q.child q.made ++ stack) taken → Sorted (q.serial ∷ stack) (q ∷ taken)
-      by_rest r =
-          record {
-            rise = (each_weaker (λ (n : ℕ). ComesFrom path (children_made q.child q.made ++ stack) n) (λ (n : ℕ). precedes (path n) (path q.serial) ≡ false)
-                (serials taken) (λ n x. (one n x).0) r.from, r.rise);
-            from =
-                (record { from = q.serial; among = inl refl; more = []; is = sym (append-nil (path q.serial)) },
+        by_rest : Sorted (children_made q.child q.made ++ stack) taken → Sorted (q.serial ∷ stack) (q ∷ taken)
+        by_rest r =
+            record {
+              rise = (
+                each_weaker (λ (n : ℕ). ComesFrom path (children_made q.child q.made ++ stack) n) (λ (n : ℕ). precedes (path n) (path q.serial) ≡ false)
+                    (serials taken) (λ n x. (one n x).0) r.from,
+                r.rise,
+              );
+              from = (
+                record { from = q.serial; among = inl refl; more = []; is = sym (append-nil (path q.serial)) },
                 each_weaker (λ (n : ℕ). ComesFrom path (children_made q.child q.made ++ stack) n) (λ (n : ℕ). ComesFrom path (q.serial ∷ stack) n)
-                (serials taken) (λ n x. (one n x).1) r.from);
-          }
+                    (serials taken) (λ n x. (one n x).1) r.from,
+              );
+            }
 
-  -- along the order of records paths rise
-  pub paths_rise : (taken : List Started) → InOrder qs (0 ∷ []) taken → RiseIn path (serials taken)
-  paths_rise taken ord = (sorted (0 ∷ []) taken ord (tt, tt)).rise
+    -- along the order of records paths rise
+    pub paths_rise : (taken : List Started) → InOrder qs (0 ∷ []) taken → RiseIn path (serials taken)
+    paths_rise taken ord = (sorted (0 ∷ []) taken ord (tt, tt)).rise
 
 -- ---- what is sorted by paths
 

@@ -1,5 +1,5 @@
 -- What a turn of a task does to limiters and channels in its moment, by its events and by what the world has noted.
-use Rattle.std.proofs.Common.{◌≡◌, ◌≢◌, ◌⊎◌, inl, inr, ℕ, suc, ◌+◌, ◌<◌, ◌≤◌, Bool, true, false, ◌&&◌, ◌==◌, Option, Some, None, List, [], ◌∷◌, ◌++◌, map, refl, ap, sym, ◌∙◌, subst, arith, nat_lt}
+use Rattle.std.proofs.Common.{◌≡◌, ◌≢◌, ℕ, ◌+◌, ◌<◌, Bool, true, false, ◌&&◌, ◌==◌, Option, Some, None, List, [], ◌∷◌, ◌++◌, map, refl, ap, sym, ◌∙◌, arith, nat_lt}
 use Rattle.std.proofs.lemmas.Bool.{eqb-true, eq-eqb}
 use Rattle.std.proofs.lemmas.Bool.Decides.{nat_tests}
 use Rattle.exceptions.specs.Exceptions.{Label}
@@ -15,7 +15,7 @@ use Rattle.job_meaning.specs.Walk.{Here}
 use Rattle.job_meaning.specs.Rest.{Event, noted, signs, enters, acts, starts, Frame, Stopped, to_begin, asking, asleep, waiting_for, queued, giving_up, awaiting, at_end, inside}
 use Rattle.turn_semantics.specs.Lists.{Each}
 use Rattle.turn_semantics.specs.Midway.{Place, label_among}
-use Rattle.turn_semantics.specs.Turned.{ActAt, MadeAt, AsksNothing, AsksFirst, AskedFirst, StopsAt}
+use Rattle.turn_semantics.specs.Turned.{MadeAt, AsksNothing, AsksFirst, AskedFirst, StopsAt}
 use Rattle.task_machine.specs.declared.serving.ObjectAct.{ObjectAct}
 use Rattle.task_machine.specs.declared.stop.ObjectRequest.{ObjectRequest}
 use Rattle.task_machine.specs.declared.stop.Stop.{Stop}
@@ -25,7 +25,7 @@ use Rattle.task_machine.specs.declared.stop.TaskState.TheVariants.{ToBegin, Aske
 use Rattle.task_machine.specs.declared.task.Task.{Task}
 use Rattle.task_machine.specs.Frames.{Lent}
 use Rattle.task_machine.specs.Labels.{Labels}
-use Rattle.task_machine.specs.Serving.{Acted, acted_of, acted_before, acts_to_serve}
+use Rattle.task_machine.specs.Serving.{Acted, acted_of, acts_to_serve}
 use Rattle.task_machine.specs.Stacked.{AwaitsEvent}
 use Rattle.task_machine.specs.Stops.{Numbers, IsTaskState, IsReturned}
 use Rattle.interleavings.specs.Acts.{acts_made, asked_on, acts_pending}

@@ -1,6 +1,6 @@
 -- What holds of each task of a run: its acts on limiters and channels were by now, who is in a queue saw no cancellation when it asked, and
 -- its children have rising serial numbers.
-use Rattle.std.proofs.Common.{◌≡◌, ◌⊎◌, inl, inr, ℕ, suc, ◌+◌, ◌<◌, ◌≤◌, Bool, true, false, Option, Some, None, List, [], ◌∷◌, ◌++◌, length, refl, ap, sym, ◌∙◌, subst, arith}
+use Rattle.std.proofs.Common.{◌≡◌, ◌⊎◌, inl, inr, ℕ, suc, ◌+◌, ◌≤◌, Bool, true, false, Option, Some, None, List, [], ◌∷◌, ◌++◌, length, refl, ap, sym, ◌∙◌, subst, arith}
 use Rattle.exceptions.specs.Exceptions.{Label}
 use Rattle.cancel_scopes.specs.Sight.{Tick, seen}
 use Rattle.job_tree.specs.Tree.{Tree as Job}
@@ -17,13 +17,13 @@ use Rattle.job_meaning.proofs.Clips.{seen_near}
 use Rattle.turn_semantics.specs.Lists.{Each, IsAmong}
 use Rattle.turn_semantics.specs.Midway.{Place, label_among, Tables, stack_at, Begun, Move}
 use Rattle.turn_semantics.specs.Steps.{cancelled_from_after}
-use Rattle.turn_semantics.specs.Turned.{AgreesOn, ActAt, MadeAt, AsksNothing, LeavesIn, AsksFirst, AskedFirst, StopsAt, TurnsOver}
+use Rattle.turn_semantics.specs.Turned.{AgreesOn, MadeAt, AsksNothing, LeavesIn, AsksFirst, AskedFirst, StopsAt, TurnsOver}
 use Rattle.turn_semantics.specs.Wakes.{Wake}
 use Rattle.interleavings.specs.Interleaving.{Started}
 use Rattle.interleavings.specs.Acts.{acts_made, asked_on, acts_pending, acts_of, acts_of_all}
 use Rattle.interleavings.specs.Going.{task_after_turn, children_from}
 use Rattle.interleavings.specs.Laws.{IsSettledBy}
-use Rattle.interleavings.specs.Runs.{Reached, begun, turn, jump, Front}
+use Rattle.interleavings.specs.Runs.{Reached, begun, turn, jump}
 use Rattle.interleavings.proofs.Contract.{near_places}
 use Rattle.interleavings.proofs.Picking.{front_same}
 use Rattle.interleavings.proofs.Readings.{in_either}

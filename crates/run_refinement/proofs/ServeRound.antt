@@ -1,14 +1,10 @@
 -- What was done in a round is served by the code as by the definitions, one act after the other.
-use Rattle.std.proofs.Common.{◌≡◌, ◌≢◌, ◌⊎◌, inl, inr, ℕ, zero, suc, ◌+◌, ◌<◌, ◌≤◌, Bool, true, false, not, ◌&&◌, ◌==◌, Option, Some, None, List, [], ◌∷◌, ◌++◌, map, refl, ap, sym, ◌∙◌, subst, arith, nat_lt}
+use Rattle.std.proofs.Common.{◌≡◌, ℕ, ◌+◌, ◌<◌, Bool, true, false, ◌&&◌, ◌==◌, Option, Some, None, List, [], ◌∷◌, ◌++◌, map, refl, ap, sym, ◌∙◌, subst}
 use Rattle.std.proofs.lemmas.Bool.{eqb-true, eq-eqb}
-use Rattle.std.proofs.lemmas.Bool.Decides.{nat_tests}
-use Rattle.std.proofs.lemmas.List.{map-append}
 use Rattle.std.specs.List.{filter}
 use Rattle.std.specs.Option.{option_map}
-use Rattle.exceptions.specs.Exceptions.{Label}
 use Rattle.cancel_scopes.specs.Sight.{Tick}
 use Rattle.input_lines.specs.Lines.{Range}
-use Rattle.job_tree.specs.declared.object.Ask.{Ask}
 use Rattle.job_tree.specs.declared.object.Ask.TheVariants.{Acquire, Send, Receive}
 use Rattle.job_tree.specs.declared.object.ObjectKind.{ObjectKind}
 use Rattle.job_tree.specs.declared.object.ObjectKind.TheVariants as kinds
@@ -16,17 +12,17 @@ use Rattle.objects.specs.Limiters as limiters
 use Rattle.objects.specs.Limiters.{Limiter, LimiterAct, LimiterServed}
 use Rattle.objects.specs.Channels as channels
 use Rattle.objects.specs.Channels.{Sender, Channel, ChannelAct, ChannelServed, Grant}
-use Rattle.objects.specs.Held.{ObjectOf, Gets, gets_token, gets_by, limiter_left, channel_left, new_object, a_limiter as held_limiter, a_channel as held_channel}
+use Rattle.objects.specs.Held.{ObjectOf, Gets, gets_token, gets_by, new_object, a_limiter as held_limiter, a_channel as held_channel}
 use Rattle.objects.specs.Whats.{What}
 use Rattle.objects.specs.declared.ticket.Ticket.{Ticket}
 use Rattle.job_meaning.specs.Log.{Act, opens, asks, gives_back, closes, same_label}
 use Rattle.job_meaning.specs.Sharing as sharing
 use Rattle.job_meaning.specs.Sharing.{Done, Asker, asker_of, stays_at, Given, Granted, granted_if, find_given, Object, unopened, a_limiter, a_channel, serve_act, serve_acts, limiter_acts, channel_acts}
 use Rattle.job_meaning.proofs.Distinct.{same_label_equal, same_label_itself}
-use Rattle.job_meaning.proofs.ServedAlike.{limiter_by, limiter_served_by, AllLimiterActsAlike, limiter_alike, sender_by, channel_by, grant_by, channel_served_by, AllChannelActsAlike, channel_alike}
-use Rattle.turn_semantics.specs.Lists.{Each, IsAmong}
+use Rattle.job_meaning.proofs.ServedAlike.{limiter_served_by, AllLimiterActsAlike, limiter_alike, sender_by, channel_by, grant_by, channel_served_by, AllChannelActsAlike, channel_alike}
+use Rattle.turn_semantics.specs.Lists.{Each}
 use Rattle.interleavings.specs.Interleaving.{Started}
-use Rattle.run_refinement.specs.Sharing.{RoundAct, Waiter, waiter_of, waiter_in, Offer, offer_of, offer_in, stays_to_send, SameObject, to_limiter, to_channel, Served, opened_by, serve_one, serve_all, what_if, find_get, object_after}
+use Rattle.run_refinement.specs.Sharing.{RoundAct, Waiter, waiter_of, waiter_in, Offer, offer_of, offer_in, stays_to_send, SameObject, to_limiter, to_channel, Served, serve_one, serve_all, what_if, find_get, object_after}
 use Rattle.run_refinement.proofs.TurnedObjects.{EachTicket, filter_map_each}
 
 -- a ticket of the code and an asker of the definitions, for the same task: both wait, or neither does
@@ -269,15 +265,16 @@ module _ (at : ℕ → Started) (m t : ℕ) (waits : Ticket → Bool) where
       ServedSo (serve_one waits (Some (held_limiter l)) (record { row = s; since = t }) d.act) (serve_act (a_limiter o) d).object (serve_act (a_limiter o) d).given
   served_limiter l o s d h e f fits =
       record {
-        alike =
-            ((record {
-              free = ap (λ (x : LimiterServed Ticket). x.limiter.free) code ∙ sym (ap (λ (x : LimiterServed Asker). x.limiter.free) meant);
-              waiting =
-                  ap (λ (x : LimiterServed Ticket). map (waiter_of at) (filter waits x.limiter.waiting)) code
-                  ∙ (same_left served.limiter.waiting
-                  ∙ sym (ap (λ (x : LimiterServed Asker). map waiter_in (filter (stays_at t) x.limiter.waiting)) meant));
-            }),
-            subst (λ (x : LimiterServed Ticket). Each (Waits at m waits) (filter waits x.limiter.waiting)) (sym code) (waits_left served.limiter.waiting));
+        alike = (
+          (record {
+            free = ap (λ (x : LimiterServed Ticket). x.limiter.free) code ∙ sym (ap (λ (x : LimiterServed Asker). x.limiter.free) meant);
+            waiting =
+                ap (λ (x : LimiterServed Ticket). map (waiter_of at) (filter waits x.limiter.waiting)) code
+                ∙ (same_left served.limiter.waiting
+                ∙ sym (ap (λ (x : LimiterServed Asker). map waiter_in (filter (stays_at t) x.limiter.waiting)) meant));
+          }),
+          subst (λ (x : LimiterServed Ticket). Each (Waits at m waits) (filter waits x.limiter.waiting)) (sym code) (waits_left served.limiter.waiting),
+        );
         grants =
             subst (λ (x : LimiterServed Ticket). SameGrants (map gets_token x.granted)
             (map (λ who. sharing.given_at d.at who sharing.a_token) (limiters.after_acts o (limiters.leaves (stays_at d.at) ∷ limiter_acts d d.act)).granted)) (sym code)
@@ -317,24 +314,27 @@ module _ (at : ℕ → Started) (m t : ℕ) (waits : Ticket → Bool) where
       ServedSo (serve_one waits (Some (held_channel c)) (record { row = s; since = t }) d.act) (serve_act (a_channel o) d).object (serve_act (a_channel o) d).given
   served_channel c o s d h e f fits =
       record {
-        alike =
-            ((record {
-              places = ap (λ (x : ChannelServed Ticket Range). x.channel.places) code ∙ sym (ap (λ (x : ChannelServed Asker Range). x.channel.places) meant);
-              buffer = ap (λ (x : ChannelServed Ticket Range). x.channel.buffer) code ∙ sym (ap (λ (x : ChannelServed Asker Range). x.channel.buffer) meant);
-              is_closed = ap (λ (x : ChannelServed Ticket Range). x.channel.is_closed) code ∙ sym (ap (λ (x : ChannelServed Asker Range). x.channel.is_closed) meant);
-              senders =
-                  ap (λ (x : ChannelServed Ticket Range). map (offer_of at) (filter (λ s. waits s.who) x.channel.senders)) code
-                  ∙ (same_senders_left served.channel.senders
-                  ∙ sym (ap (λ (x : ChannelServed Asker Range). map offer_in (filter (stays_to_send t) x.channel.senders)) meant));
-              receivers =
-                  ap (λ (x : ChannelServed Ticket Range). map (waiter_of at) (filter waits x.channel.receivers)) code
-                  ∙ (same_left served.channel.receivers
-                  ∙ sym (ap (λ (x : ChannelServed Asker Range). map waiter_in (filter (stays_at t) x.channel.receivers)) meant));
-            }),
-            (subst (λ (x : ChannelServed Ticket Range). Each (λ s. Waits at m waits s.who) (filter (λ s. waits s.who) x.channel.senders)) (sym code)
-            (senders_left served.channel.senders),
+        alike = (
+          (record {
+            places = ap (λ (x : ChannelServed Ticket Range). x.channel.places) code ∙ sym (ap (λ (x : ChannelServed Asker Range). x.channel.places) meant);
+            buffer = ap (λ (x : ChannelServed Ticket Range). x.channel.buffer) code ∙ sym (ap (λ (x : ChannelServed Asker Range). x.channel.buffer) meant);
+            is_closed = ap (λ (x : ChannelServed Ticket Range). x.channel.is_closed) code ∙ sym (ap (λ (x : ChannelServed Asker Range). x.channel.is_closed) meant);
+            senders =
+                ap (λ (x : ChannelServed Ticket Range). map (offer_of at) (filter (λ s. waits s.who) x.channel.senders)) code
+                ∙ (same_senders_left served.channel.senders
+                ∙ sym (ap (λ (x : ChannelServed Asker Range). map offer_in (filter (stays_to_send t) x.channel.senders)) meant));
+            receivers =
+                ap (λ (x : ChannelServed Ticket Range). map (waiter_of at) (filter waits x.channel.receivers)) code
+                ∙ (same_left served.channel.receivers
+                ∙ sym (ap (λ (x : ChannelServed Asker Range). map waiter_in (filter (stays_at t) x.channel.receivers)) meant));
+          }),
+          (
+            subst (λ (x : ChannelServed Ticket Range). Each (λ s. Waits at m waits s.who) (filter (λ s. waits s.who) x.channel.senders)) (sym code)
+                (senders_left served.channel.senders),
             subst (λ (x : ChannelServed Ticket Range). Each (Waits at m waits) (filter waits x.channel.receivers)) (sym code)
-            (waits_left served.channel.receivers)));
+                (waits_left served.channel.receivers),
+          ),
+        );
         grants =
             subst (λ (x : ChannelServed Ticket Range). SameGrants (map gets_by x.granted)
             (map (sharing.given_by d.at) (channels.after_acts o (channels.leaves (stays_at d.at) ∷ channel_acts d d.act)).granted)) (sym code)
@@ -461,7 +461,7 @@ module _ (at : ℕ → Started) (m t : ℕ) (waits : Ticket → Bool) where
           by_both : (a b : Bool) → (x == y) ≡ a → (y == x) ≡ b → a ≡ b
           by_both true true e f = refl
           by_both false false e f = refl
-          by_both true false e f = sym (sym f ∙ eq-eqb y x (sym (eqb-true x y e))) 
+          by_both true false e f = sym (sym f ∙ eq-eqb y x (sym (eqb-true x y e)))
           by_both false true e f = sym e ∙ eq-eqb x y (sym (eqb-true y x f))
 
       same_tests : (same_label (at s).here.task v.task && (u == v.asked)) ≡ (g.who.row == s && g.who.since == u)

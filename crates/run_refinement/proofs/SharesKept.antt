@@ -1,16 +1,14 @@
 -- What the code holds of limiters and channels stays what it is to the run where the same tasks wait in queues; and in a new run it is nothing.
-use Rattle.std.proofs.Common.{◌≡◌, ℕ, suc, ◌+◌, ◌<◌, ◌≤◌, Bool, true, false, ◌&&◌, Option, Some, None, List, [], ◌∷◌, ◌++◌, refl, ap, sym, ◌∙◌, subst, inl, inr, arith}
+use Rattle.std.proofs.Common.{◌≡◌, ℕ, suc, ◌<◌, ◌≤◌, Bool, Option, None, List, [], ◌∷◌, ◌++◌, refl, ap, sym, ◌∙◌, subst}
 use Rattle.std.specs.Option.{option_map}
 use Rattle.exceptions.specs.Exceptions.{Label}
-use Rattle.objects.specs.Held.{ObjectOf, object_in}
+use Rattle.objects.specs.Held.{object_in}
 use Rattle.objects.specs.Whats.{What}
 use Rattle.objects.specs.declared.ticket.Ticket.{Ticket}
 use Rattle.objects.specs.declared.object.Object.{Object}
 use Rattle.job_meaning.specs.Sharing.{Done, unopened, by_moment, granted_before}
 use Rattle.job_meaning.specs.Rest as rest
-use Rattle.job_tree.specs.declared.object.Ask.{Ask}
 use Rattle.turn_semantics.specs.Lists.{IsAmong}
-use Rattle.turn_semantics.specs.Midway.{label_among}
 use Rattle.interleavings.specs.Interleaving.{Started}
 use Rattle.interleavings.specs.Acts.{acts_of, acts_of_all, InOrder, all_taken, next_taken, granted_so_far}
 use Rattle.run_refinement.specs.RunState.{RunState, GrantedAt, Shares}

@@ -1,9 +1,8 @@
 -- An object of the code and one of the definitions, after some left the queues in both.
-use Rattle.std.proofs.Common.{◌≡◌, ℕ, suc, ◌+◌, ◌<◌, ◌≤◌, Bool, true, false, not, ◌&&◌, Option, Some, None, List, [], ◌∷◌, ◌++◌, map, refl, ap, sym, ◌∙◌, subst, arith}
+use Rattle.std.proofs.Common.{◌≡◌, ℕ, Bool, true, false, ◌&&◌, Option, Some, None, List, [], ◌∷◌, map, refl, ap, sym, ◌∙◌, arith}
 use Rattle.std.specs.List.{filter}
 use Rattle.std.specs.Option.{option_map}
 use Rattle.input_lines.specs.Lines.{Range}
-use Rattle.objects.specs.Limiters.{Limiter}
 use Rattle.objects.specs.Channels.{Sender, Channel}
 use Rattle.objects.specs.Held.{ObjectOf, object_in, limiter_left, channel_left, sender_in, waits_to_send, a_limiter as held_limiter, a_channel as held_channel}
 use Rattle.objects.specs.declared.ticket.Ticket.{Ticket}
@@ -12,10 +11,10 @@ use Rattle.objects.specs.declared.object.Object.TheVariants as held
 use Rattle.job_meaning.specs.Sharing.{Asker, Object, unopened, a_limiter, a_channel, stays_at}
 use Rattle.turn_semantics.specs.Lists.{Each}
 use Rattle.interleavings.specs.Interleaving.{Started}
-use Rattle.run_refinement.specs.Sharing.{Waiter, waiter_of, waiter_in, Offer, offer_of, offer_in, stays_to_send, SameObject, SameLimiter, SameChannel}
+use Rattle.run_refinement.specs.Sharing.{Waiter, waiter_of, waiter_in, offer_of, offer_in, stays_to_send, SameObject}
 use Rattle.run_refinement.proofs.Counts.{count, in_object, sender_passes}
 use Rattle.run_refinement.proofs.DoneLists.{each_weaker, each_filter}
-use Rattle.run_refinement.proofs.JumpsOn.{count_none, filter_same}
+use Rattle.run_refinement.proofs.JumpsOn.{count_none}
 use Rattle.run_refinement.proofs.OtherAskers.{object_with, IsSameAsker}
 use Rattle.job_meaning.proofs.ServedAlike.{sender_by}
 
