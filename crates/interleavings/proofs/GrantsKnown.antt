@@ -40,6 +40,7 @@ abbrev pub cut : ℕ → List Done → List Done
 cut c [] = []
 cut c (d ∷ ds) = done_if (nat_lt d.at c) (cut_done c d) (cut c ds)
 
+-- of acts and more acts it is known of both
 pub cut_append : (c : ℕ) (xs ys : List Done) → cut c (xs ++ ys) ≡ cut c xs ++ cut c ys
 cut_append c [] ys = refl
 cut_append c (d ∷ xs) ys = by_order (nat_lt d.at c) (cut_append c xs ys)

@@ -57,6 +57,14 @@ before_append v xs ys = filter-append (λ d. nat_lt d.at v) xs ys
 pub from_append : (v : ℕ) (xs ys : List Done) → done_from v (xs ++ ys) ≡ done_from v xs ++ done_from v ys
 from_append v xs ys = filter-append (λ d. nat_lt v (d.at + 1)) xs ys
 
+pub befores : (t : ℕ) (ds : List Done) → Each (λ (d : Done). d.at < t) (done_before t ds)
+befores t [] = tt
+befores t (d ∷ ds) = by_time (nat_lt d.at t) refl (befores t ds)
+  where
+    by_time : (b : Bool) → nat_lt d.at t ≡ b → Each (λ (x : Done). x.at < t) (done_before t ds) → Each (λ (x : Done). x.at < t) (done_before t (d ∷ ds))
+    by_time true e h = rw e (let lt : d.at < t = grind (arith, nat_tests) in (lt, h))
+    by_time false e h = rw e h
+
 -- ---- in the order of moments
 
 insert_each : (P : Done → Type 0) (d : Done) (ds : List Done) → P d → Each P ds → Each P (insert_by_moment d ds)

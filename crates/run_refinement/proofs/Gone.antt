@@ -24,7 +24,7 @@ use Rattle.interleavings.proofs.GrantsKnown.{cut, cut_done, served_before}
 use Rattle.run_refinement.specs.Sharing.{done_before, object_after, AsksBefore}
 use Rattle.run_refinement.proofs.ActsKeep.{not_both}
 use Rattle.run_refinement.proofs.Counts.{one_if, count, count_append, count_map, in_object, sender_passes, asker_in, askers_in, of_asker, of_given, acts_give}
-use Rattle.run_refinement.proofs.DoneLists.{each_weaker, sorted_each}
+use Rattle.run_refinement.proofs.DoneLists.{each_weaker, sorted_each, befores}
 use Rattle.run_refinement.proofs.Grants.{granted_in}
 use Rattle.run_refinement.proofs.RunFacts.{each_append}
 use Rattle.run_refinement.proofs.OtherAskers.{act_with, done_with, object_with, IsSameAsker, sorted_with, objects_with}
@@ -365,16 +365,8 @@ none_queued job t l n q name ask since body w taken is label before one once gra
         ∙ (ap (λ (ds : List Done). in_object p (object_after unopened ds)) (sorted_with (early t) (done_before t (acts_of_all l taken)))
         ∙ (ap (in_object p)
         (objects_with t (early t) (early_same t) unopened (by_moment (done_before t (acts_of_all l taken)))
-        (sorted_each (λ (d : Done). d.at < t) (done_before t (acts_of_all l taken)) (befores (acts_of_all l taken))))
+        (sorted_each (λ (d : Done). d.at < t) (done_before t (acts_of_all l taken)) (befores t (acts_of_all l taken))))
         ∙ with_count (asked_then q.here.task since) t m))
-      where
-        befores : (ds : List Done) → Each (λ (d : Done). d.at < t) (done_before t ds)
-        befores [] = tt
-        befores (d ∷ ds) = by_order (nat_lt d.at t) refl (befores ds)
-          where
-            by_order : (b : Bool) → nat_lt d.at t ≡ b → Each (λ (x : Done). x.at < t) (done_before t ds) → Each (λ (x : Done). x.at < t) (done_before t (d ∷ ds))
-            by_order true e h = rw e (let lt : d.at < t = grind (arith, nat_tests) in (lt, h))
-            by_order false e h = rw e h
 
     given : l ≡ n → 1 ≤ count (of_given (asked_then q.here.task since)) (serve_acts unopened (by_moment (cut t (acts_of_all l taken))))
     given same = by_found (find_given q.here.task since (serve_acts unopened (by_moment (cut t (acts_of_all l taken))))) refl

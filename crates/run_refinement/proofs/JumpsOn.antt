@@ -34,7 +34,7 @@ use Rattle.task_machine.specs.declared.world.World.{World}
 use Rattle.task_machine.specs.Stops.{Numbers, IsTaskState}
 use Rattle.task_machine.specs.Tasks.{scope_of}
 use Rattle.interleavings.specs.Interleaving.{Started, leaves_by, granted_or_left}
-use Rattle.interleavings.specs.Acts.{acts_of, acts_of_all, InOrder, all_taken, next_taken, granted_so_far}
+use Rattle.interleavings.specs.Acts.{acts_of, acts_of_all, InOrder, granted_so_far}
 use Rattle.interleavings.specs.Laws.{IsSettledBy}
 use Rattle.interleavings.specs.Runs.{keeping, Reached, jump, turns_taken}
 use Rattle.interleavings.proofs.Contract.{near_places}
@@ -53,6 +53,7 @@ use Rattle.run_refinement.proofs.Grants.{granted_in, given_soon, found_soon, lea
 use Rattle.run_refinement.proofs.LabelsApart.{below_of}
 use Rattle.run_refinement.proofs.Jumped.{state_jumps}
 use Rattle.run_refinement.proofs.RunFacts.{IsBy, DoneBy, LeftBy, ActBy, StopBy, all_by, acts_by_now, all_acts_by}
+use Rattle.run_refinement.proofs.Orders.{taken_in}
 
 -- ---- those who left a queue by a moment
 
@@ -180,12 +181,6 @@ later_leaving v since left (Some g) e le = by_test (nat_le (g.at + 1) (suc v)) r
     by_test : (b : Bool) → nat_le (g.at + 1) (suc v) ≡ b → suc v ≤ granted_or_left (in_time since left (Some g)) left
     by_test true f = absurd (not_both e (ap (λ (z : Bool). granted_if z g None) f))
     by_test false f = by_times (nat_lt since g.at && nat_le g.at left) (grind (arith, nat_tests))
-
--- the tasks that an order takes are those of the run
-pub taken_in : (qs : List Started) (stack : List ℕ) (taken : List Started) → InOrder qs stack taken → (q : Started) → IsAmong q taken → IsAmong q qs
-taken_in qs _ _ all_taken x i = absurd i
-taken_in qs _ _ (next_taken q stack taken j order) x (inl e) = subst (λ (z : Started). IsAmong z qs) (sym e) j
-taken_in qs _ _ (next_taken q stack taken j order) x (inr i) = taken_in qs _ taken order x i
 
 asks_later : (t v : ℕ) (es : List rest.Event) → t ≤ v → AsksBefore t es → AsksBefore v es
 asks_later t v [] le h = tt

@@ -316,10 +316,11 @@ taken_child qs _ _ (next_taken q stack taken a order) y (inl e) n j =
 taken_child qs _ _ (next_taken q stack taken a order) y (inr i) n j =
     let h = taken_child qs (children_made q.child q.made ++ stack) taken order y i n j in (h.0, inr h.1, h.2)
 
-from_order : (qs : List Started) (stack : List ℕ) (taken : List Started) → InOrder qs stack taken → (q : Started) → IsAmong q taken → IsAmong q qs
-from_order qs _ _ all_taken x i = absurd i
-from_order qs _ _ (next_taken q stack taken j order) x (inl e) = subst (λ (z : Started). IsAmong z qs) (sym e) j
-from_order qs _ _ (next_taken q stack taken j order) x (inr i) = from_order qs _ taken order x i
+-- the tasks that an order takes are those of the run
+pub taken_in : (qs : List Started) (stack : List ℕ) (taken : List Started) → InOrder qs stack taken → (q : Started) → IsAmong q taken → IsAmong q qs
+taken_in qs _ _ all_taken x i = absurd i
+taken_in qs _ _ (next_taken q stack taken j order) x (inl e) = subst (λ (z : Started). IsAmong z qs) (sym e) j
+taken_in qs _ _ (next_taken q stack taken j order) x (inr i) = taken_in qs _ taken order x i
 
 two_counted : {A : Type 0} (p : A → Bool) (n : A → ℕ) (xs : List A) (x y : A) → IsAmong x xs → IsAmong y xs → p x ≡ true → p y ≡ true → n x ≢ n y →
     2 ≤ count p xs
@@ -364,7 +365,7 @@ module _ (k : Tables) (job : Job) (input : List ℕ) (f : Table) (t m : ℕ) (qs
         by_birth (inr b) lower =
             let h = lower b.parent b.among (let e = b.earlier in omega (arith, e, lt)) in
             let same : h.0 ≡ b.parent =
-            one_serial k job input f t m qs r h.0 b.parent (from_order qs (0 ∷ []) taken order h.0 h.1) b.among h.2 in
+            one_serial k job input f t m qs r h.0 b.parent (taken_in qs (0 ∷ []) taken order h.0 h.1) b.among h.2 in
             taken_child qs (0 ∷ []) taken order h.0 h.1 x.serial
             (subst (λ (z : Started). IsAmong x.serial (children_made z.child z.made)) (sym same) b.born)
 
@@ -372,7 +373,7 @@ module _ (k : Tables) (job : Job) (input : List ℕ) (f : Table) (t m : ℕ) (qs
     pub all_are_taken : (x : Started) → IsAmong x qs → IsAmong x taken
     all_are_taken x i =
         let h = taken_below (suc x.serial) x i (omega arith) in
-        let same : h.0 ≡ x = one_serial k job input f t m qs r h.0 x (from_order qs (0 ∷ []) taken order h.0 h.1) i h.2 in
+        let same : h.0 ≡ x = one_serial k job input f t m qs r h.0 x (taken_in qs (0 ∷ []) taken order h.0 h.1) i h.2 in
         subst (λ (z : Started). IsAmong z taken) same h.1
 
     -- a label is that of one of them at most

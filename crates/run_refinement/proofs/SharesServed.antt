@@ -39,13 +39,13 @@ use Rattle.run_refinement.specs.Moved.{SameTasks, ServesRound, granted_by, grant
 use Rattle.run_refinement.specs.Sharing.{RoundAct, done_by, done_before, done_from, object_after, waits_in, waits_by, is_queued, SameObject, AreAskedBefore, AsksBefore, asked_at, acts_by, acts_on, serve_all, find_get}
 use Rattle.run_refinement.proofs.ActsKeep.{not_both}
 use Rattle.run_refinement.proofs.Counts.{one_if, count, count_append, asker_in, askers_in, of_asker, of_given, acts_give}
-use Rattle.run_refinement.proofs.DoneLists.{all_before, none_from, from_append, each_weaker, each_filter, sorted_each, object_append, serves_append}
+use Rattle.run_refinement.proofs.DoneLists.{all_before, none_from, from_append, each_weaker, each_filter, sorted_each, object_append, serves_append, befores}
 use Rattle.run_refinement.proofs.Gone.{asked_then, given_count}
 use Rattle.run_refinement.proofs.Grants.{granted_in, given_by, given_soon, found_soon}
 use Rattle.run_refinement.proofs.Jumped.{state_serves}
-use Rattle.run_refinement.proofs.JumpsOn.{once_later, same_later, no_late_object, taken_in, stays_queued}
+use Rattle.run_refinement.proofs.JumpsOn.{once_later, same_later, no_late_object, stays_queued}
 use Rattle.run_refinement.proofs.LabelsApart.{below_of}
-use Rattle.run_refinement.proofs.Orders.{Rises, labels_differ, all_are_taken, all_born}
+use Rattle.run_refinement.proofs.Orders.{Rises, labels_differ, all_are_taken, all_born, taken_in}
 use Rattle.run_refinement.proofs.RoundLists.{IsQueued}
 use Rattle.run_refinement.proofs.PathOrders.{serials, gather, gathered, paths_rise}
 use Rattle.run_refinement.proofs.RunFacts.{IsBy, DoneBy, StopBy, all_by, acts_by_now, all_acts_by, each_append}
@@ -80,14 +80,6 @@ insert_last t d (x ∷ xs) ys e h k =
   where
     late : nat_le d.at x.at ≡ false
     late = let lt : x.at < t = h.0 in grind (arith, nat_tests)
-
-befores : (t : ℕ) (ds : List Done) → Each (λ (d : Done). d.at < t) (done_before t ds)
-befores t [] = tt
-befores t (d ∷ ds) = by_time (nat_lt d.at t) refl (befores t ds)
-  where
-    by_time : (b : Bool) → nat_lt d.at t ≡ b → Each (λ (x : Done). x.at < t) (done_before t ds) → Each (λ (x : Done). x.at < t) (done_before t (d ∷ ds))
-    by_time true e h = rw e (let lt : d.at < t = grind (arith, nat_tests) in (lt, h))
-    by_time false e h = rw e h
 
 froms : (t : ℕ) (ds : List Done) → Each (λ (d : Done). t ≤ d.at) (done_from t ds)
 froms t [] = tt

@@ -73,16 +73,16 @@ use Rattle.run_refinement.proofs.ActsKeep.{not_both, same_or}
 use Rattle.run_refinement.proofs.AlikeActs.{left_if, now_left, as_before, same_left, same_before, Alike, alike_append, alike_fixed, alike_late, other_label, made_fixed, before_fixed, made_late, asked_left}
 use Rattle.run_refinement.proofs.Children.{made_join, made_before, made_now}
 use Rattle.run_refinement.proofs.Counts.{count, of_asker}
-use Rattle.run_refinement.proofs.DoneLists.{each_among, all_kept, none_kept, each_weaker, each_filter, sorted_each, from_append}
+use Rattle.run_refinement.proofs.DoneLists.{each_among, all_kept, none_kept, each_weaker, each_filter, sorted_each, from_append, befores}
 use Rattle.run_refinement.proofs.Found.{nth}
 use Rattle.run_refinement.proofs.Parts.{begun_at}
 use Rattle.task_machine.specs.Fitting.{blocks_of, waits_of}
 use Rattle.task_machine.specs.Standing.{IsBegun}
 use Rattle.run_refinement.proofs.Gone.{asked_then, none_queued, acts_label}
 use Rattle.run_refinement.proofs.Grants.{granted_in}
-use Rattle.run_refinement.proofs.JumpsOn.{once_later, is_late, left_after, no_late_object, taken_in}
+use Rattle.run_refinement.proofs.JumpsOn.{once_later, is_late, left_after, no_late_object}
 use Rattle.run_refinement.proofs.LabelsApart.{below_of}
-use Rattle.run_refinement.proofs.Orders.{Rises, one_has_label, labels_differ, all_born}
+use Rattle.run_refinement.proofs.Orders.{Rises, one_has_label, labels_differ, all_born, taken_in}
 use Rattle.run_refinement.proofs.OtherAskers.{done_with, object_with, IsSameAsker, sorted_with, objects_with}
 use Rattle.run_refinement.proofs.RoundLists.{IsQueued, AskedEarlier, done_acted, done_by_append, done_by_none, round_acted, turn_round, pending_past, pending_round}
 use Rattle.run_refinement.proofs.RunFacts.{DoneBy, all_by, all_acts_by, each_append}
@@ -1047,20 +1047,12 @@ module _ (k : Tables) (job : Job) (input : List ℕ) (t m s : ℕ) (old new : Ru
         was : Object
         was = object_after unopened (by_moment (done_before t (acts_of_all l r.0)))
 
-        befores : (ds : List Done) → Each (λ (d : Done). d.at < t) (done_before t ds)
-        befores [] = tt
-        befores (d ∷ ds) = by_time (nat_lt d.at t) refl (befores ds)
-          where
-            by_time : (b : Bool) → nat_lt d.at t ≡ b → Each (λ (x : Done). x.at < t) (done_before t ds) → Each (λ (x : Done). x.at < t) (done_before t (d ∷ ds))
-            by_time true e h = rw e (let lt : d.at < t = grind (arith, nat_tests) in (lt, h))
-            by_time false e h = rw e h
-
         meant : object_after unopened (by_moment (done_before t (acts_of_all l taken'))) ≡ object_with turns.other was
         meant =
             ap (λ (ds : List Done). object_after unopened (by_moment ds)) (r.2 l).same
             ∙ (ap (object_after unopened) (sorted_with turns.other (done_before t (acts_of_all l r.0)))
             ∙ objects_with t turns.other turns.same unopened (by_moment (done_before t (acts_of_all l r.0)))
-            (sorted_each (λ (d : Done). d.at < t) (done_before t (acts_of_all l r.0)) (befores (acts_of_all l r.0))))
+            (sorted_each (λ (d : Done). d.at < t) (done_before t (acts_of_all l r.0)) (befores t (acts_of_all l r.0))))
 
     -- ---- what is granted
 

@@ -3,7 +3,7 @@ use Rattle.std.proofs.Common.{◌≡◌, ℕ, Bool, true, false, ◌&&◌, Optio
 use Rattle.std.specs.List.{filter}
 use Rattle.std.specs.Option.{option_map}
 use Rattle.input_lines.specs.Lines.{Range}
-use Rattle.objects.specs.Channels.{Sender, Channel}
+use Rattle.objects.specs.Channels.{Sender}
 use Rattle.objects.specs.Held.{ObjectOf, object_in, limiter_left, channel_left, sender_in, waits_to_send, a_limiter as held_limiter, a_channel as held_channel}
 use Rattle.objects.specs.declared.ticket.Ticket.{Ticket}
 use Rattle.objects.specs.declared.object.Object.{Object as HeldObject}
@@ -17,6 +17,7 @@ use Rattle.run_refinement.proofs.DoneLists.{each_weaker, each_filter}
 use Rattle.run_refinement.proofs.JumpsOn.{count_none}
 use Rattle.run_refinement.proofs.OtherAskers.{object_with, IsSameAsker}
 use Rattle.job_meaning.proofs.ServedAlike.{sender_by}
+use Rattle.input_lines.specs.Part.{range_of}
 
 -- ---- lists
 
@@ -145,19 +146,19 @@ left_in x (held_channel c) = held_channel (channel_left x c)
 pub object_left : (x w : Ticket → Bool) (o : HeldObject) → object_in (λ k. x k && w k) o ≡ left_in x (object_in w o)
 object_left x w (held.Limiter l) = ap (λ (ws : List Ticket). held_limiter (record { free = l.free; waiting = ws })) (filter_both x w l.waiting.items)
 object_left x w (held.Channel c) =
-    ap (λ (ss : List (Sender Ticket Range)). held_channel (record (left_one (λ k. x k && w k)) { senders = ss }))
+    ap (λ (ss : List (Sender Ticket Range)). with_queues ss (filter (λ k. x k && w k) c.receivers.items))
     (filter_both (waits_to_send x) (waits_to_send w) (map sender_in c.senders.items))
-    ∙ ap (λ (rs : List Ticket). held_channel (record (left_one (λ k. x k && w k)) {
-      senders = filter (waits_to_send x) (filter (waits_to_send w) (map sender_in c.senders.items));
-      receivers = rs;
-    })) (filter_both x w c.receivers.items)
+    ∙ ap (with_queues (filter (waits_to_send x) (filter (waits_to_send w) (map sender_in c.senders.items)))) (filter_both x w c.receivers.items)
   where
-    left_one : (Ticket → Bool) → Channel Ticket Range
-    left_one v = unwrap (object_in v (held.Channel c))
-      where
-        unwrap : ObjectOf → Channel Ticket Range
-        unwrap (held_channel d) = d
-        unwrap (held_limiter l) = record { places = 0; buffer = []; is_closed = false; senders = []; receivers = [] }
+    with_queues : List (Sender Ticket Range) → List Ticket → ObjectOf
+    with_queues senders receivers =
+        held_channel (record {
+          places = c.places;
+          buffer = map range_of c.buffer.items;
+          is_closed = c.is_closed;
+          senders = senders;
+          receivers = receivers;
+        })
 
 -- each who is left in a queue waits
 pub tickets_wait : (w : Ticket → Bool) (o : Option HeldObject) → EachTicket (λ k. w k ≡ true) (option_map (object_in w) o)
