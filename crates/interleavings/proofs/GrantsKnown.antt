@@ -32,15 +32,16 @@ use Rattle.interleavings.proofs.Naming.{one_serial, root_named, StartsNamed, Nam
 
 -- ---- what is known of acts before a moment
 
-abbrev cut_done : ℕ → Done → Done
+abbrev pub cut_done : ℕ → Done → Done
 cut_done c d = record d { act = act_before c d.act }
 
 -- the acts before c, with what is known of them before c
-abbrev cut : ℕ → List Done → List Done
+abbrev pub cut : ℕ → List Done → List Done
 cut c [] = []
 cut c (d ∷ ds) = done_if (nat_lt d.at c) (cut_done c d) (cut c ds)
 
-cut_append : (c : ℕ) (xs ys : List Done) → cut c (xs ++ ys) ≡ cut c xs ++ cut c ys
+-- of acts and more acts it is known of both
+pub cut_append : (c : ℕ) (xs ys : List Done) → cut c (xs ++ ys) ≡ cut c xs ++ cut c ys
 cut_append c [] ys = refl
 cut_append c (d ∷ xs) ys = by_order (nat_lt d.at c) (cut_append c xs ys)
   where
@@ -50,7 +51,7 @@ cut_append c (d ∷ xs) ys = by_order (nat_lt d.at c) (cut_append c xs ys)
     by_order false h = h
 
 -- of acts from c on nothing is known before c
-cut_late : (c : ℕ) (ds : List Done) → Each (λ t. c ≤ t) ds → cut c ds ≡ []
+pub cut_late : (c : ℕ) (ds : List Done) → Each (λ t. c ≤ t) ds → cut c ds ≡ []
 cut_late c [] h = refl
 cut_late c (d ∷ ds) h = ap (λ (b : Bool). done_if b (cut_done c d) (cut c ds)) (le-ltb d.at c h.0) ∙ cut_late c ds h.1
 
@@ -135,7 +136,7 @@ abbrev doing : ℕ → Log → Result
 doing c a = record { end = c; own = []; exc = None; members = []; log = a }
 
 -- What is granted up to c is granted by what is known before c of what was done.
-served_before : (c : ℕ) (job : Tree) (l asker : Label) (m : ℕ) (ds : List Done) →
+pub served_before : (c : ℕ) (job : Tree) (l asker : Label) (m : ℕ) (ds : List Done) →
     granted_before (suc c) (find_given asker m (serve_acts unopened (by_moment ds)))
     ≡ granted_before (suc c) (find_given asker m (serve_acts unopened (by_moment (cut c ds))))
 served_before c job l asker m ds =

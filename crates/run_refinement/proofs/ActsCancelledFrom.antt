@@ -12,7 +12,7 @@ use Rattle.job_meaning.proofs.Distinct.{same_label_equal}
 use Rattle.turn_semantics.specs.Midway.{Place}
 use Rattle.turn_semantics.specs.Steps.{cancelled_from_after_sign, from_lowered_if, cancelled_from_after_entry, from_entered_if, cancelled_from_after}
 use Rattle.turn_semantics.specs.Turned.{labels_of}
-use Rattle.task_machine.specs.Acts.{Scoping, Signs, Sets, Enters, Leaves, Acts, no_act, act_noted, act_starts, act_signs, act_sets, act_enters, act_leaves}
+use Rattle.task_machine.specs.Acts.{Scoping, Signs, Sets, Enters, Leaves, Acts, no_act, act_noted, act_shared, act_starts, act_signs, act_sets, act_enters, act_leaves}
 use Rattle.task_machine.specs.Fitting.{AreOthers}
 use Rattle.task_machine.specs.Labels.{Labels, Events}
 use Rattle.task_machine.specs.Stacked.{AreAt, Alone}
@@ -76,6 +76,7 @@ pub unmoved : {t : ℕ} → (known : Label → Type 0) (f : Table) (l : Label) �
     (cancelled_from_after f es l ≡ f l) × NoneHas l u
 unmoved known f l (no_act s) none k new = (refl, none)
 unmoved known f l (act_noted s u t e es a) none k new = unmoved known f l a none k new
+unmoved known f l (act_shared s u shared t done es a) none k new = unmoved known f l a none k new
 unmoved known f l (act_starts s u i x t es a) none k new = unmoved known f l a none k new
 unmoved {t} known f l (act_signs s m u x es g a) none k new =
     let o = unmoved known (cancelled_from_after_sign f x t) l a (none_signs g l none) k new in
@@ -156,6 +157,7 @@ pub stays_at : {t : ℕ} → (known : Label → Type 0) (f : Table) (key : ℕ) 
     StandsAt key (cancelled_from_after f es) ps u
 stays_at known f key st ps (no_act s) h i k new e others a = (st, e, a)
 stays_at known f key st ps (act_noted s u t x es b) h i k new e others a = stays_at known f key st ps b h i k new e others a
+stays_at known f key st ps (act_shared s u shared t done es b) h i k new e others a = stays_at known f key st ps b h i k new e others a
 stays_at known f key st ps (act_starts s u n l t es b) h i k new e others a = stays_at known f key st ps b h i k new e others a
 stays_at {t} known f key st ps (act_signs s m u l es g b) h i k new e others a =
     let n = stays_signs g e others in

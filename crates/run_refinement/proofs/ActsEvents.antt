@@ -6,7 +6,7 @@ use Rattle.exceptions.specs.Exceptions.{Label}
 use Rattle.cancel_scopes.specs.Sight.{Tick, earlier, next}
 use Rattle.cancel_scopes.specs.Tree.{Tree, stack_of, IsOpen, after_cancel}
 use Rattle.job_meaning.specs.Rest.{Event}
-use Rattle.task_machine.specs.Acts.{Scoping, Signs, Sets, set_at_entry, Enters, Leaves, Acts, no_act, act_noted, act_starts, act_signs, act_sets, act_enters, act_leaves}
+use Rattle.task_machine.specs.Acts.{Scoping, Signs, Sets, set_at_entry, Enters, Leaves, Acts, no_act, act_noted, act_shared, act_starts, act_signs, act_sets, act_enters, act_leaves}
 use Rattle.task_machine.specs.Labels.{Events}
 use Rattle.run_refinement.specs.Sights.{IsOneOf, StaysOrIsSet}
 use Rattle.run_refinement.proofs.ActsKeep.{is_open, not_both, mapped_is, same_or, open_else, labelled_before}
@@ -53,6 +53,7 @@ events_leaves {s} {m} g h key set e = by_key (labelled_before g.no_event key set
 pub events_acts : {t : ℕ} {s u : Scoping} {es : List Event} → Acts t s es u → AreEvents s → AreEvents u
 events_acts (no_act s) h = h
 events_acts (act_noted s u t e es a) h = events_acts a h
+events_acts (act_shared s u shared t done es a) h = events_acts a h
 events_acts (act_starts s u i l t es a) h = events_acts a h
 events_acts (act_signs s m u l es g a) h = events_acts a (events_signs g h)
 events_acts (act_sets s m u l es g a) h = events_acts a (events_sets g h)
@@ -110,6 +111,7 @@ soon_leaves {t} {s} {m} g h key from e = by_key (labelled_before g.no_event key 
 pub soon_acts : {t : ℕ} {s u : Scoping} {es : List Event} → Acts t s es u → AreSoon t s → AreSoon t u
 soon_acts (no_act s) h = h
 soon_acts (act_noted s u t e es a) h = soon_acts a h
+soon_acts (act_shared s u shared t done es a) h = soon_acts a h
 soon_acts (act_starts s u i l t es a) h = soon_acts a h
 soon_acts (act_signs s m u l es g a) h = soon_acts a (λ key from e. h key from (sym (ap (λ (z : Events). z key) g.events) ∙ e))
 soon_acts (act_sets s m u l es g a) h = soon_acts a (soon_sets g h)
@@ -131,6 +133,7 @@ one_last key (k ∷ ks) = inr (one_last key ks)
 pub one_acts : {t : ℕ} (key : ℕ) → {s u : Scoping} {es : List Event} → Acts t s es u → IsOneOf key s.set → IsOneOf key u.set
 one_acts key (no_act s) i = i
 one_acts key (act_noted s u t e es a) i = one_acts key a i
+one_acts key (act_shared s u shared t done es a) i = one_acts key a i
 one_acts key (act_starts s u n l t es a) i = one_acts key a i
 one_acts key (act_signs s m u l es g a) i = one_acts key a (subst (IsOneOf key) (sym g.set) i)
 one_acts key (act_sets s m u l es g a) i = one_acts key a (subst (IsOneOf key) (sym g.sets.among) (one_more key s.set (g.key ∷ []) i))

@@ -11,7 +11,7 @@ use Rattle.cancel_scopes.specs.Tree.{Stack, Tree, stack_of, outer_of, own_label,
 use Rattle.job_meaning.specs.Rest.{Event}
 use Rattle.interleavings.specs.Rows.{entered_made}
 use Rattle.run_refinement.specs.Turn.{AreNew}
-use Rattle.task_machine.specs.Acts.{Scoping, Signs, Sets, Enters, Leaves, Acts, no_act, act_noted, act_starts, act_signs, act_sets, act_enters, act_leaves}
+use Rattle.task_machine.specs.Acts.{Scoping, Signs, Sets, Enters, Leaves, Acts, no_act, act_noted, act_shared, act_starts, act_signs, act_sets, act_enters, act_leaves}
 use Rattle.task_machine.specs.Labels.{Labels, Updates}
 use Rattle.task_machine.specs.Stacked.{IsKey}
 use Rattle.task_machine.proofs.Stacked.{one_of}
@@ -204,6 +204,7 @@ sound_leaves {s} {m} g h = record { own = λ key st e. h.own key st (before key 
 pub sound_acts : {t : ℕ} {s u : Scoping} {es : List Event} → Acts t s es u → Sound s → Sound u
 sound_acts (no_act s) h = h
 sound_acts (act_noted s u t e es a) h = sound_acts a h
+sound_acts (act_shared s u shared t done es a) h = sound_acts a h
 sound_acts (act_starts s u i l t es a) h = sound_acts a h
 sound_acts (act_signs s m u l es g a) h = sound_acts a (sound_signs g h)
 sound_acts (act_sets s m u l es g a) h = sound_acts a (sound_sets g h)
@@ -286,6 +287,7 @@ pub apart_acts : {t : ℕ} → (known : Label → Type 0) → {s u : Scoping} {e
     Apart u × HasKnown (KnownWith known es) u
 apart_acts known (no_act s) h k new = (h, λ key l e. inl (k key l e))
 apart_acts known (act_noted s u t e es a) h k new = apart_acts known a h k new
+apart_acts known (act_shared s u shared t done es a) h k new = apart_acts known a h k new
 apart_acts known (act_starts s u i l t es a) h k new = apart_acts known a h k new
 apart_acts known (act_signs s m u l es g a) h k new = let n = apart_signs known g h k in apart_acts known a n.0 n.1 new
 apart_acts known (act_sets s m u l es g a) h k new = let n = apart_sets known g h k in apart_acts known a n.0 n.1 new

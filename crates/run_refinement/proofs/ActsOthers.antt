@@ -10,7 +10,7 @@ use Rattle.job_meaning.specs.Log.{Table}
 use Rattle.job_meaning.specs.Rest.{Event}
 use Rattle.turn_semantics.specs.Steps.{cancelled_from_after_sign, cancelled_from_after_entry, cancelled_from_after}
 use Rattle.task_machine.specs.declared.task.Own.{Own}
-use Rattle.task_machine.specs.Acts.{Scoping, Signs, Sets, kept_from, Enters, Leaves, Acts, no_act, act_noted, act_starts, act_signs, act_sets, act_enters, act_leaves}
+use Rattle.task_machine.specs.Acts.{Scoping, Signs, Sets, kept_from, Enters, Leaves, Acts, no_act, act_noted, act_shared, act_starts, act_signs, act_sets, act_enters, act_leaves}
 use Rattle.task_machine.specs.Fitting.{AreOthers}
 use Rattle.task_machine.specs.Labels.{Labels}
 use Rattle.run_refinement.specs.Turn.{AreNew}
@@ -74,6 +74,7 @@ pub kept_acts : {t : ℕ} → (known : Label → Type 0) (f : Table) (key : ℕ)
     AreOthers key s.own → IsKept f s key l → IsKept (cancelled_from_after f es) u key l
 kept_acts known f key l (no_act s) sound apart has new others k = k
 kept_acts known f key l (act_noted s u t e es a) sound apart has new others k = kept_acts known f key l a sound apart has new others k
+kept_acts known f key l (act_shared s u shared t done es a) sound apart has new others k = kept_acts known f key l a sound apart has new others k
 kept_acts known f key l (act_starts s u i x t es a) sound apart has new others k = kept_acts known f key l a sound apart has new others k
 kept_acts {t} known f key l (act_signs s m u x es g a) sound apart has new others k =
     let n = apart_signs known g apart has in
@@ -119,6 +120,7 @@ labelled_leaves {s} {m} g h key l e = let b = labelled_left g key l e in open_el
 pub labelled_acts : {t : ℕ} {s u : Scoping} {es : List Event} → Acts t s es u → AreLabelled s → AreLabelled u
 labelled_acts (no_act s) h = h
 labelled_acts (act_noted s u t e es a) h = labelled_acts a h
+labelled_acts (act_shared s u shared t done es a) h = labelled_acts a h
 labelled_acts (act_starts s u i l t es a) h = labelled_acts a h
 labelled_acts (act_signs s m u l es g a) h = labelled_acts a (labelled_signs g h)
 labelled_acts (act_sets s m u l es g a) h = labelled_acts a (labelled_sets g h)

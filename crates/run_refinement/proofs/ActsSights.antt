@@ -11,7 +11,7 @@ use Rattle.cancel_scopes.specs.Tree.{Stack, Tree, is_changed, after_cancel}
 use Rattle.job_meaning.specs.Rest.{Event}
 use Rattle.job_meaning.specs.Log.{Table}
 use Rattle.job_meaning.proofs.Ticks.{reached_earlier}
-use Rattle.task_machine.specs.Acts.{Scoping, Signs, Enters, Leaves, Acts, no_act, act_noted, act_starts, act_signs, act_sets, act_enters, act_leaves}
+use Rattle.task_machine.specs.Acts.{Scoping, Signs, Enters, Leaves, Acts, no_act, act_noted, act_shared, act_starts, act_signs, act_sets, act_enters, act_leaves}
 use Rattle.task_machine.specs.Labels.{Labels}
 use Rattle.run_refinement.specs.Sights.{Shows}
 use Rattle.run_refinement.specs.Turn.{AreNew}
@@ -153,6 +153,7 @@ pub shows_acts : {t : ℕ} → (known : Label → Type 0) (f : Table) (key : ℕ
     AreNew known es → known l → s.labels key ≡ Some l → u.labels key ≡ Some l → Shows s.tree key kept → Shows u.tree key kept
 shows_acts known f key l kept (no_act s) apart has new k was is h = h
 shows_acts known f key l kept (act_noted s u t e es a) apart has new k was is h = shows_acts known f key l kept a apart has new k was is h
+shows_acts known f key l kept (act_shared s u shared t done es a) apart has new k was is h = shows_acts known f key l kept a apart has new k was is h
 shows_acts known f key l kept (act_starts s u i x t es a) apart has new k was is h =
     shows_acts known f key l kept a apart has new k was is h
 shows_acts known f key l kept (act_signs s m u x es g a) apart has new k was is h =

@@ -6,7 +6,7 @@ use Rattle.exceptions.specs.Exceptions.{Label}
 use Rattle.cancel_scopes.specs.Tree.{Stack, Tree, stack_of, after_cancel}
 use Rattle.job_meaning.specs.Rest.{Event}
 use Rattle.job_meaning.specs.Log.{Table}
-use Rattle.task_machine.specs.Acts.{Scoping, Acts, no_act, act_noted, act_starts, act_signs, act_sets, act_enters, act_leaves}
+use Rattle.task_machine.specs.Acts.{Scoping, Acts, no_act, act_noted, act_shared, act_starts, act_signs, act_sets, act_enters, act_leaves}
 use Rattle.task_machine.specs.Labels.{Labels, Events}
 use Rattle.task_machine.specs.Stacked.{SameOn}
 use Rattle.run_refinement.specs.Sights.{IsOneOf, StaysOrIsSet}
@@ -43,6 +43,7 @@ pub stack_acts : {t : ℕ} → (known : Label → Type 0) (f : Table) (key : ℕ
 stack_acts known f key l st (no_act s) sound apart has new k was is e =
     record { after = st; at = e; levels = same_levels st; labels = same_on s.labels s.labels st refl; event = inl (refl, λ i. i) }
 stack_acts known f key l st (act_noted s u t x es a) sound apart has new k was is e = stack_acts known f key l st a sound apart has new k was is e
+stack_acts known f key l st (act_shared s u shared t done es a) sound apart has new k was is e = stack_acts known f key l st a sound apart has new k was is e
 stack_acts known f key l st (act_starts s u i x t es a) sound apart has new k was is e = stack_acts known f key l st a sound apart has new k was is e
 stack_acts {t} known f key l st (act_signs s m u x es g a) sound apart has new k was is e =
     let n = apart_signs known g apart has in

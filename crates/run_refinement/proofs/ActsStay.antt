@@ -7,7 +7,7 @@ use Rattle.cancel_scopes.specs.Sight.{Tick, Level, earlier}
 use Rattle.cancel_scopes.specs.Tree.{Stack, Tree, stack_of, IsOpen, after_cancel}
 use Rattle.job_meaning.specs.Rest.{Event}
 use Rattle.task_machine.specs.declared.task.Own.{Own}
-use Rattle.task_machine.specs.Acts.{Scoping, Signs, Sets, Enters, Leaves, Acts, no_act, act_noted, act_starts, act_signs, act_sets, act_enters, act_leaves}
+use Rattle.task_machine.specs.Acts.{Scoping, Signs, Sets, Enters, Leaves, Acts, no_act, act_noted, act_shared, act_starts, act_signs, act_sets, act_enters, act_leaves}
 use Rattle.task_machine.specs.Fitting.{AreOthers}
 use Rattle.task_machine.specs.Labels.{Labels, Events, Updates}
 use Rattle.task_machine.specs.Stacked.{IsKey, SameOn}
@@ -164,6 +164,7 @@ pub stays : {t : ℕ} {s u : Scoping} {es : List Event} {key : ℕ} {st : Stack}
 stays {st = st} (no_act s) h e others =
     record { after = st; at = e; levels = same_levels st; labels = same_on s.labels s.labels st refl; others = others }
 stays (act_noted s u t e es a) h f others = stays a h f others
+stays (act_shared s u shared t done es a) h f others = stays a h f others
 stays (act_starts s u i l t es a) h f others = stays a h f others
 stays (act_signs s m u l es g a) h e others = let n = stays_signs g e others in stays_both n (stays a (sound_signs g h) n.at n.others)
 stays (act_sets s m u l es g a) h e others = let n = stays_sets g e others in stays_both n (stays a (sound_sets g h) n.at n.others)
@@ -209,6 +210,7 @@ else_leaves {s} {m} {key} g i =
 pub else_acts : {t : ℕ} {s u : Scoping} {es : List Event} {key : ℕ} → Acts t s es u → IsElse key u → IsElse key s
 else_acts (no_act s) i = i
 else_acts (act_noted s u t e es a) i = else_acts a i
+else_acts (act_shared s u shared t done es a) i = else_acts a i
 else_acts (act_starts s u i l t es a) j = else_acts a j
 else_acts (act_signs s m u l es g a) i = else_signs g (else_acts a i)
 else_acts (act_sets s m u l es g a) i = else_sets g (else_acts a i)

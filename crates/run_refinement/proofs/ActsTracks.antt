@@ -14,7 +14,7 @@ use Rattle.job_meaning.proofs.Distinct.{same_label_itself}
 use Rattle.turn_semantics.specs.Steps.{cancelled_from_after_sign, from_lowered_if, cancelled_from_after_entry, from_entered_if, cancelled_from_after}
 use Rattle.task_machine.specs.declared.entry.ScopeFrom.{ScopeFrom}
 use Rattle.task_machine.specs.declared.task.Own.{Own}
-use Rattle.task_machine.specs.Acts.{Scoping, Signs, Sets, set_at_entry, kept_from, Enters, Leaves, Acts, no_act, act_noted, act_starts, act_signs, act_sets, act_enters, act_leaves}
+use Rattle.task_machine.specs.Acts.{Scoping, Signs, Sets, set_at_entry, kept_from, Enters, Leaves, Acts, no_act, act_noted, act_shared, act_starts, act_signs, act_sets, act_enters, act_leaves}
 use Rattle.task_machine.specs.Fitting.{AreOthers}
 use Rattle.task_machine.specs.Labels.{Labels, Events}
 use Rattle.interleavings.specs.Rows.{entered_made}
@@ -423,6 +423,7 @@ pub tracked : {t : ℕ} → (known : Label → Type 0) (f : Table) (entered : Li
 tracked known f entered (no_act s) sound apart has new h =
     subst (Tracks (KnownWith known []) f s) (sym (append-nil entered)) (tracks_more (λ l k. inl k) h)
 tracked known f entered (act_noted s u t e es a) sound apart has new h = tracked known f entered a sound apart has new h
+tracked known f entered (act_shared s u shared t done es a) sound apart has new h = tracked known f entered a sound apart has new h
 tracked known f entered (act_starts s u i l t es a) sound apart has new h = tracked known f entered a sound apart has new h
 tracked {t} known f entered (act_signs s m u l es g a) sound apart has new h =
     let n = apart_signs known g apart has in

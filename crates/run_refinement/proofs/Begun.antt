@@ -24,7 +24,7 @@ use Rattle.task_machine.specs.declared.stop.TaskState.{TaskState}
 use Rattle.task_machine.specs.declared.task.Home.{Home}
 use Rattle.task_machine.specs.declared.task.Own.{Own}
 use Rattle.task_machine.specs.declared.task.Task.{Task}
-use Rattle.task_machine.specs.Fitting.{Block, blocks_of, AreInRangeFrames, StartsFit, Opened, waits_of}
+use Rattle.task_machine.specs.Fitting.{Block, blocks_of, AreInRangeFrames, StartsFit, Opened, waits_of, AreOf}
 use Rattle.task_machine.specs.Left.{OwnFirst}
 use Rattle.task_machine.specs.Standing.{here_of, HasBlock, HasNurseryOf}
 use Rattle.task_machine.specs.Stacked.{AreAt}
@@ -39,13 +39,20 @@ use Rattle.interleavings.specs.Runs.{begun}
 use Rattle.run_refinement.proofs.ActsKeep.{not_both}
 use Rattle.run_refinement.specs.Begun.{IsNewWorld, IsRootTask}
 use Rattle.run_refinement.specs.RunState.{Interleaving, RunState, EndedTask, Differ, IsSince, LastEnds, HasHome, Follows, HasEnded, Refines}
+use Rattle.turn_semantics.specs.Midway.{Tables}
+use Rattle.run_refinement.proofs.Inputs.{none_received}
+use Rattle.input_lines.specs.Part.{buffer_of}
+use Rattle.run_refinement.proofs.SharesKept.{shares_none}
+use Rattle.interleavings.specs.Acts.{acts_of}
+use Rattle.exceptions.specs.Exceptions.{Label}
+use Rattle.turn_semantics.specs.Lists.{IsAmong}
 
 -- no label is cancelled
 abbrev none_cancelled_from : Table
 none_cancelled_from l = None
 
 -- at each serial number is the root, which has done nothing
-begun_interleaving : (k : Table) (job : Job) (input : List ℕ) → Interleaving k job input 0 1
+begun_interleaving : (k : Tables) (job : Job) (input : List ℕ) → Interleaving k job input 0 1
 begun_interleaving k job input =
     record {
       cancelled_from = none_cancelled_from;
@@ -67,7 +74,7 @@ no_numbers p id = []
 
 -- ---- the root
 
-root_follows : (k : Table) (job : Job) (input : List ℕ) (state : RunState) (root : Task) → IsInRange job → StartsInNurseries job →
+root_follows : (k : Tables) (job : Job) (input : List ℕ) (state : RunState) (root : Task) → IsInRange job → StartsInNurseries job →
     GivesNamesOnce job → state.world.clock ≡ clock_of job.format → IsRootTask job input root →
     Follows state none_cancelled_from input 0 (λ s. root_task k job input) no_numbers None 0 root
 root_follows k job input state root in_range starting names clock r =
@@ -85,6 +92,7 @@ root_follows k job input state root in_range starting names clock r =
             numbered = λ id i. absurd (let h : ⊥ = subst (λ (bs : List Block). HasBlock id bs) blocks i in h);
             placed = subst (λ (fs : List rest.Frame). Placed fs []) (sym (r.frames (no_numbers 0))) (starting, tt);
             new = subst (λ (fs : List rest.Frame). NewIn fs []) (sym (r.frames (no_numbers 0))) (new_job job names);
+            stop = tt;
             own = tt;
             event = tt;
           };
@@ -93,6 +101,7 @@ root_follows k job input state root in_range starting names clock r =
       goes =
           record {
             in_range = subst AreInRangeFrames (sym (r.frames (λ id. []))) (in_range.numbers, tt);
+            lent = subst (AreOf (buffer_of root.part)) (sym (none_received (λ id. []) root.frames.items job.steps (r.frames (λ id. [])))) tt;
             starts = subst StartsFit (sym (r.frames (λ id. []))) (starting, tt);
             home = subst (λ (o : Option ℕ). ForSome o (IsOpen state.world.scopes)) (sym no_home)
                 (λ x e. absurd (let f : None ≡ Some x = e in cc));
@@ -157,18 +166,19 @@ root_follows k job input state root in_range starting names clock r =
 -- ---- the tasks of the program
 
 -- the tasks of a run that begins, where the root is at serial number 0
-pub record BeginsAs (k : Table) (job : Job) (input : List ℕ) (state : RunState) : Type 0 where
+pub record BeginsAs (k : Tables) (job : Job) (input : List ℕ) (state : RunState) : Type 0 where
   pub is : Refines k job input 0 1 None state
   pub at : is.interleaving.at 0 ≡ root_task k job input
 
 -- the root alone in a new world is a run in moment 0, whose task is the root of the definitions
-pub state_begins : (k : Table) (job : Job) (input : List ℕ) (state : RunState) (root : Task) → IsInRange job → StartsInNurseries job →
+pub state_begins : (k : Tables) (job : Job) (input : List ℕ) (state : RunState) (root : Task) → IsInRange job → StartsInNurseries job →
     GivesNamesOnce job → length input ≤ MAX_INPUT →
     IsNewWorld job state.world → IsRootTask job input root → state.task 0 ≡ Some root → ((p : ℕ) → state.task (suc p) ≡ None) →
     ((p : ℕ) → state.ended_task p ≡ None) → state.start 0 ≡ 0 →
-    state.children 0 ≡ [] → state.turns ≡ 0 → BeginsAs k job input state
+    state.children 0 ≡ [] → state.turns ≡ 0 → state.path 0 ≡ 0 ∷ [] → state.through ≡ 0 → ((l : Label) → state.object l ≡ None) → state.round ≡ [] →
+    ((p : ℕ) → state.granted p ≡ None) → BeginsAs k job input state
 unfolding begun_interleaving
-state_begins k job input state root in_range starting names small world r first others ended_task start children turns =
+state_begins k job input state root in_range starting names small world r first others ended_task start children turns path through objects round granted =
     record {
       is =
           record {
@@ -177,6 +187,7 @@ state_begins k job input state root in_range starting names small world r first 
             counted = sym turns;
             clock = world.clock;
             tick = world.tick;
+            in_range = in_range;
             small = small;
             some = omega arith;
             begun = start;
@@ -190,10 +201,23 @@ state_begins k job input state root in_range starting names small world r first 
             soon = λ key from e. absurd (not_both (world.events key) e);
             started = λ s lt. tt;
             children = λ s lt. let e : s ≡ 0 = omega (arith, lt) in ap state.children e ∙ children;
+            through = inl through;
+            path_of_root = path;
+            path_of_child = λ s c lt i. absurd (no_child s c lt i);
+            shares = shares_none state (root_task k job input ∷ []) (λ s. root_task k job input) 1 (λ l q i. by_root l q i) (λ s lt. (inl refl, refl, refl))
+                objects round granted;
           };
       at = refl;
     }
   where
+    no_child : (s c : ℕ) → s < 1 → IsAmong c (state.children s) → ⊥
+    no_child s c lt i = let e : s ≡ 0 = omega (arith, lt) in
+        let j : IsAmong c [] = subst (IsAmong c) (ap state.children e ∙ children) i in j
+
+    by_root : (l : Label) (q : Started) → IsAmong q (root_task k job input ∷ []) → acts_of l q ≡ []
+    by_root l q (inl e) = ap (acts_of l) e
+    by_root l q (inr i) = absurd i
+
     is_first : (s : ℕ) (task : Task) → state.task s ≡ Some task → s ≡ 0
     is_first zero task e = refl
     is_first (suc s) task e = absurd (let f : None ≡ Some task = sym (others s) ∙ e in cc)
@@ -221,10 +245,11 @@ state_begins k job input state root in_range starting names small world r first 
         by_stack e = absurd cc
 
 -- the root alone in a new world is a run of one task in moment 0
-pub state_begun : (k : Table) (job : Job) (input : List ℕ) (state : RunState) (root : Task) → IsInRange job → StartsInNurseries job →
+pub state_begun : (k : Tables) (job : Job) (input : List ℕ) (state : RunState) (root : Task) → IsInRange job → StartsInNurseries job →
     GivesNamesOnce job → length input ≤ MAX_INPUT →
     IsNewWorld job state.world → IsRootTask job input root → state.task 0 ≡ Some root → ((p : ℕ) → state.task (suc p) ≡ None) →
     ((p : ℕ) → state.ended_task p ≡ None) → state.start 0 ≡ 0 →
-    state.children 0 ≡ [] → state.turns ≡ 0 → Refines k job input 0 1 None state
-state_begun k job input state root in_range starting names small world r first others ended_task start children turns =
-    (state_begins k job input state root in_range starting names small world r first others ended_task start children turns).is
+    state.children 0 ≡ [] → state.turns ≡ 0 → state.path 0 ≡ 0 ∷ [] → state.through ≡ 0 → ((l : Label) → state.object l ≡ None) → state.round ≡ [] →
+    ((p : ℕ) → state.granted p ≡ None) → Refines k job input 0 1 None state
+state_begun k job input state root in_range starting names small world r first others ended_task start children turns path through objects round granted =
+    (state_begins k job input state root in_range starting names small world r first others ended_task start children turns path through objects round granted).is

@@ -9,22 +9,22 @@ use Rattle.cancel_scopes.specs.Tree.{outer_of}
 use Rattle.nursery_book.specs.Nursery.{End, Nursery, is_settled}
 use Rattle.nursery_book.specs.Book.{nursery_at, HasNursery}
 use Rattle.nursery_book.specs.declared.book.NurseryBook.{NurseryBook}
-use Rattle.job_tree.specs.Tree.{Tree as Job}
+use Rattle.job_tree.specs.Tree.{Tree as Job, Steps}
 use Rattle.job_tree.specs.Names.{GivesNamesOnce, size_of}
 use Rattle.job_tree.specs.Starting.{StartsInNurseries}
-use Rattle.cancel_scopes.specs.Sight.{sight}
+use Rattle.cancel_scopes.specs.Sight.{sight, Tick}
 use Rattle.job_meaning.specs.Log.{Table}
 use Rattle.job_meaning.specs.Moments.{clock_of, tick_of, a_round_after, wakes_at, Now}
 use Rattle.job_meaning.specs.declared.clock.Clock.{Clock}
 use Rattle.job_meaning.specs.Walk.{Here, latest}
 use Rattle.job_meaning.specs.Before.{upto}
-use Rattle.job_meaning.specs.Follow.{IsSettled}
-use Rattle.job_meaning.specs.Meaning.{meaning_end, meaning_table}
-use Rattle.job_meaning.specs.Rest.{Stopped, to_begin, asking, asleep, waiting_for, giving_up, awaiting, at_end}
-use Rattle.turn_semantics.specs.Midway.{stack_at}
+use Rattle.interleavings.specs.Laws.{IsSettledBy, meaning_tables}
+use Rattle.job_meaning.specs.Meaning.{meaning_end}
+use Rattle.job_meaning.specs.Rest.{Stopped, to_begin, asking, asleep, waiting_for, giving_up, awaiting, at_end, queued, inside}
+use Rattle.turn_semantics.specs.Midway.{Tables, stack_at, label_among}
 use Rattle.turn_semantics.specs.Wakes.{ends_at}
 use Rattle.task_machine.specs.declared.stop.TaskState.{TaskState}
-use Rattle.task_machine.specs.declared.stop.TaskState.TheVariants.{ToBegin, Asked, Asleep, Waiting, GivingUp, Awaits, Over}
+use Rattle.task_machine.specs.declared.stop.TaskState.TheVariants.{ToBegin, Asked, Asleep, Waiting, GivingUp, Awaits, Over, Queued}
 use Rattle.task_machine.specs.declared.task.Home.{Home}
 use Rattle.task_machine.specs.declared.task.Task.{Task}
 use Rattle.task_machine.specs.Fitting.{waits_of}
@@ -36,9 +36,9 @@ use Rattle.task_machine.specs.Stops.{IsTaskState}
 use Rattle.task_machine.specs.Tasks.{scope_of}
 use Rattle.task_machine.specs.Worlds.{label_at, event_at}
 use Rattle.task_machine.proofs.Stacked.{sight_at}
-use Rattle.interleavings.specs.Interleaving.{Started, live, Unended, Settling, StaysUntil, Blocked, members_by}
+use Rattle.interleavings.specs.Interleaving.{Started, live, Unended, Settling, StaysUntil, Blocked, members_by, leaves_by}
 use Rattle.interleavings.specs.Laws.{HasNextTurn, GoesOn}
-use Rattle.interleavings.specs.Runs.{turns_taken}
+use Rattle.interleavings.specs.Runs.{turns_taken, keeping}
 use Rattle.interleavings.proofs.Running.{blocked_runs_go_on, limits_are_exact, runs_end}
 use Rattle.run_refinement.specs.RunState.{RunState, HasHome, IsMember, HasMembers, IsSince, Refines}
 use Rattle.run_refinement.specs.Ready.{StaysTo, AllStay, HasMoment, HasNext}
@@ -48,6 +48,9 @@ use Rattle.run_refinement.proofs.LabelsApart.{below_of}
 use Rattle.run_refinement.proofs.Found.{below_length}
 use Rattle.run_refinement.proofs.Found.{gives, finds, puts}
 use Rattle.run_refinement.proofs.Going.{ends, waited}
+use Rattle.objects.specs.Whats.{What}
+use Rattle.job_tree.specs.declared.object.Ask.{Ask}
+use Rattle.task_machine.specs.declared.world.World.{World}
 
 -- ---- a nursery that is not settled
 
@@ -73,7 +76,7 @@ among_at (y ∷ xs) (suc i) x e = inr (among_at xs i x e)
 -- ---- tasks that stay
 
 -- a task that has not ended is live
-pub task_lives : (k : Table) (job : Job) (input : List ℕ) (t m : ℕ) (state : RunState) → (c : Refines k job input t m None state) →
+pub task_lives : (k : Tables) (job : Job) (input : List ℕ) (t m : ℕ) (state : RunState) → (c : Refines k job input t m None state) →
     (s : ℕ) (task : Task) → state.task s ≡ Some task →
     live (c.interleaving.at s).rest.stopped ≡ true
 task_lives k job input t m state c s task e = (c.follows s task e).lives (λ f. not_both refl f)
@@ -86,7 +89,7 @@ record Running (state : RunState) (q : Started) (children : List ℕ) : Type 0 w
   pub task : Task
   pub lives : state.task (q.child number) ≡ Some task
 
-module _ (k : Table) (job : Job) (input : List ℕ) (t m : ℕ) (state : RunState) (c : Refines k job input t m None state) where
+module _ (k : Tables) (job : Job) (input : List ℕ) (t m : ℕ) (state : RunState) (c : Refines k job input t m None state) where
   abbrev at : ℕ → Started
   at = c.interleaving.at
 
@@ -133,12 +136,70 @@ module _ (k : Table) (job : Job) (input : List ℕ) (t m : ℕ) (state : RunStat
       ap (λ (y : Started). live y.rest.stopped) ((c.interleaving.one x j).0 ∙ ap at e)
       ∙ task_lives k job input t m state c ((at s).child r.number) r.task r.lives
 
+-- a task that does not continue before a moment does not before an earlier one
+sight_less : (v u : ℕ) (s : Tick) → v ≤ u → upto u s ≡ u → upto v s ≡ v
+sight_less v u None le e = refl
+sight_less v u (Some x) le e = omega (arith, le, e)
+
+either_less : (v u x : ℕ) (s : Tick) → v ≤ u → (upto u s ≡ u) ⊎ (u ≤ x) → (upto v s ≡ v) ⊎ (v ≤ x)
+either_less v u x s le (inl e) = inl (sight_less v u s le e)
+either_less v u x s le (inr h) = inr (omega (arith, le, h))
+
+granted_less : (v u x : ℕ) (what : Option What) → v ≤ u → (what ≡ None) ⊎ (u ≤ x) → (what ≡ None) ⊎ (v ≤ x)
+granted_less v u x what le (inl e) = inl e
+granted_less v u x what le (inr h) = inr (omega (arith, le, h))
+
+stays_less : (world : World) (through : ℕ) (what : Option What) (v u : ℕ) (scope : Option ℕ) (task_state : TaskState) → v ≤ u →
+    StaysTo world through what u scope task_state → StaysTo world through what v scope task_state
+stays_less world through what v u scope (ToBegin at) le h = omega (arith, le, h)
+stays_less world through what v u scope (Asked kernel purpose) le h = h
+stays_less world through what v u scope (Asleep paced ticks since) le h =
+    (let e = h.0 in omega (arith, le, e), either_less v u (a_round_after world.clock since) (sight (outer_of world.scopes scope)) le h.1)
+stays_less world through what v u scope (Waiting event since) le h =
+    (let e = h.0 in omega (arith, le, e), either_less v u (a_round_after world.clock since) (sight (outer_of world.scopes scope)) le h.1)
+stays_less world through what v u scope (Queued object wanted since body) le h = (
+  granted_less v u through what le h.0,
+  let e = h.1 in omega (arith, le, e),
+  either_less v u (suc since) (sight (outer_of world.scopes scope)) le h.2,
+)
+stays_less world through what v u scope (GivingUp since) le h = omega (arith, le, h)
+stays_less world through what v u scope (Awaits id since) le h =
+    let n = finds world.book id (λ n. (is_settled n ≡ false) ⊎ (u ≤ a_round_after world.clock n.last)) h in
+    puts world.book id n.0 (λ n. (is_settled n ≡ false) ⊎ (v ≤ a_round_after world.clock n.last)) n.1 (by_nursery (a_round_after world.clock n.0.last) n.2)
+  where
+    by_nursery : {A : Type 0} (x : ℕ) → A ⊎ (u ≤ x) → A ⊎ (v ≤ x)
+    by_nursery x (inl e) = inl e
+    by_nursery x (inr g) = inr (omega (arith, le, g))
+stays_less world through what v u scope Over le h = h
+
+pub all_stay_less : (state : RunState) (v u : ℕ) → v ≤ u → AllStay state u → AllStay state v
+all_stay_less state v u le stay s task lives =
+    stays_less state.world state.through (state.granted s) v u (scope_of task) task.task_state le (stay s task lives)
+
+-- where what a task sees is known, the definitions know the same
+pub sight_known : {k : Tables} {job : Job} {input : List ℕ} {t m : ℕ} {state : RunState} → (c : Refines k job input t m None state) → (s : ℕ) (task : Task) →
+    state.task s ≡ Some task → (u : ℕ) → upto u (sight (outer_of state.world.scopes (scope_of task))) ≡ u →
+    upto u (sight (stack_at c.interleaving.cancelled_from (c.interleaving.at s).places).scopes) ≡ u
+sight_known {state = state} c s task lives u e =
+    ap (upto u)
+    (sym (sight_at (label_at state.world) (event_at state.world) c.interleaving.cancelled_from (outer_of state.world.scopes (scope_of task))
+    (c.interleaving.at s).places (c.follows s task lives).stands.places)) ∙ e
+
+-- each task in a queue leaves it by a moment or later, by the moments that the run keeps and what the tables grant
+abbrev pub InQueues : {k : Tables} {job : Job} {input : List ℕ} {t m : ℕ} {state : RunState} → (tables : Tables) → Refines k job input t m None state →
+    ℕ → Type 0
+InQueues {state = state} tables c u =
+    (s : ℕ) (task : Task) → state.task s ≡ Some task → (name : List ℕ) (wanted : Ask) (since : ℕ) (body : Steps) →
+    (c.interleaving.at s).rest.stopped ≡ queued name wanted since body →
+    u ≤ leaves_by (keeping c.interleaving.cancelled_from tables) (inside (c.interleaving.at s).rest.frames (c.interleaving.at s).here)
+    (label_among true name (c.interleaving.at s).places) since (stack_at c.interleaving.cancelled_from (c.interleaving.at s).places)
+
 -- if no task of the program continues before a moment, the run is blocked until then
-pub state_blocked : (k : Table) (job : Job) (input : List ℕ) (t m : ℕ) (state : RunState) → (c : Refines k job input t m None state) → (u : ℕ) →
-    AllStay state u →
-    Blocked c.interleaving.cancelled_from c.interleaving.tasks u
-state_blocked k job input t m state c u stay q i =
-    subst (λ (x : Started). StaysUntil c.interleaving.cancelled_from c.interleaving.tasks u x x.rest.stopped) (sym (c.interleaving.one q i).0)
+pub state_blocked : (k : Tables) (job : Job) (input : List ℕ) (t m : ℕ) (state : RunState) → (c : Refines k job input t m None state) → (u : ℕ) →
+    AllStay state u → InQueues k c u →
+    Blocked (keeping c.interleaving.cancelled_from k) c.interleaving.tasks u
+state_blocked k job input t m state c u stay queue q i =
+    subst (λ (x : Started). StaysUntil (keeping c.interleaving.cancelled_from k) c.interleaving.tasks u x x.rest.stopped) (sym (c.interleaving.one q i).0)
     (by_task q.serial (c.interleaving.one q i).1 (state.task q.serial) refl)
   where
     at : ℕ → Started
@@ -190,14 +251,10 @@ state_blocked k job input t m state c u stay q i =
                   (subst (λ (y : ℕ). u ≤ a_round_after state.world.clock y) (sym w.last) h);
             })
 
-    -- where what it sees is known, the definitions know the same
     by_sight : (s : ℕ) (task : Task) → state.task s ≡ Some task → (since v : ℕ) → since ≡ v →
         (upto u (sight (outer_of state.world.scopes (scope_of task))) ≡ u) ⊎ (u ≤ a_round_after state.world.clock since) →
         (upto u (sight (stack_at f (at s).places).scopes) ≡ u) ⊎ (u ≤ a_round_after (at s).here.clock v)
-    by_sight s task lives since v same (inl g) =
-        inl (ap (upto u)
-        (sym (sight_at (label_at state.world) (event_at state.world) f (outer_of state.world.scopes (scope_of task)) (at s).places
-        (c.follows s task lives).stands.places)) ∙ g)
+    by_sight s task lives since v same (inl g) = inl (sight_known c s task lives u g)
     by_sight s task lives since v same (inr g) =
         inr (subst (λ (x : Clock). u ≤ a_round_after x v) (clock s task lives)
         (subst (λ (x : ℕ). u ≤ a_round_after state.world.clock x) same g))
@@ -205,16 +262,17 @@ state_blocked k job input t m state c u stay q i =
     by_task_state : (s : ℕ) (task : Task) → state.task s ≡ Some task → (task_state : TaskState) (stopped : Stopped) → task.task_state ≡ task_state →
         IsTaskState (c.numbers s) book task_state stopped → IsSince t task.cancelled.items task_state (at s).stop →
         AwaitsEvent (label_at state.world) (outer_of state.world.scopes (scope_of task)) (Some stopped) task_state (at s).places →
-        HasEvent stopped (at s).places → StaysTo state.world u (scope_of task) task_state → StaysUntil f qs u (at s) stopped
-    by_task_state s task lives (ToBegin v) to_begin e h since event some to = subst (λ (x : Now). u ≤ x.at) (sym since) to
-    by_task_state s task lives (Asked kernel purpose) (asking asked p) e h since event some to = absurd to
-    by_task_state s task lives (Asleep paced ticks since) (asleep p n v) e h stop event some to = (
+        HasEvent stopped (at s).places → (at s).rest.stopped ≡ stopped →
+        StaysTo state.world state.through (state.granted s) u (scope_of task) task_state → StaysUntil (keeping f k) qs u (at s) stopped
+    by_task_state s task lives (ToBegin v) to_begin e h since event some is to = subst (λ (x : Now). u ≤ x.at) (sym since) to
+    by_task_state s task lives (Asked kernel purpose) (asking asked p) e h since event some is to = absurd to
+    by_task_state s task lives (Asleep paced ticks since) (asleep p n v) e h stop event some is to = (
       subst (λ (x : Clock). u ≤ wakes_at x n v) (clock s task lives)
           (subst (λ (x : ℕ). u ≤ wakes_at state.world.clock x v) h.1
           (subst (λ (x : ℕ). u ≤ wakes_at state.world.clock ticks x) h.2 to.0)),
       by_sight s task lives since v h.2 to.1,
     )
-    by_task_state s task lives (Waiting key since) (waiting_for name v) e h stop event some to = (
+    by_task_state s task lives (Waiting key since) (waiting_for name v) e h stop event some is to = (
       subst (λ (x : ℕ). u ≤ max (a_round_after (at s).here.clock x) (ends_at (at s).here.clock f name x (at s).places)) h
           (subst (λ (x : ℕ). u ≤ max (a_round_after (at s).here.clock since) x) same_end
           (subst (λ (x : Clock). u ≤ wait_ends x (event_at state.world key) since) (clock s task lives) to.0)),
@@ -228,21 +286,22 @@ state_blocked k job input t m state c u stay q i =
         same_end =
             (awaited_set (label_at state.world) (event_at state.world) f (outer_of state.world.scopes (scope_of task)) (at s).places key name
             (at s).here.clock since it.own it.places event.0 event.1 some).0
-    by_task_state s task lives (GivingUp since) (giving_up v) e h stop event some to = subst (λ (x : ℕ). u ≤ suc x) h to
-    by_task_state s task lives (Awaits id since) (awaiting children v exc) e h stop event some to =
+    by_task_state s task lives (Queued key wanted since body) (queued name a v steps) e h stop event some is to = queue s task lives name a v steps is
+    by_task_state s task lives (GivingUp since) (giving_up v) e h stop event some is to = subst (λ (x : ℕ). u ≤ suc x) h to
+    by_task_state s task lives (Awaits id since) (awaiting children v exc) e h stop event some is to =
         waits s task id since v children exc lives e h.0 h.1 h.2 to
-    by_task_state s task lives Over (at_end v x) e h since event some to = absurd to
-    by_task_state s task lives _ _ e h since event some to = absurd h
+    by_task_state s task lives Over (at_end v x) e h since event some is to = absurd to
+    by_task_state s task lives _ _ e h since event some is to = absurd h
 
-    by_task : (s : ℕ) → s < m → (o : Option Task) → state.task s ≡ o → StaysUntil f qs u (at s) (at s).rest.stopped
-    by_task s lt None e = subst (StaysUntil f qs u (at s)) (sym (c.ended s lt e).2.stopped) tt
+    by_task : (s : ℕ) → s < m → (o : Option Task) → state.task s ≡ o → StaysUntil (keeping f k) qs u (at s) (at s).rest.stopped
+    by_task s lt None e = subst (StaysUntil (keeping f k) qs u (at s)) (sym (c.ended s lt e).2.stopped) tt
     by_task s lt (Some task) e =
         by_task_state s task e task.task_state (at s).rest.stopped refl (c.follows s task e).task_state (c.follows s task e).since
         (c.follows s task e).stands.event
-        (has_event (at s).rest.stopped _ (at s).places (c.follows s task e).stands.placed) (stay s task e)
+        (has_event (at s).rest.stopped _ (at s).places (c.follows s task e).stands.placed) refl (stay s task e)
 
 -- while a task has not ended, one has a moment in which it continues
-pub state_goes_on : (k : Table) (job : Job) (input : List ℕ) (t m : ℕ) (state : RunState) → IsSettled k job input → GivesNamesOnce job →
+pub state_goes_on : (k : Tables) (job : Job) (input : List ℕ) (t m : ℕ) (state : RunState) → IsSettledBy k job input → GivesNamesOnce job →
     StartsInNurseries job →
     (c : Refines k job input t m None state) → (u : ℕ) → AllStay state u → (s : ℕ) (task : Task) → state.task s ≡ Some task → HasNext state
 state_goes_on k job input t m state settled names starting c u stay s task lives = by_task (state.task p) refl
@@ -255,8 +314,8 @@ state_goes_on k job input t m state settled names starting c u stay s task lives
 
     z : GoesOn qs
     z =
-        blocked_runs_go_on k job input names starting settled c.interleaving.cancelled_from t m qs c.interleaving.reached u
-        (state_blocked k job input t m state c u stay) (at s)
+        blocked_runs_go_on k job input names starting settled c.interleaving.cancelled_from t m qs c.interleaving.reached 0
+        (state_blocked k job input t m state c 0 (all_stay_less state 0 u (omega arith) stay) (λ p task e name wanted since body is. omega arith)) (at s)
         (c.interleaving.has s (below_of c s task lives)).0 (task_lives k job input t m state c s task lives)
 
     p : ℕ
@@ -285,11 +344,12 @@ state_goes_on k job input t m state settled names starting c u stay s task lives
 
     moment : (y : Task) → state.task p ≡ Some y → (task_state : TaskState) (stopped : Stopped) → y.task_state ≡ task_state →
         IsTaskState (c.numbers p) state.world.book task_state stopped → HasNextTurn qs (at p) stopped →
-        StaysTo state.world u (scope_of y) task_state → HasMoment state.world.book task_state
+        StaysTo state.world state.through (state.granted p) u (scope_of y) task_state → HasMoment state.world.book task_state
     moment y there (ToBegin v) stopped e h next to = tt
     moment y there (Asked kernel purpose) stopped e h next to = absurd to
     moment y there (Asleep paced ticks since) stopped e h next to = tt
     moment y there (Waiting key since) stopped e h next to = tt
+    moment y there (Queued key wanted since body) stopped e h next to = tt
     moment y there (GivingUp since) stopped e h next to = tt
     moment y there (Awaits id since) (awaiting children v exc) e h next to = settles y id since v children exc there e h.0 h.2 next
     moment y there (Awaits id since) _ e h next to = absurd h
@@ -310,14 +370,14 @@ state_goes_on k job input t m state settled names starting c u stay s task lives
 
 -- while a task has not ended, the job does not end before the present tick
 pub state_in_time : (job : Job) (input : List ℕ) (t m : ℕ) (state : RunState) → GivesNamesOnce job → StartsInNurseries job →
-    Refines (meaning_table job input) job input t m None state →
+    Refines (meaning_tables job input) job input t m None state →
     (s : ℕ) (task : Task) → state.task s ≡ Some task → tick_of (clock_of job.format) t ≤ meaning_end job input
 state_in_time job input t m state names starting c s task lives =
-    limits_are_exact job input names starting c.interleaving.cancelled_from t m c.interleaving.tasks c.interleaving.reached (c.interleaving.at s)
-    (c.interleaving.has s (below_of c s task lives)).0 (task_lives (meaning_table job input) job input t m state c s task lives)
+    limits_are_exact job input names c.in_range c.small starting c.interleaving.cancelled_from t m c.interleaving.tasks c.interleaving.reached (c.interleaving.at s)
+    (c.interleaving.has s (below_of c s task lives)).0 (task_lives (meaning_tables job input) job input t m state c s task lives)
 
 -- the program has at most this number of turns
-pub state_turns : (k : Table) (job : Job) (input : List ℕ) (t m : ℕ) (leaving : Option ℕ) (state : RunState) →
+pub state_turns : (k : Tables) (job : Job) (input : List ℕ) (t m : ℕ) (leaving : Option ℕ) (state : RunState) →
     Refines k job input t m leaving state → state.turns ≤ 2 * size_of job.steps + 1
 state_turns k job input t m leaving state c =
     let a = runs_end k job input c.interleaving.cancelled_from t m c.interleaving.tasks c.interleaving.reached in let b : turns_taken c.interleaving.reached ≡ state.turns =
@@ -325,7 +385,7 @@ state_turns k job input t m leaving state c =
 
 -- ---- the root is the last to end
 
-none_below : (k : Table) (job : Job) (input : List ℕ) (t m : ℕ) (state : RunState) → Refines k job input t m None state → state.task 0 ≡ None →
+none_below : (k : Tables) (job : Job) (input : List ℕ) (t m : ℕ) (state : RunState) → Refines k job input t m None state → state.task 0 ≡ None →
     (n p : ℕ) → p < n → state.task p ≡ None
 none_below k job input t m state c none zero p lt = absurd (omega (arith, lt))
 none_below k job input t m state c none (suc n) p lt =
@@ -342,6 +402,6 @@ none_below k job input t m state c none (suc n) p lt =
     by_task (Some task) e none_before = absurd (by_home task e task.home (c.follows p task e).home none_before)
 
 -- once the root has ended, every task has
-pub root_last : (k : Table) (job : Job) (input : List ℕ) (t m : ℕ) (state : RunState) → Refines k job input t m None state → state.task 0 ≡ None →
+pub root_last : (k : Tables) (job : Job) (input : List ℕ) (t m : ℕ) (state : RunState) → Refines k job input t m None state → state.task 0 ≡ None →
     (p : ℕ) → state.task p ≡ None
 root_last k job input t m state c none p = none_below k job input t m state c none (suc p) p (omega arith)

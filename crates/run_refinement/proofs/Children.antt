@@ -6,10 +6,9 @@ use Rattle.std.specs.List.{slice_get}
 use Rattle.job_tree.specs.Tree.{Tree as Job}
 use Rattle.job_tree.specs.Names.{GivesNamesOnce}
 use Rattle.job_tree.specs.Starting.{StartsInNurseries}
-use Rattle.job_meaning.specs.Log.{Table}
-use Rattle.job_meaning.specs.Follow.{IsSettled}
-use Rattle.job_meaning.specs.Rest.{Event, noted, signs, enters, starts}
-use Rattle.turn_semantics.specs.Midway.{Begun}
+use Rattle.interleavings.specs.Laws.{IsSettledBy}
+use Rattle.job_meaning.specs.Rest.{Event, noted, signs, enters, acts, starts}
+use Rattle.turn_semantics.specs.Midway.{Tables, Begun}
 use Rattle.turn_semantics.specs.Turned.{Starts}
 use Rattle.task_machine.specs.declared.stop.Stop.{Stop}
 use Rattle.task_machine.specs.declared.task.Task.{Task}
@@ -24,18 +23,20 @@ use Rattle.run_refinement.specs.Turning.{Turning}
 
 -- ---- the children among events
 
-made_join : (child : ℕ → ℕ) (es fs : List Event) → children_made child (es ++ fs) ≡ children_made child es ++ children_made child fs
+pub made_join : (child : ℕ → ℕ) (es fs : List Event) → children_made child (es ++ fs) ≡ children_made child es ++ children_made child fs
 made_join child [] fs = refl
 made_join child (noted t e ∷ es) fs = made_join child es fs
+made_join child (acts shared t done ∷ es) fs = made_join child es fs
 made_join child (signs l t ∷ es) fs = made_join child es fs
 made_join child (enters l t d ∷ es) fs = made_join child es fs
 made_join child (starts i l t ∷ es) fs = ap (λ (ns : List ℕ). child i ∷ ns) (made_join child es fs)
 
 -- those that were started before have their serial numbers
-made_before : (count m : ℕ) (child : ℕ → ℕ) (es : List Event) → ((i : ℕ) → StartsChild i es → i < count) →
+pub made_before : (count m : ℕ) (child : ℕ → ℕ) (es : List Event) → ((i : ℕ) → StartsChild i es → i < count) →
     children_made (child_from count child m) es ≡ children_made child es
 made_before count m child [] below = refl
 made_before count m child (noted t e ∷ es) below = made_before count m child es below
+made_before count m child (acts shared t done ∷ es) below = made_before count m child es below
 made_before count m child (signs l t ∷ es) below = made_before count m child es below
 made_before count m child (enters l t d ∷ es) below = made_before count m child es below
 made_before count m child (starts i l t ∷ es) below =
@@ -43,11 +44,12 @@ made_before count m child (starts i l t ∷ es) below =
     ∙ ap (λ (ns : List ℕ). child i ∷ ns) (made_before count m child es (λ j h. below j (inr h)))
 
 -- and those of a turn the next ones
-made_now : (count m j n p : ℕ) (child : ℕ → ℕ) (es : List Event) (bs : List Begun) → n ≡ count + j → p ≡ m + j → Starts n es bs →
+pub made_now : (count m j n p : ℕ) (child : ℕ → ℕ) (es : List Event) (bs : List Begun) → n ≡ count + j → p ≡ m + j → Starts n es bs →
     children_made (child_from count child m) es ≡ serials_from p (length bs)
 made_now count m j n p child [] [] e f h = refl
 made_now count m j n p child [] (b ∷ bs) e f h = absurd h
 made_now count m j n p child (noted t x ∷ es) bs e f h = made_now count m j n p child es bs e f h
+made_now count m j n p child (acts shared t done ∷ es) bs e f h = made_now count m j n p child es bs e f h
 made_now count m j n p child (signs l t ∷ es) bs e f h = made_now count m j n p child es bs e f h
 made_now count m j n p child (enters l t d ∷ es) bs e f h = made_now count m j n p child es bs e f h
 made_now count m j n p child (starts i l t ∷ es) [] e f h = absurd h
@@ -64,8 +66,8 @@ made_now count m j n p child (starts i l t ∷ es) (b ∷ bs) e f h =
 -- ---- after a turn
 
 -- after a turn the children kept of each task are those that its events started
-pub children_kept : (k : Table) (job : Job) (input : List ℕ) (t m s : ℕ) (old new : RunState) (before after : Task) (stop : Stop) →
-    IsSettled k job input → GivesNamesOnce job →
+pub children_kept : (k : Tables) (job : Job) (input : List ℕ) (t m s : ℕ) (old new : RunState) (before after : Task) (stop : Stop) →
+    IsSettledBy k job input → GivesNamesOnce job →
     StartsInNurseries job → (c : Refines k job input t m None old) →
     (turn : Turning k job input t m s old new c.numbers before after stop c.interleaving) → (p : ℕ) → p < m + length turn.move.begun →
     new.children p ≡ children_made (turn.is.at p).child (turn.is.at p).made

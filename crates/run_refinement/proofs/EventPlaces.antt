@@ -7,13 +7,13 @@ use Rattle.cancel_scopes.specs.Tree.{Stack}
 use Rattle.job_meaning.specs.Log.{Table}
 use Rattle.job_meaning.specs.declared.clock.Clock.{Clock}
 use Rattle.job_meaning.specs.Walk.{Levels, label_if, level_if, event_on, set_moment}
-use Rattle.job_meaning.specs.Rest.{Frame, Stopped, to_begin, asking, asleep, waiting_for, giving_up, awaiting, at_end}
+use Rattle.job_meaning.specs.Rest.{Frame, Stopped, to_begin, asking, asleep, waiting_for, giving_up, awaiting, at_end, queued}
 use Rattle.turn_semantics.specs.Midway.{Place, label_among, level_on, stack_at}
 use Rattle.turn_semantics.specs.Names.{names_at, OwnNames}
 use Rattle.turn_semantics.specs.Placed.{IsSome, PlacedStop}
 use Rattle.turn_semantics.specs.Wakes.{set_at, ends_at}
 use Rattle.task_machine.specs.declared.stop.TaskState.{TaskState}
-use Rattle.task_machine.specs.declared.stop.TaskState.TheVariants.{ToBegin, Asked, Asleep, Waiting, GivingUp, Awaits, Over}
+use Rattle.task_machine.specs.declared.stop.TaskState.TheVariants.{ToBegin, Asked, Asleep, Waiting, GivingUp, Awaits, Over, Queued}
 use Rattle.task_machine.specs.Events.{set_by}
 use Rattle.task_machine.specs.Labels.{Labels, Events}
 use Rattle.task_machine.specs.Stacked.{IsLevelOf, AreAt, IsKey, SameOn, IsEventNamed, AwaitsEvent}
@@ -116,6 +116,7 @@ HasEvent to_begin ps = Unit {0}
 HasEvent (asking kernel purpose) ps = Unit {0}
 HasEvent (asleep paced n since) ps = Unit {0}
 HasEvent (waiting_for name since) ps = IsSome (label_among true name ps)
+HasEvent (queued name ask since body) ps = IsSome (label_among true name ps)
 HasEvent (giving_up since) ps = Unit {0}
 HasEvent (awaiting children ended exc) ps = Unit {0}
 HasEvent (at_end u e) ps = Unit {0}
@@ -125,6 +126,7 @@ has_event to_begin fs ps h = tt
 has_event (asking kernel purpose) fs ps h = tt
 has_event (asleep paced n since) fs ps h = tt
 has_event (waiting_for name since) fs ps h = h.0
+has_event (queued name ask since body) fs ps h = h.0
 has_event (giving_up since) fs ps h = tt
 has_event (awaiting children ended exc) fs ps h = tt
 has_event (at_end u e) fs ps h = tt
@@ -146,6 +148,8 @@ named_moved : (labels more : Labels) (st after : Stack) (task_state : TaskState)
     SameOn labels more st → IsEventNamed labels st task_state name ps → IsEventNamed more after task_state name ps
 named_moved labels more st after (Waiting key since) name ps levels same h =
     (key_moved key st after levels h.0, label_moved labels more key st same h.0 ∙ h.1)
+named_moved labels more st after (Queued key ask since body) name ps levels same h =
+    (key_moved key st after levels h.0, label_moved labels more key st same h.0 ∙ h.1)
 named_moved labels more st after (ToBegin at) name ps levels same h = tt
 named_moved labels more st after (Asked kernel purpose) name ps levels same h = tt
 named_moved labels more st after (Asleep paced ticks since) name ps levels same h = tt
@@ -161,6 +165,8 @@ awaits_moved labels more st after (Some to_begin) task_state ps levels same h = 
 awaits_moved labels more st after (Some (asking kernel purpose)) task_state ps levels same h = tt
 awaits_moved labels more st after (Some (asleep paced n since)) task_state ps levels same h = tt
 awaits_moved labels more st after (Some (waiting_for name since)) task_state ps levels same h =
+    named_moved labels more st after task_state name ps levels same h
+awaits_moved labels more st after (Some (queued name ask since body)) task_state ps levels same h =
     named_moved labels more st after task_state name ps levels same h
 awaits_moved labels more st after (Some (giving_up since)) task_state ps levels same h = tt
 awaits_moved labels more st after (Some (awaiting children ended exc)) task_state ps levels same h = tt

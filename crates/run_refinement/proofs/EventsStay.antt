@@ -7,12 +7,11 @@ use Rattle.cancel_scopes.specs.Tree.{Stack, stack_of, outer_of, IsOpen}
 use Rattle.nursery_book.specs.declared.book.NurseryBook.{NurseryBook}
 use Rattle.job_tree.specs.Tree.{Tree as Job}
 use Rattle.job_meaning.specs.Before.{upto}
-use Rattle.job_meaning.specs.Log.{Table}
 use Rattle.job_meaning.specs.declared.clock.Clock.{Clock}
-use Rattle.job_meaning.specs.Rest.{Stopped, to_begin, asking, asleep, waiting_for, giving_up, awaiting, at_end}
+use Rattle.job_meaning.specs.Rest.{Stopped, to_begin, asking, asleep, waiting_for, giving_up, awaiting, at_end, queued}
 use Rattle.job_meaning.proofs.Causality.{set_near}
 use Rattle.job_meaning.proofs.Clips.{upto_earlier, upto_most}
-use Rattle.turn_semantics.specs.Midway.{Place, label_among}
+use Rattle.turn_semantics.specs.Midway.{Tables, Place, label_among}
 use Rattle.turn_semantics.specs.Placed.{IsSome}
 use Rattle.task_machine.specs.declared.stop.Stop.{Stop}
 use Rattle.task_machine.specs.declared.stop.TaskState.{TaskState}
@@ -51,6 +50,7 @@ awaited : (labels : Labels) (numbers : Numbers) (book : NurseryBook) (st : Stack
 awaited labels numbers book st to_begin ps key since is h some = absurd is
 awaited labels numbers book st (asking kernel purpose) ps key since is h some = absurd is
 awaited labels numbers book st (asleep paced n u) ps key since is h some = absurd is
+awaited labels numbers book st (queued object ask u body) ps key since is h some = absurd is
 awaited labels numbers book st (waiting_for name u) ps key since is h some = (h.0, labelled (label_among true name ps) refl some)
   where
     labelled : (o : Option Label) → label_among true name ps ≡ o → IsSome o → (l : Label) × (labels key ≡ Some l)
@@ -77,7 +77,7 @@ set_alike clock t old new was set key since (inr (i, from, before, is)) =
     near x =
         omega (arith, upto_earlier (suc t) x (Some (t + 1)), upto_most (suc t) x, later)
 
-module _ {k : Table} {job : Job} {input : List ℕ} {t m s : ℕ} {old new : RunState} {before after : Task} {stop : Stop}
+module _ {k : Tables} {job : Job} {input : List ℕ} {t m s : ℕ} {old new : RunState} {before after : Task} {stop : Stop}
     (c : Refines k job input t m None old) (T : Turning k job input t m s old new c.numbers before after stop c.interleaving)
     (a : ActsOf c T) (u : ℕ) (task : Task) (lives : old.task u ≡ Some task) (opens : ForSome (scope_of task) (IsOpen new.world.scopes))
     (now : AreAt (label_at new.world) (event_at new.world) T.is.cancelled_from (outer_of new.world.scopes (scope_of task)) (c.interleaving.at u).places)

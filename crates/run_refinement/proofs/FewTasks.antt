@@ -4,9 +4,8 @@ use Rattle.std.specs.Prelude.{IsSome}
 use Rattle.turn_semantics.specs.Lists.{IsAmong}
 use Rattle.job_tree.specs.Tree.{Tree as Job}
 use Rattle.job_tree.specs.Names.{size_of}
-use Rattle.job_meaning.specs.Log.{Table}
 use Rattle.job_meaning.specs.Asking.{shows, needs, paces}
-use Rattle.job_meaning.specs.Rest.{Stopped, to_begin, asking, asleep, waiting_for, giving_up, awaiting, at_end, stop_weight, rest_weight}
+use Rattle.job_meaning.specs.Rest.{Stopped, to_begin, asking, asleep, waiting_for, giving_up, awaiting, at_end, stop_weight, rest_weight, queued}
 use Rattle.task_machine.specs.declared.task.Task.{Task}
 use Rattle.interleavings.specs.Interleaving.{Started, live}
 use Rattle.interleavings.specs.Runs.{Front, is_front, after_one, all_weights}
@@ -14,6 +13,7 @@ use Rattle.interleavings.proofs.Running.{runs_end}
 use Rattle.run_refinement.specs.RunState.{RunState, Refines}
 use Rattle.run_refinement.specs.Laws.{AreDistinct}
 use Rattle.run_refinement.proofs.LabelsApart.{below_of}
+use Rattle.turn_semantics.specs.Midway.{Tables}
 
 -- a task that has not ended weighs something
 live_weighs : (s : Stopped) → live s ≡ true → 1 ≤ stop_weight s
@@ -26,6 +26,7 @@ live_weighs (asleep false (suc n) since) e = omega arith
 live_weighs (asleep true zero since) e = omega arith
 live_weighs (asleep true (suc n) since) e = omega arith
 live_weighs (waiting_for event since) e = omega arith
+live_weighs (queued object ask since body) e = omega arith
 live_weighs (giving_up since) e = omega arith
 live_weighs (awaiting children ended exc) e = omega arith
 live_weighs (at_end u x) e = absurd (let f : false ≡ true = e in cc)
@@ -95,7 +96,7 @@ few_live at (s ∷ ss) qs distinct lives =
     }
 
 -- at most this number of tasks of the program have not ended
-pub state_few : (k : Table) (job : Job) (input : List ℕ) (t m : ℕ) (state : RunState) → Refines k job input t m None state →
+pub state_few : (k : Tables) (job : Job) (input : List ℕ) (t m : ℕ) (state : RunState) → Refines k job input t m None state →
     (numbers : List ℕ) → AreDistinct numbers → ((s : ℕ) → IsAmong s numbers → IsSome (state.task s)) → length numbers ≤ 2 * size_of job.steps + 1
 state_few k job input t m state c numbers distinct some =
     let fewer = few_live c.interleaving.at numbers c.interleaving.tasks distinct (λ s i. found s (state.task s) refl (some s i)) in

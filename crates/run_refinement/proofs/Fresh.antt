@@ -7,10 +7,9 @@ use Rattle.exceptions.specs.Exceptions.{Label}
 use Rattle.job_tree.specs.Tree.{Tree as Job}
 use Rattle.job_tree.specs.Names.{GivesNamesOnce}
 use Rattle.job_tree.specs.Starting.{StartsInNurseries}
-use Rattle.job_meaning.specs.Log.{Table}
-use Rattle.job_meaning.specs.Follow.{IsSettled}
-use Rattle.job_meaning.specs.Rest.{Event, noted, signs, enters, starts, Stopped}
-use Rattle.turn_semantics.specs.Midway.{Move}
+use Rattle.interleavings.specs.Laws.{IsSettledBy}
+use Rattle.job_meaning.specs.Rest.{Event, noted, signs, enters, acts, starts, Stopped}
+use Rattle.turn_semantics.specs.Midway.{Tables, Move}
 use Rattle.turn_semantics.specs.Turned.{EntersIn}
 use Rattle.interleavings.specs.Interleaving.{Started, times_made, made_times}
 use Rattle.interleavings.specs.Rows.{entered_made}
@@ -29,6 +28,7 @@ pub new_of : (known : Label → Type 0) (es : List Event) → ((l : Label) → t
 unfolding times_made
 new_of known [] once none = tt
 new_of known (noted t e ∷ es) once none = new_of known es once none
+new_of known (acts shared t done ∷ es) once none = new_of known es once none
 new_of known (signs m t ∷ es) once none = new_of known es once none
 new_of known (enters m t d ∷ es) once none =
     (λ k. none m k (inl refl), new_of (λ l. (l ≡ m) ⊎ known l) es (λ l. let f = once l in omega (arith, f)) none_after)
@@ -50,9 +50,9 @@ new_of known (starts i m t ∷ es) once none = new_of known es once none
 -- ---- what a turn enters
 
 -- the labels that a turn enters were entered by no task before it, and none is twice in it
-pub fresh_after : (k : Table) (job : Job) (input : List ℕ) (t m s : ℕ) (own : List Label) (was : Interleaving k job input t m) (o : Move)
+pub fresh_after : (k : Tables) (job : Job) (input : List ℕ) (t m s : ℕ) (own : List Label) (was : Interleaving k job input t m) (o : Move)
     (stopped : Stopped) →
-    IsSettled k job input → GivesNamesOnce job →
+    IsSettledBy k job input → GivesNamesOnce job →
     StartsInNurseries job → s < m → (w : WentOn k job input t m s own was o stopped) → AreNew (IsEntered was.at) o.made
 fresh_after k job input t m s own was o stopped settled names starting less w = new_of (IsEntered was.at) o.made by_times by_known
   where

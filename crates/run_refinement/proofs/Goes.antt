@@ -1,27 +1,24 @@
 -- A run of the definitions continues with a turn of one of its tasks: which tasks it has then, by their serial
 -- numbers.
-use Rattle.std.proofs.Common.{◌≡◌, ◌≢◌, ◌⊎◌, inl, inr, ℕ, zero, suc, ◌+◌, ◌-◌, ◌<◌, ◌≤◌, min, ◌==◌, nat_lt, Bool, true, false, Option, Some, None, List, [], ◌∷◌, ◌++◌, length, refl, ap, sym, ◌∙◌, subst, arith}
+use Rattle.std.proofs.Common.{◌≡◌, ◌≢◌, ◌⊎◌, inl, inr, ℕ, zero, suc, ◌+◌, ◌-◌, ◌<◌, ◌≤◌, ◌==◌, nat_lt, Bool, true, false, Option, Some, None, List, [], ◌∷◌, ◌++◌, length, refl, ap, sym, ◌∙◌, subst, arith}
 use Rattle.std.proofs.lemmas.Bool.{eqb-true, eq-eqb}
 use Rattle.std.proofs.lemmas.Bool.Decides.{nat_tests}
 use Rattle.std.specs.List.{slice_get}
 use Rattle.turn_semantics.specs.Lists.{IsAmong}
-use Rattle.cancel_scopes.specs.Sight.{seen}
 use Rattle.job_tree.specs.Tree.{Tree as Job}
-use Rattle.job_meaning.specs.Log.{Table}
 use Rattle.exceptions.specs.Exceptions.{Exc, Label}
 use Rattle.job_meaning.specs.Moments.{a_round_after, Now}
-use Rattle.job_meaning.specs.Rest.{Stopped, to_begin, asking, asleep, waiting_for, giving_up, awaiting}
-use Rattle.turn_semantics.specs.Midway.{Begun, Move, stack_at}
+use Rattle.job_meaning.specs.Rest.{Stopped, to_begin, asking, asleep, waiting_for, queued, giving_up, awaiting}
+use Rattle.turn_semantics.specs.Midway.{Tables, Begun, Move}
 use Rattle.turn_semantics.specs.Steps.{cancelled_from_after}
 use Rattle.turn_semantics.specs.Turned.{TurnsOver}
-use Rattle.turn_semantics.specs.Wakes.{Wake, begins, sees, gives_up, is_due, has_answer, settles, ends_at, CanWake, from_start, from_asking, from_sleep, from_due, from_seen_waiting, from_set, from_giving_up, from_wait}
+use Rattle.turn_semantics.specs.Wakes.{Wake, begins, sees, gives_up, is_due, has_answer, is_granted, settles, CanWake, from_start, from_asking, from_sleep, from_due, from_seen_waiting, from_set, from_granted, from_seen_queued, from_deadlock, from_giving_up, from_wait}
 use Rattle.interleavings.specs.Interleaving.{Started}
 use Rattle.interleavings.specs.Going.{task_after_turn, children_from}
 use Rattle.interleavings.specs.Woken.{MayWake, WaitIsOver}
-use Rattle.interleavings.specs.Runs.{turn, Front, is_front, after_one, turns_taken}
+use Rattle.interleavings.specs.Runs.{keeping, turn, Front, is_front, after_one, turns_taken}
 use Rattle.interleavings.proofs.Picking.{SameTasks, front_same}
 use Rattle.interleavings.proofs.Readings.{in_first, in_second, in_either}
-use Rattle.interleavings.proofs.Waking.{sees_alike, over_alike}
 use Rattle.run_refinement.specs.RunState.{Interleaving, AreApart}
 use Rattle.run_refinement.specs.Turn.{child_at}
 
@@ -54,12 +51,12 @@ apart_front q _ _ (after_one q' x qs' others' at) a =
 -- ---- the children begun, by their serial numbers
 
 -- the child at this index, where the first has this serial number
-abbrev nth_child : Table → ℕ → ℕ → List Begun → ℕ → Started → Started
+abbrev nth_child : Tables → ℕ → ℕ → List Begun → ℕ → Started → Started
 nth_child k t m [] i d = d
 nth_child k t m (b ∷ bs) zero d = child_at k t m b
 nth_child k t m (b ∷ bs) (suc i) d = nth_child k t (suc m) bs i d
 
-nth_in : (k : Table) (t m : ℕ) (bs : List Begun) (i : ℕ) (d : Started) → i < length bs →
+nth_in : (k : Tables) (t m : ℕ) (bs : List Begun) (i : ℕ) (d : Started) → i < length bs →
     IsAmong (nth_child k t m bs i d) (children_from k t m bs) × ((nth_child k t m bs i d).serial ≡ m + i)
 unfolding children_from
 nth_in k t m [] i d less = absurd (omega (arith, less))
@@ -67,13 +64,13 @@ nth_in k t m (b ∷ bs) zero d less = (inl refl, omega arith)
 nth_in k t m (b ∷ bs) (suc i) d less = let h = nth_in k t (suc m) bs i d (omega (arith, less)) in (inr h.0, let e = h.1 in omega (arith, e))
 
 -- the child at an index of those begun
-record IsNth (k : Table) (t m : ℕ) (bs : List Begun) (d x : Started) : Type 0 where
+record IsNth (k : Tables) (t m : ℕ) (bs : List Begun) (d x : Started) : Type 0 where
   pub index : ℕ
   pub below : index < length bs
   pub serial : x.serial ≡ m + index
   pub is : x ≡ nth_child k t m bs index d
 
-in_nth : (k : Table) (t m : ℕ) (bs : List Begun) (d x : Started) → IsAmong x (children_from k t m bs) → IsNth k t m bs d x
+in_nth : (k : Tables) (t m : ℕ) (bs : List Begun) (d x : Started) → IsAmong x (children_from k t m bs) → IsNth k t m bs d x
 unfolding children_from
 in_nth k t m [] d x i = absurd i
 in_nth k t m (b ∷ bs) d x (inl e) =
@@ -88,7 +85,7 @@ in_nth k t m (b ∷ bs) d x (inr i) =
           h.is;
     }
 
-nth_at : (k : Table) (t m : ℕ) (bs : List Begun) (i : ℕ) (d : Started) (b : Begun) → slice_get bs i ≡ Some b →
+nth_at : (k : Tables) (t m : ℕ) (bs : List Begun) (i : ℕ) (d : Started) (b : Begun) → slice_get bs i ≡ Some b →
     nth_child k t m bs i d ≡ child_at k t (m + i) b
 nth_at k t m [] i d b e = absurd (let f : None ≡ Some b = e in cc)
 nth_at k t m (c ∷ bs) zero d b e =
@@ -97,12 +94,12 @@ nth_at k t m (c ∷ bs) zero d b e =
 nth_at k t m (c ∷ bs) (suc i) d b e =
     let n : suc m + i ≡ m + suc i = omega arith in nth_at k t (suc m) bs i d b e ∙ ap (λ (x : ℕ). child_at k t x b) n
 
-nth_past : (k : Table) (t m : ℕ) (bs : List Begun) (i : ℕ) (d : Started) → length bs ≤ i → nth_child k t m bs i d ≡ d
+nth_past : (k : Tables) (t m : ℕ) (bs : List Begun) (i : ℕ) (d : Started) → length bs ≤ i → nth_child k t m bs i d ≡ d
 nth_past k t m [] i d le = refl
 nth_past k t m (b ∷ bs) zero d le = absurd (omega (arith, le))
 nth_past k t m (b ∷ bs) (suc i) d le = nth_past k t (suc m) bs i d (omega (arith, le))
 
-children_apart : (k : Table) (t m : ℕ) (bs : List Begun) → AreApart (children_from k t m bs)
+children_apart : (k : Tables) (t m : ℕ) (bs : List Begun) → AreApart (children_from k t m bs)
 unfolding children_from
 children_apart k t m [] = tt
 children_apart k t m (b ∷ bs) =
@@ -128,46 +125,33 @@ wait_moved : (qs rs : List Started) (q : Started) (t : ℕ) (children : List ℕ
 wait_moved qs rs q t children ended e x back h =
     record { ends = h.ends; numbers = h.numbers; over = λ i among c is serial. h.over i among c (back c is) serial; settled = h.settled }
 
--- or where other moments of cancellation show the same, and an event is set in the same moment as far as now
-pub ready_by : (f g : Table) (qs rs : List Started) (now : Now) (q : Started) (w : Wake) (s : Stopped) →
-    seen (stack_at f q.places).scopes now.at ≡ seen (stack_at g q.places).scopes now.at →
-    ((event : List ℕ) (since : ℕ) → min (suc now.at) (ends_at q.here.clock f event since q.places)
-    ≡ min (suc now.at) (ends_at q.here.clock g event since q.places)) →
-    ((children : List ℕ) (ended : ℕ) (e x : Option Exc) → WaitIsOver qs q now.at children ended e x →
-    WaitIsOver rs q now.at children ended e x) →
-    MayWake f qs now q w s → MayWake g rs now q w s
-ready_by f g qs rs now q begins to_begin same set over h = h
-ready_by f g qs rs now q (has_answer a) (asking k p) same set over h = h
-ready_by f g qs rs now q is_due (asleep paced n u) same set over h = (h.0, sym same ∙ h.1, h.2)
-ready_by f g qs rs now q sees (asleep paced n u) same set over h = (h.0, sym same ∙ h.1, h.2)
-ready_by f g qs rs now q is_due (waiting_for event u) same set over h = (
-  over_alike q.here.clock (ends_at q.here.clock f event u q.places) (ends_at q.here.clock g event u q.places) u now.at
-      (seen (stack_at f q.places).scopes now.at) (seen (stack_at g q.places).scopes now.at) (set event u) (sym same) h.0,
-  h.1,
-)
-ready_by f g qs rs now q sees (waiting_for event u) same set over h = (
-  sees_alike q.here.clock (ends_at q.here.clock f event u q.places) (ends_at q.here.clock g event u q.places) u now.at (set event u) h.0,
-  sym same ∙ h.1,
-  h.2,
-)
-ready_by f g qs rs now q gives_up (giving_up u) same set over h = h
-ready_by f g qs rs now q (settles x) (awaiting cs u e) same set over h = (over cs u e x h.0, h.1)
-ready_by f g qs rs now q _ _ same set over h = absurd h
-
 -- a task that may be woken among some tasks may be woken among fewer of them
-pub may_moved : (f : Table) (qs rs : List Started) (now : Now) (q : Started) (w : Wake) (s : Stopped) →
+pub may_moved : (f : Tables) (qs rs : List Started) (now : Now) (q : Started) (w : Wake) (s : Stopped) →
     ((c : Started) → IsAmong c rs → IsAmong c qs) → MayWake f qs now q w s → MayWake f rs now q w s
-may_moved f qs rs now q w s back h =
-    ready_by f f qs rs now q w s refl (λ event since. refl) (λ children ended e x over. wait_moved qs rs q now.at children ended e x back over) h
+may_moved f qs rs now q begins to_begin back h = h
+may_moved f qs rs now q (has_answer a) (asking k p) back h = h
+may_moved f qs rs now q is_due (asleep paced n u) back h = h
+may_moved f qs rs now q sees (asleep paced n u) back h = h
+may_moved f qs rs now q is_due (waiting_for event u) back h = h
+may_moved f qs rs now q sees (waiting_for event u) back h = h
+may_moved f qs rs now q (is_granted what) (queued object ask u body) back h = h
+may_moved f qs rs now q sees (queued object ask u body) back h = h
+may_moved f qs rs now q is_due (queued object ask u body) back h = h
+may_moved f qs rs now q gives_up (giving_up u) back h = h
+may_moved f qs rs now q (settles x) (awaiting cs u e) back h = (wait_moved qs rs q now.at cs u e x back h.0, h.1)
+may_moved f qs rs now q _ _ back h = absurd h
 
 -- and such a wake can come of its stop
-pub may_can : (f : Table) (qs : List Started) (now : Now) (q : Started) (w : Wake) (s : Stopped) → MayWake f qs now q w s → CanWake w s
+pub may_can : (f : Tables) (qs : List Started) (now : Now) (q : Started) (w : Wake) (s : Stopped) → MayWake f qs now q w s → CanWake w s
 may_can f qs now q begins to_begin h = from_start
 may_can f qs now q (has_answer a) (asking k p) h = from_asking
 may_can f qs now q is_due (asleep paced n u) h = from_due
 may_can f qs now q sees (asleep paced n u) h = from_sleep
 may_can f qs now q is_due (waiting_for event u) h = from_set
 may_can f qs now q sees (waiting_for event u) h = from_seen_waiting
+may_can f qs now q (is_granted what) (queued object ask u body) h = from_granted
+may_can f qs now q sees (queued object ask u body) h = from_seen_queued
+may_can f qs now q is_due (queued object ask u body) h = from_deadlock
 may_can f qs now q gives_up (giving_up u) h = from_giving_up
 may_can f qs now q (settles x) (awaiting cs u e) h = from_wait
 may_can f qs now q _ _ h = absurd h
@@ -182,7 +166,7 @@ picked false false turned_now old new = new
 
 -- The run with the turn taken, and what it has at each serial number.
 pub record WentOn
-    (k : Table) (job : Job) (input : List ℕ) (t m s : ℕ) (own : List Label) (was : Interleaving k job input t m) (o : Move)
+    (k : Tables) (job : Job) (input : List ℕ) (t m s : ℕ) (own : List Label) (was : Interleaving k job input t m) (o : Move)
     (stopped : Stopped) :
     Type 0
   where
@@ -195,9 +179,9 @@ pub record WentOn
     pub of_other : (p : ℕ) → p < m → p ≢ s → is.at p ≡ was.at p
 
 -- a turn of a task that may be woken so takes a run on
-pub went_on : (k : Table) (job : Job) (input : List ℕ) (t m s : ℕ) (own : List Label) (was : Interleaving k job input t m) (wake : Wake)
+pub went_on : (k : Tables) (job : Job) (input : List ℕ) (t m s : ℕ) (own : List Label) (was : Interleaving k job input t m) (wake : Wake)
     (o : Move) (stopped : Stopped) → s < m →
-    MayWake was.cancelled_from was.tasks (record { at = t; own = own }) (was.at s) wake (was.at s).rest.stopped →
+    MayWake (keeping was.cancelled_from k) was.tasks (record { at = t; own = own }) (was.at s) wake (was.at s).rest.stopped →
     TurnsOver (was.at s).stop (record { at = t; own = own }) (was.at s).here was.cancelled_from wake (was.at s).rest (was.at s).places
     (was.at s).count o →
     o.stopped ≡ Some stopped →
@@ -210,7 +194,7 @@ went_on k job input t m s own was wake o stopped less may goes stops =
             tasks = (task_after_turn k now m q o stopped ∷ children_from k later m o.begun) ++ others;
             reached =
                 turn was.cancelled_from now m q was.tasks others wake o stopped was.reached front.front
-                (may_moved was.cancelled_from was.tasks (q ∷ others) now q wake q.rest.stopped same.back may) goes stops;
+                (may_moved (keeping was.cancelled_from k) was.tasks (q ∷ others) now q wake q.rest.stopped same.back may) goes stops;
             at = at_after;
             has = has_after;
             one = one_after;

@@ -20,24 +20,24 @@ use Rattle.nursery_book.specs.Nursery.{End, Nursery, is_settled, excs_in}
 use Rattle.nursery_book.specs.Nursery as nursery
 use Rattle.nursery_book.specs.Book.{nursery_at, HasNursery}
 use Rattle.nursery_book.specs.declared.book.NurseryBook.{NurseryBook}
-use Rattle.job_tree.specs.Tree.{Tree as Job}
+use Rattle.job_tree.specs.Tree.{Tree as Job, Steps}
 use Rattle.job_tree.specs.Names.{GivesNamesOnce}
 use Rattle.job_tree.specs.Starting.{StartsInNurseries}
 use Rattle.job_meaning.specs.Log.{Member, Table}
 use Rattle.job_meaning.specs.Moments.{a_round_after, wakes_at, Now, only_at}
 use Rattle.job_meaning.specs.declared.clock.Clock.{Clock}
-use Rattle.job_meaning.specs.Walk.{Here, with_exc, excs_of, latest}
+use Rattle.job_meaning.specs.Walk.{Here, with_exc, excs_of, latest, last_grant}
 use Rattle.job_meaning.specs.Asking as ask
-use Rattle.job_meaning.specs.Follow.{IsSettled}
+use Rattle.interleavings.specs.Laws.{IsSettledBy}
 use Rattle.job_meaning.specs.Rest as rest
-use Rattle.job_meaning.specs.Rest.{outcome_members, Stopped, to_begin, asking, asleep, waiting_for, giving_up, awaiting, at_end, inside, path_in}
-use Rattle.turn_semantics.specs.Midway.{Place, stack_at}
+use Rattle.job_meaning.specs.Rest.{outcome_members, Stopped, to_begin, asking, asleep, waiting_for, giving_up, awaiting, at_end, inside, path_in, queued}
+use Rattle.turn_semantics.specs.Midway.{Tables, Place, stack_at, label_among}
 use Rattle.turn_semantics.specs.Turned.{AgreesOn}
-use Rattle.turn_semantics.specs.Wakes.{ends_at, SettlesAt}
+use Rattle.turn_semantics.specs.Wakes.{ends_at, SettlesAt, granted_to, LeavesAt}
 use Rattle.task_machine.specs.declared.stop.TaskState.{TaskState}
-use Rattle.task_machine.specs.declared.stop.TaskState.TheVariants.{ToBegin, Asked, Asleep, Waiting, GivingUp, Awaits, Over}
+use Rattle.task_machine.specs.declared.stop.TaskState.TheVariants.{ToBegin, Asked, Asleep, Waiting, GivingUp, Awaits, Over, Queued}
 use Rattle.task_machine.specs.declared.stop.Wake.{Wake}
-use Rattle.task_machine.specs.declared.stop.Wake.TheVariants.{Begin, Due, Seen, Answer, Settled}
+use Rattle.task_machine.specs.declared.stop.Wake.TheVariants.{Begin, Due, Seen, Answer, Settled, Granted}
 use Rattle.task_machine.specs.declared.task.Own.{Own}
 use Rattle.task_machine.specs.declared.task.Task.{Task}
 use Rattle.task_machine.specs.Fitting.{Block, a_scope, a_nursery, blocks_of, IsMine, Opened, waits_of}
@@ -52,17 +52,32 @@ use Rattle.task_machine.specs.Tasks.{home_scope, scope_of, lent_of}
 use Rattle.task_machine.specs.Waking.{WakesFrom, answer_in, raised_in, wake_in}
 use Rattle.task_machine.specs.Worlds.{label_at, event_at}
 use Rattle.task_machine.proofs.Stacked.{one_of, seen_at}
-use Rattle.interleavings.specs.Interleaving.{Started, RunInvariant, live, goes_on, AllFrom}
+use Rattle.interleavings.specs.Interleaving.{Started, RunInvariant, live, goes_on, AllFrom, leaves_by, leaves_at}
 use Rattle.interleavings.specs.Going.{root_result}
 use Rattle.interleavings.specs.Woken.{members_by, SeesNow, IsOver, WaitIsOver, MayWake}
 use Rattle.interleavings.proofs.Running.{runs_keep_invariant}
 use Rattle.interleavings.proofs.Agreement.{outcomes_tell, outcomes_ended}
-use Rattle.run_refinement.specs.RunState.{RunState, IsMember, HasMembers, IsSince, SomeEnded, LastEnds, Follows, Refines}
+use Rattle.run_refinement.specs.RunState.{RunState, IsMember, HasMembers, IsSince, SomeEnded, LastEnds, Follows, Refines, GrantedAt}
 use Rattle.run_refinement.specs.Ready.{IsTimely, MayGo}
 use Rattle.run_refinement.proofs.EventPlaces.{HasEvent, has_event, awaited_set}
 use Rattle.run_refinement.proofs.LabelsApart.{below_of}
 use Rattle.run_refinement.proofs.Parts.{among_got}
 use Rattle.run_refinement.proofs.Found.{gives, puts, finds}
+use Rattle.turn_semantics.specs.Placed.{IsSome as IsSomeLabel}
+use Rattle.interleavings.specs.Runs.{keeping}
+use Rattle.interleavings.specs.Acts.{InOrder, granted_so_far}
+use Rattle.interleavings.proofs.GrantsKnown.{grants_are_known}
+use Rattle.interleavings.proofs.Ordering.{orders_exist}
+use Rattle.run_refinement.proofs.Grants.{granted_in}
+use Rattle.run_refinement.proofs.Queues.{goes_granted, goes_seen, goes_last}
+use Rattle.run_refinement.proofs.ActsKeep.{not_both}
+use Rattle.std.proofs.lemmas.Bool.{cases_lt}
+use Rattle.std.specs.Option.{option_map}
+use Rattle.std.specs.Borrow.{Bor}
+use Rattle.job_tree.specs.declared.object.Ask.{Ask}
+use Rattle.objects.specs.Held.{what_in}
+use Rattle.objects.specs.Whats.{What}
+use Rattle.job_meaning.specs.Sharing.{granted_before}
 
 -- ---- the answer of a kernel
 
@@ -98,6 +113,7 @@ member_of to_begin = record { end = 0; exc = None }
 member_of (asking kernel purpose) = record { end = 0; exc = None }
 member_of (asleep paced n since) = record { end = 0; exc = None }
 member_of (waiting_for event since) = record { end = 0; exc = None }
+member_of (queued object ask since body) = record { end = 0; exc = None }
 member_of (giving_up since) = record { end = 0; exc = None }
 member_of (awaiting children ended exc) = record { end = 0; exc = None }
 member_of (at_end u e) = record { end = u; exc = e }
@@ -247,7 +263,7 @@ settled_children n s = by_body (is_some n.body) s
     by_body false e = absurd (let f : false ≡ true = e in cc)
 
 -- a nursery of a task whose body has ended is the one for which the task waits
-pub ended_waits : (k : Table) (job : Job) (input : List ℕ) (t m : ℕ) (leaving : Option ℕ) (state : RunState) →
+pub ended_waits : (k : Tables) (job : Job) (input : List ℕ) (t m : ℕ) (leaving : Option ℕ) (state : RunState) →
     Refines k job input t m leaving state → (s : ℕ) (a : Task) (id : ℕ) → state.task s ≡ Some a →
     HasNurseryOf id (blocks_of a.frames.items) (waits_of a.task_state) → HasNursery state.world.book id (λ n. is_some n.body ≡ true) →
     waits_of a.task_state ≡ Some id
@@ -269,7 +285,7 @@ pub record Waited (at : ℕ → Started) (qs : List Started) (q : Started) (chil
       x.rest.stopped ≡ at_end (ends at n.last q.child i).end (ends at n.last q.child i).exc
   pub last : latest ended (members_by (ends at n.last q.child) children) ≡ n.last
 
-pub waited : (k : Table) (job : Job) (input : List ℕ) (t m : ℕ) (state : RunState) → (c : Refines k job input t m None state) →
+pub waited : (k : Tables) (job : Job) (input : List ℕ) (t m : ℕ) (state : RunState) → (c : Refines k job input t m None state) →
     (s : ℕ) (task : Task) → state.task s ≡ Some task →
     (id since u : ℕ) (children : List ℕ) → task.task_state ≡ Awaits id since → c.numbers s id ≡ children → since ≡ u →
     (n : Nursery) → nursery_at state.world.book id ≡ Some n → is_settled n ≡ true →
@@ -341,14 +357,15 @@ same_now : (x : Now) (t : ℕ) (own : List Label) → x.at ≡ t → x.own ≡ o
 same_now x t own e f = λ i. record { at = e i; own = f i }
 
 -- a task that may continue by what the code sees may be woken so in the run of the definitions
-pub may_wake : (k : Table) (job : Job) (input : List ℕ) (t m : ℕ) (state : RunState) → IsSettled k job input → GivesNamesOnce job →
+pub may_wake : (k : Tables) (job : Job) (input : List ℕ) (t m : ℕ) (state : RunState) → IsSettledBy k job input → GivesNamesOnce job →
     StartsInNurseries job →
-    (c : Refines k job input t m None state) → (s : ℕ) (task : Task) → state.task s ≡ Some task → (wake : Wake) → MayGo state.world task wake →
-    MayWake c.interleaving.cancelled_from c.interleaving.tasks (record { at = t; own = (now_for wake (state_of task state.world)).own })
+    (c : Refines k job input t m None state) → state.through ≡ t → (s : ℕ) (task : Task) → state.task s ≡ Some task → (wake : Wake) →
+    MayGo state.world (state.granted s) task wake →
+    MayWake (keeping c.interleaving.cancelled_from k) c.interleaving.tasks (record { at = t; own = (now_for wake (state_of task state.world)).own })
     (c.interleaving.at s) (wake_in state.world.book task.task_state wake) (c.interleaving.at s).rest.stopped
-may_wake k job input t m state settled names starting c s task lives wake may =
+may_wake k job input t m state settled names starting c unserved s task lives wake may =
     by_stop task.task_state q.rest.stopped refl it.task_state it.since it.stands.event
-    (has_event q.rest.stopped _ q.places it.stands.placed) (on.1 q there) may.fits may.timely
+    (has_event q.rest.stopped _ q.places it.stands.placed) (on.1 q there) granted may.fits may.timely
   where
     q : Started
     q = c.interleaving.at s
@@ -371,10 +388,20 @@ may_wake k job input t m state settled names starting c s task lives wake may =
     clock : state.world.clock ≡ q.here.clock
     clock = ap (λ (h : Here). h.clock) it.here
 
-    there : IsAmong q qs
-    there = (c.interleaving.has s (below_of c s task lives)).0
+    below : s < m
+    below = below_of c s task lives
 
-    on : RunInvariant k f (root_result k job input) qs × AllFrom k qs t × ((x : Started) → IsAmong x qs → AgreesOn t k f x.places)
+    there : IsAmong q qs
+    there = (c.interleaving.has s below).0
+
+    -- the tasks in the order of records
+    order : (taken : List Started) × InOrder qs (0 ∷ []) taken
+    order = orders_exist k job input names starting settled f t m qs c.interleaving.reached
+
+    granted : GrantedAt state order.0 s q q.rest.stopped
+    granted = c.shares.granted order.0 order.1 s below
+
+    on : RunInvariant k f (root_result k job input) qs × AllFrom k qs t × ((x : Started) → IsAmong x qs → AgreesOn t k.cancelled_from f x.places)
     on = runs_keep_invariant k job input settled names starting f t m qs c.interleaving.reached
 
     stack : Stack
@@ -384,7 +411,7 @@ may_wake k job input t m state settled names starting c s task lives wake may =
     now w = record { at = t; own = (now_for w (state_of task state.world)).own }
 
     begins_now : (w : Wake) (at : ℕ) → WakesFrom (ToBegin at) (lent_of task) book w → q.stop ≡ only_at at → at ≡ state.world.tick →
-        MayWake f qs (now w) q (wake_in book (ToBegin at) w) to_begin
+        MayWake (keeping f k) qs (now w) q (wake_in book (ToBegin at) w) to_begin
     begins_now Begin at h e timely = e ∙ ap only_at (timely ∙ c.tick)
     begins_now Due at h e timely = e ∙ ap only_at (timely ∙ c.tick)
     begins_now _ at h e timely = absurd h
@@ -409,7 +436,7 @@ may_wake k job input t m state settled names starting c s task lives wake may =
 
     answers_now : (w : Wake) (kernel : Kernel) (purpose : _) (asked : ask.Kernel) (p : ask.Purpose) → kernel_in kernel ≡ asked →
         WakesFrom (Asked kernel purpose) (lent_of task) book w → (q.stop.at ≤ t) × (q.stop.own ≡ task.cancelled.items) → t ≤ q.stop.at →
-        MayWake f qs (now w) q (wake_in book (Asked kernel purpose) w) (asking asked p)
+        MayWake (keeping f k) qs (now w) q (wake_in book (Asked kernel purpose) w) (asking asked p)
     answers_now (Answer answer) kernel purpose asked p same h since late = (
       same_now q.stop t task.cancelled.items (let le = since.0 in omega (arith, le, late)) since.1,
       answer_is state.world.clock kernel (lent_of task) answer task.label (path_in frames task.label.indices) h
@@ -425,8 +452,8 @@ may_wake k job input t m state settled names starting c s task lives wake may =
 
     sleeps_now : (w : Wake) (paced : Bool) (ticks since : ℕ) (p : Bool) (n u : ℕ) → ticks ≡ n → since ≡ u →
         WakesFrom (Asleep paced ticks since) (lent_of task) book w →
-        IsTimely state.world (scope_of task) (Asleep paced ticks since) w →
-        MayWake f qs (now w) q (wake_in book (Asleep paced ticks since) w) (asleep p n u)
+        IsTimely state.world (state.granted s) (scope_of task) (Asleep paced ticks since) w →
+        MayWake (keeping f k) qs (now w) q (wake_in book (Asleep paced ticks since) w) (asleep p n u)
     sleeps_now Due paced ticks since p n u e g h timely = (
       ap (λ (x : Clock). wakes_at x n u) (sym clock) ∙ ap (λ (v : ℕ). wakes_at state.world.clock v u) (sym e)
           ∙ ap (wakes_at state.world.clock ticks) (sym g) ∙ timely.0 ∙ c.tick,
@@ -452,8 +479,8 @@ may_wake k job input t m state settled names starting c s task lives wake may =
 
     waits_now : (w : Wake) (key since : ℕ) (name : List ℕ) (u : ℕ) → since ≡ u →
         IsEventNamed labels stack (Waiting key since) name q.places → HasEvent (waiting_for name since) q.places →
-        WakesFrom (Waiting key since) (lent_of task) book w → IsTimely state.world (scope_of task) (Waiting key since) w →
-        MayWake f qs (now w) q (wake_in book (Waiting key since) w) (waiting_for name u)
+        WakesFrom (Waiting key since) (lent_of task) book w → IsTimely state.world (state.granted s) (scope_of task) (Waiting key since) w →
+        MayWake (keeping f k) qs (now w) q (wake_in book (Waiting key since) w) (waiting_for name u)
     waits_now Due key since name u e named some h timely = (
       subst (λ (x : ℕ). IsOver q.here.clock (ends_at q.here.clock f name x q.places) x t (seen (stack_at f q.places).scopes t)) e
           (subst (λ (b : Bool). IsOver q.here.clock (ends_at q.here.clock f name since q.places) since t b)
@@ -475,8 +502,80 @@ may_wake k job input t m state settled names starting c s task lives wake may =
     )
     waits_now _ key since name u e named some h timely = absurd h
 
+    -- what the tables grant by now to a task in a queue is what the state says
+    granted_known : (u : ℕ) (name : List ℕ) (l : Label) → label_among true name q.places ≡ Some l → u < t →
+        (u < state.through → (m : Label) → label_among true name q.places ≡ Some m →
+        granted_before (suc state.through) (granted_so_far order.0 m q.here.task u)
+        ≡ option_map (λ (w : What). record { at = state.through; what = w }) (state.granted s)) →
+        granted_before (suc t) (k.granted l q.here.task u) ≡ granted_in t (state.granted s)
+    granted_known u name l is before h =
+        grants_are_known k job input names starting settled f t m qs c.interleaving.reached t on.1 order.0 order.1 l q.here.task u
+        ∙ subst (λ (v : ℕ). granted_before (suc v) (granted_so_far order.0 l q.here.task u) ≡ granted_in v (state.granted s)) unserved
+        (h (subst (λ (v : ℕ). u < v) (sym unserved) before) l is)
+
+    queues_by : (w : Wake) (key : ℕ) (wanted : Ask) (since : ℕ) (body : Bor Steps) (name : List ℕ) (a : Ask) (u : ℕ) (steps : Steps) (l : Label) →
+        since ≡ u → label_among true name q.places ≡ Some l → GrantedAt state order.0 s q (queued name a u steps) →
+        t ≤ leaves_by k (inside q.rest.frames q.here) (label_among true name q.places) u (stack_at k.cancelled_from q.places) →
+        WakesFrom (Queued key wanted since body) (lent_of task) book w →
+        IsTimely state.world (state.granted s) (scope_of task) (Queued key wanted since body) w →
+        MayWake (keeping f k) qs (now w) q (wake_in book (Queued key wanted since body) w) (queued name a u steps)
+    queues_by (Granted grant) key wanted since body name a u steps l e is h late fits timely = (
+      subst (λ (o : Option Label). granted_to (keeping f k) (inside q.rest.frames q.here) o u (stack_at f q.places)
+          ≡ Some (record { at = t; what = what_in grant })) (sym is)
+          (goes_granted k f t q.places (on.2 q there) (inside q.rest.frames q.here) l u (state.granted s) before (granted_known u name l is before h.0)
+          (subst (λ (o : Option Label). t ≤ leaves_by k (inside q.rest.frames q.here) o u (stack_at k.cancelled_from q.places)) is late) (what_in grant)
+          timely),
+      refl,
+    )
+      where
+        by_order : (u < t) ⊎ (t ≤ u) → u < t
+        by_order (inl lt) = lt
+        by_order (inr le) = absurd (not_both (h.1 (subst (λ (v : ℕ). v ≤ u) (sym unserved) le)) timely)
+
+        before : u < t
+        before = by_order (cases_lt u t)
+    queues_by Seen key wanted since body name a u steps l e is h late fits timely = (
+      subst (λ (o : Option Label). LeavesAt (keeping f k) (inside q.rest.frames q.here) o u t (stack_at f q.places)) (sym is)
+          (goes_seen k f t q.places (on.2 q there) (inside q.rest.frames q.here) l u (state.granted s) before (granted_known u name l is before h.0)
+          (subst (λ (o : Option Label). t ≤ leaves_by k (inside q.rest.frames q.here) o u (stack_at k.cancelled_from q.places)) is late) timely.0
+          (same_seen true timely.2)),
+      same_seen true timely.2,
+      refl,
+    )
+      where
+        before : u < t
+        before = let g : since < state.world.tick = timely.1 in let b : state.world.tick ≡ t = c.tick in omega (arith, g, b, e)
+    queues_by Due key wanted since body name a u steps l e is h late fits timely = (
+      subst (λ (o : Option Label). LeavesAt (keeping f k) (inside q.rest.frames q.here) o u t (stack_at f q.places)) (sym is)
+          (goes_last k f t q.places (on.2 q there) (inside q.rest.frames q.here) l u (state.granted s) before (granted_known u name l is before h.0)
+          (subst (λ (o : Option Label). t ≤ leaves_by k (inside q.rest.frames q.here) o u (stack_at k.cancelled_from q.places)) is late) timely.0
+          (same_seen false timely.3) last),
+      same_seen false timely.3,
+      refl,
+    )
+      where
+        before : u < t
+        before = let g : since < state.world.tick = timely.1 in let b : state.world.tick ≡ t = c.tick in omega (arith, g, b, e)
+
+        last : last_grant q.here.clock u ≡ t
+        last = ap (λ (x : Clock). last_grant x u) (sym clock) ∙ (ap (last_grant state.world.clock) (sym e) ∙ (timely.2 ∙ c.tick))
+    queues_by _ key wanted since body name a u steps l e is h late fits timely = absurd fits
+
+    queues_now : (w : Wake) (key : ℕ) (wanted : Ask) (since : ℕ) (body : Bor Steps) (name : List ℕ) (a : Ask) (u : ℕ) (steps : Steps) →
+        since ≡ u → HasEvent (queued name a u steps) q.places → GrantedAt state order.0 s q (queued name a u steps) →
+        t ≤ leaves_by k (inside q.rest.frames q.here) (label_among true name q.places) u (stack_at k.cancelled_from q.places) →
+        WakesFrom (Queued key wanted since body) (lent_of task) book w →
+        IsTimely state.world (state.granted s) (scope_of task) (Queued key wanted since body) w →
+        MayWake (keeping f k) qs (now w) q (wake_in book (Queued key wanted since body) w) (queued name a u steps)
+    queues_now w key wanted since body name a u steps e some h late fits timely = by_label (label_among true name q.places) refl some
+      where
+        by_label : (o : Option Label) → label_among true name q.places ≡ o → IsSomeLabel o →
+            MayWake (keeping f k) qs (now w) q (wake_in book (Queued key wanted since body) w) (queued name a u steps)
+        by_label None is i = absurd i
+        by_label (Some l) is i = queues_by w key wanted since body name a u steps l e is h late fits timely
+
     gives_up_now : (w : Wake) (since u : ℕ) → since ≡ u → WakesFrom (GivingUp since) (lent_of task) book w → suc since ≡ state.world.tick →
-        MayWake f qs (now w) q (wake_in book (GivingUp since) w) (giving_up u)
+        MayWake (keeping f k) qs (now w) q (wake_in book (GivingUp since) w) (giving_up u)
     gives_up_now Due since u e h timely = (ap suc (sym e) ∙ timely ∙ c.tick, refl)
     gives_up_now _ since u e h timely = absurd h
 
@@ -556,7 +655,7 @@ may_wake k job input t m state settled names starting c s task lives wake may =
         c.numbers s id ≡ children → since ≡ u → HasNursery book id (λ n. n.body ≡ Some exc) →
         t ≤ a_round_after q.here.clock (latest u (outcome_members q.outcomes children)) → WakesFrom (Awaits id since) (lent_of task) book w →
         HasNursery book id (λ n. a_round_after state.world.clock n.last ≤ state.world.tick) →
-        MayWake f qs (now w) q (wake_in book (Awaits id since) w) (awaiting children u exc)
+        MayWake (keeping f k) qs (now w) q (wake_in book (Awaits id since) w) (awaiting children u exc)
     settles_now Settled id since u children exc task_state numbers same body late h timely =
         (over_now id since u children exc task_state numbers same body late h timely, refl)
     settles_now Due id since u children exc task_state numbers same body late h timely =
@@ -565,17 +664,20 @@ may_wake k job input t m state settled names starting c s task lives wake may =
 
     by_stop : (task_state : TaskState) (stopped : Stopped) → task.task_state ≡ task_state → IsTaskState (c.numbers s) book task_state stopped →
         IsSince t task.cancelled.items task_state q.stop → AwaitsEvent labels stack (Some stopped) task_state q.places →
-        HasEvent stopped q.places → (live stopped ≡ true → t ≤ goes_on q.here.clock q.outcomes stopped (stack_at k q.places) q.stop.at) → WakesFrom task_state (lent_of task) book wake → IsTimely state.world (scope_of task) task_state wake →
-        MayWake f qs (now wake) q (wake_in book task_state wake) stopped
-    by_stop (ToBegin at) to_begin e h since event some late fits timely = begins_now wake at fits since timely
-    by_stop (Asked kernel purpose) (asking asked p) e h since event some late fits timely =
+        HasEvent stopped q.places → (live stopped ≡ true → t ≤ goes_on q.here.clock q.outcomes stopped (stack_at k.cancelled_from q.places)
+        (leaves_at k stopped q.here q.places) q.stop.at) → GrantedAt state order.0 s q stopped → WakesFrom task_state (lent_of task) book wake → IsTimely state.world (state.granted s) (scope_of task) task_state wake →
+        MayWake (keeping f k) qs (now wake) q (wake_in book task_state wake) stopped
+    by_stop (ToBegin at) to_begin e h since event some late granted fits timely = begins_now wake at fits since timely
+    by_stop (Asked kernel purpose) (asking asked p) e h since event some late granted fits timely =
         answers_now wake kernel purpose asked p h.0 fits since (late refl)
-    by_stop (Asleep paced ticks since) (asleep p n u) e h stop event some late fits timely =
+    by_stop (Asleep paced ticks since) (asleep p n u) e h stop event some late granted fits timely =
         sleeps_now wake paced ticks since p n u h.1 h.2 fits timely
-    by_stop (Waiting key since) (waiting_for name u) e h stop event some late fits timely =
+    by_stop (Waiting key since) (waiting_for name u) e h stop event some late granted fits timely =
         waits_now wake key since name u h event some fits timely
-    by_stop (GivingUp since) (giving_up u) e h stop event some late fits timely = gives_up_now wake since u h fits timely
-    by_stop (Awaits id since) (awaiting children u exc) e h stop event some late fits timely =
+    by_stop (Queued key wanted since body) (queued name a u steps) e h stop event some late granted fits timely =
+        queues_now wake key wanted since body name a u steps h.1 some granted (late refl) fits timely
+    by_stop (GivingUp since) (giving_up u) e h stop event some late granted fits timely = gives_up_now wake since u h fits timely
+    by_stop (Awaits id since) (awaiting children u exc) e h stop event some late granted fits timely =
         settles_now wake id since u children exc e h.0 h.1 h.2 (late refl) fits timely
-    by_stop Over (at_end u x) e h since event some late fits timely = absurd fits
-    by_stop _ _ e h since event some late fits timely = absurd h
+    by_stop Over (at_end u x) e h since event some late granted fits timely = absurd fits
+    by_stop _ _ e h since event some late granted fits timely = absurd h

@@ -5,7 +5,7 @@ use Rattle.turn_semantics.specs.Lists.{IsAmong}
 use Rattle.cancel_scopes.specs.Sight.{Level}
 use Rattle.cancel_scopes.specs.Tree.{Stack, Tree, stack_of, outer_of, IsChain}
 use Rattle.job_meaning.specs.Log.{Table}
-use Rattle.job_meaning.specs.Rest.{Frame, steps_left, in_scope, in_event, in_nursery, in_repeat, in_try, in_handler, in_cleanup, Stopped, to_begin, asking, asleep, waiting_for, giving_up, awaiting, at_end}
+use Rattle.job_meaning.specs.Rest.{Frame, steps_left, in_scope, in_event, in_nursery, in_repeat, in_try, in_handler, in_cleanup, Stopped, to_begin, asking, asleep, waiting_for, giving_up, awaiting, at_end, with_token, with_part, queued}
 use Rattle.turn_semantics.specs.Midway.{Place}
 use Rattle.turn_semantics.specs.Placed.{HasChild, HasChildAfter}
 use Rattle.task_machine.specs.Labels.{Labels, Events}
@@ -64,6 +64,8 @@ home_in : (P : ℕ → ℕ → Type 0) (now : Numbers) (labels : Labels) (events
     Keyed P now fs (keys_of st) → AreAt labels events cancelled_from st ps → HasChild number home fs ps → HomeIn P now labels events cancelled_from number home st
 home_in P now labels events cancelled_from number home [] st ps k a h = absurd h
 home_in P now labels events cancelled_from number home (steps_left ss ∷ fs) st ps k a h = home_in P now labels events cancelled_from number home fs st ps k a h
+home_in P now labels events cancelled_from number home (with_token limiter ∷ fs) st ps k a h = home_in P now labels events cancelled_from number home fs st ps k a h
+home_in P now labels events cancelled_from number home (with_part received ∷ fs) st ps k a h = home_in P now labels events cancelled_from number home fs st ps k a h
 home_in P now labels events cancelled_from number home (in_scope fail ∷ fs) [] ps k a h = absurd k
 home_in P now labels events cancelled_from number home (in_scope fail ∷ fs) (l ∷ st) [] k a h = absurd a
 home_in P now labels events cancelled_from number home (in_scope fail ∷ fs) (l ∷ st) (p ∷ ps) k a h =
@@ -106,6 +108,8 @@ home_waiting P now labels events cancelled_from number home id fs (l ∷ st) (p 
     absurd (let e : Some id ≡ None = w in cc)
 home_waiting P now labels events cancelled_from number home id fs (l ∷ st) (p ∷ ps) (waiting_for event since) w k a h =
     absurd (let e : Some id ≡ None = w in cc)
+home_waiting P now labels events cancelled_from number home id fs (l ∷ st) (p ∷ ps) (queued object ask since body) w k a h =
+    absurd (let e : Some id ≡ None = w in cc)
 home_waiting P now labels events cancelled_from number home id fs (l ∷ st) (p ∷ ps) (giving_up since) w k a h = absurd (let e : Some id ≡ None = w in cc)
 home_waiting P now labels events cancelled_from number home id fs (l ∷ st) (p ∷ ps) (awaiting children ended exc) w k a (inl h) =
     let same : id ≡ w.0 = (let e : Some id ≡ Some w.0 = w.1 in cc) in
@@ -131,6 +135,9 @@ home_there P now labels events cancelled_from number home None fs st ps (asleep 
     home_in P now labels events cancelled_from number home fs st ps k a h
 home_there P now labels events cancelled_from number home None fs st ps (waiting_for event since) w k a (inl h) = absurd h
 home_there P now labels events cancelled_from number home None fs st ps (waiting_for event since) w k a (inr h) =
+    home_in P now labels events cancelled_from number home fs st ps k a h
+home_there P now labels events cancelled_from number home None fs st ps (queued object ask since body) w k a (inl h) = absurd h
+home_there P now labels events cancelled_from number home None fs st ps (queued object ask since body) w k a (inr h) =
     home_in P now labels events cancelled_from number home fs st ps k a h
 home_there P now labels events cancelled_from number home None fs st ps (giving_up since) w k a (inl h) = absurd h
 home_there P now labels events cancelled_from number home None fs st ps (giving_up since) w k a (inr h) =

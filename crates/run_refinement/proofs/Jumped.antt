@@ -1,5 +1,5 @@
 -- The tasks of the program when the clock jumps or started tasks are taken: everything else stays.
-use Rattle.std.proofs.Common.{◌≡◌, ℕ, ◌≤◌, Option, Some, None, List, [], ◌∷◌, refl, ap, sym, ◌∙◌, subst, arith}
+use Rattle.std.proofs.Common.{◌≡◌, ℕ, ◌≤◌, Option, Some, None, List, [], ◌∷◌, refl, ap, sym, ◌∙◌, subst, arith, ◌⊎◌, inl, suc, ◌++◌, inr}
 use Rattle.std.specs.List.{slice_get}
 use Rattle.std.specs.Option.{IsSomeAnd}
 use Rattle.job_tree.specs.Tree.{Tree as Job}
@@ -11,16 +11,20 @@ use Rattle.job_meaning.specs.Rest as rest
 use Rattle.nursery_book.specs.Nursery.{End, Nursery}
 use Rattle.nursery_book.specs.Book.{nursery_at}
 use Rattle.task_machine.specs.declared.stop.TaskState.{TaskState}
-use Rattle.task_machine.specs.declared.stop.TaskState.TheVariants.{ToBegin, Asked, Asleep, Waiting, GivingUp, Awaits, Over}
+use Rattle.task_machine.specs.declared.stop.TaskState.TheVariants.{ToBegin, Asked, Asleep, Waiting, GivingUp, Awaits, Over, Queued}
 use Rattle.task_machine.specs.declared.task.Home.{Home}
 use Rattle.task_machine.specs.declared.task.Task.{Task}
 use Rattle.task_machine.specs.declared.world.World.{World}
 use Rattle.task_machine.specs.Stops.{Numbers}
-use Rattle.interleavings.specs.Interleaving.{Started, Blocked}
-use Rattle.interleavings.specs.Runs.{jump, turns_taken}
+use Rattle.interleavings.specs.Interleaving.{Started}
+use Rattle.interleavings.specs.Runs.{turns_taken, Reached}
 use Rattle.interleavings.specs.Rows.{children_made}
-use Rattle.run_refinement.specs.RunState.{Interleaving, RunState, EndedTask, HasHome, IsMember, HasMembers, IsSince, Follows, HasEnded, OpenedBy, AreStarted, Refines}
-use Rattle.run_refinement.specs.Moved.{SameTasks, moved_world}
+use Rattle.run_refinement.specs.RunState.{Interleaving, RunState, EndedTask, HasHome, IsMember, HasMembers, IsSince, Follows, HasEnded, OpenedBy, AreStarted, Refines, Shares}
+use Rattle.run_refinement.specs.Moved.{SameTasks, moved_world, SameObjects}
+use Rattle.turn_semantics.specs.Midway.{Tables}
+use Rattle.run_refinement.specs.Sharing.{waits_by}
+use Rattle.run_refinement.proofs.SharesKept.{shares_kept}
+use Rattle.turn_semantics.specs.Lists.{IsAmong}
 
 -- ---- the same tasks
 
@@ -70,6 +74,7 @@ module _ (t u m : ℕ) (le : t ≤ u) (old new : RunState) (at : ℕ → Started
   since_moved cancelled (Asked kernel purpose) stop h = (let e = h.0 in omega (arith, e, le), h.1)
   since_moved cancelled (Asleep paced ticks since) stop h = tt
   since_moved cancelled (Waiting event since) stop h = tt
+  since_moved cancelled (Queued object ask since body) stop h = tt
   since_moved cancelled (GivingUp since) stop h = tt
   since_moved cancelled (Awaits id since) stop h = tt
   since_moved cancelled Over stop h = tt
@@ -90,6 +95,7 @@ module _ (t u m : ℕ) (le : t ≤ u) (old new : RunState) (at : ℕ → Started
           numbered = h.stands.numbered;
           placed = h.stands.placed;
           new = h.stands.new;
+          stop = h.stands.stop;
           own = h.stands.own;
           event = h.stands.event;
         };
@@ -98,6 +104,7 @@ module _ (t u m : ℕ) (le : t ≤ u) (old new : RunState) (at : ℕ → Started
         goes =
             record {
               in_range = h.goes.in_range;
+              lent = h.goes.lent;
               starts = h.goes.starts;
               home = h.goes.home;
               scope = h.goes.scope;
@@ -136,17 +143,19 @@ module _ (t u m : ℕ) (le : t ≤ u) (old new : RunState) (at : ℕ → Started
       AreStarted clock new.start at child es
   started_moved clock child [] h = h
   started_moved clock child (rest.noted v e ∷ es) h = started_moved clock child es h
+  started_moved clock child (rest.acts shared v done ∷ es) h = started_moved clock child es h
   started_moved clock child (rest.signs l v ∷ es) h = started_moved clock child es h
   started_moved clock child (rest.enters l v d ∷ es) h = started_moved clock child es h
   started_moved clock child (rest.starts i l v ∷ es) h = (h.0, same.start (child i) ∙ h.1, started_moved clock child es h.2)
 
 -- what the code holds in the later moment, or with tasks taken, is the same run
-state_moved : (k : Table) (job : Job) (input : List ℕ) (t u m : ℕ) (leaving : Option ℕ) (old new : RunState) → t ≤ u → SameTasks old new →
+state_moved : (k : Tables) (job : Job) (input : List ℕ) (t u m : ℕ) (leaving : Option ℕ) (old new : RunState) → t ≤ u → SameTasks old new →
     new.world ≡ moved_world old.world u new.world →
     (c : Refines k job input t m leaving old) → (d : Interleaving k job input u m) → d.cancelled_from ≡ c.interleaving.cancelled_from → d.at ≡ c.interleaving.at →
-    turns_taken d.reached ≡ turns_taken c.interleaving.reached →
+    turns_taken d.reached ≡ turns_taken c.interleaving.reached → (new.through ≡ u) ⊎ (new.through ≡ suc u) →
+    Shares (record new { world = moved_world old.world u new.world }) d.tasks d.at m →
     (x : Refines k job input u m leaving new) × (x.interleaving.at ≡ d.at)
-state_moved k job input t u m leaving old new le same world c d cancelled_from at taken =
+state_moved k job input t u m leaving old new le same world c d cancelled_from at taken through shares =
     subst (λ (w : World). (x : Refines k job input u m leaving (record new { world = w })) × (x.interleaving.at ≡ d.at)) (sym world) (
       record {
         interleaving = d;
@@ -154,6 +163,7 @@ state_moved k job input t u m leaving old new le same world c d cancelled_from a
         counted = taken ∙ c.counted ∙ sym same.turns;
         clock = c.clock;
         tick = refl;
+        in_range = c.in_range;
         small = c.small;
         some = c.some;
         begun = same.start 0 ∙ c.begun;
@@ -174,6 +184,11 @@ state_moved k job input t u m leaving old new le same world c d cancelled_from a
             started_moved t u m le old new d.at c.numbers same old.world.clock (d.at s).child (d.at s).made
             (subst (λ (a : ℕ → Started). AreStarted old.world.clock old.start a (a s).child (a s).made) (sym at) (c.started s less));
         children = λ s less. same.children s ∙ c.children s less ∙ ap (λ (a : ℕ → Started). children_made (a s).child (a s).made) (sym at);
+        through = through;
+        path_of_root = same.path 0 ∙ c.path_of_root;
+        path_of_child = λ s child less i. same.path child ∙ (c.path_of_child s child less (subst (IsAmong child) (same.children s) i)
+            ∙ ap (λ (ps : List ℕ). ps ++ child ∷ []) (sym (same.path s)));
+        shares = shares;
       },
       refl,
     )
@@ -198,27 +213,43 @@ state_moved k job input t u m leaving old new le same world c d cancelled_from a
           })),
     )
 
--- the clock jumps where no task is ready
-pub state_jumps : (k : Table) (job : Job) (input : List ℕ) (t u m : ℕ) (old new : RunState) → t ≤ u → SameTasks old new →
+-- the clock jumps, where the run does
+pub state_jumps : (k : Tables) (job : Job) (input : List ℕ) (t u m : ℕ) (old new : RunState) → t ≤ u → SameTasks old new →
     new.world ≡ moved_world old.world u new.world →
-    (c : Refines k job input t m None old) → Blocked c.interleaving.cancelled_from c.interleaving.tasks u → Refines k job input u m None new
-state_jumps k job input t u m old new le same world c blocked =
+    (c : Refines k job input t m None old) → (r : Reached k job input c.interleaving.cancelled_from u m c.interleaving.tasks) →
+    turns_taken r ≡ turns_taken c.interleaving.reached → new.through ≡ u →
+    Shares (record new { world = moved_world old.world u new.world }) c.interleaving.tasks c.interleaving.at m → Refines k job input u m None new
+state_jumps k job input t u m old new le same world c r taken through shares =
     (state_moved k job input t u m None old new le same world c
     (record {
       cancelled_from = c.interleaving.cancelled_from;
       tasks = c.interleaving.tasks;
-      reached = jump c.interleaving.cancelled_from t u m c.interleaving.tasks c.interleaving.reached le blocked;
+      reached = r;
       at = c.interleaving.at;
       has = c.interleaving.has;
       one = c.interleaving.one;
       differ = c.interleaving.differ;
       none = c.interleaving.none;
     })
-    refl refl refl).0
+    refl refl taken (inl through) shares).0
 
 -- and tasks that were started are taken
-pub state_takes : (k : Table) (job : Job) (input : List ℕ) (t m : ℕ) (leaving : Option ℕ) (old new : RunState) → SameTasks old new →
+pub state_takes : (k : Tables) (job : Job) (input : List ℕ) (t m : ℕ) (leaving : Option ℕ) (old new : RunState) → SameTasks old new → SameObjects old new →
     new.world ≡ moved_world old.world t new.world →
     (c : Refines k job input t m leaving old) → (x : Refines k job input t m leaving new) × (x.interleaving.at ≡ c.interleaving.at)
-state_takes k job input t m leaving old new same world c =
+state_takes k job input t m leaving old new same objects world c =
     state_moved k job input t t m leaving old new (omega arith) same world c c.interleaving refl refl refl
+    (subst (λ (v : ℕ). (v ≡ t) ⊎ (v ≡ suc t)) (sym objects.through) c.through)
+    (shares_kept old (record new { world = moved_world old.world t new.world }) c.interleaving.tasks c.interleaving.at m
+    (λ ticket. ap (λ (o : Option Task). waits_by o ticket.since) (same.task ticket.row)) (sym c.tick)
+    (record { through = objects.through; object = objects.object; round = objects.round; granted = objects.granted }) c.shares)
+
+-- what was done in a moment is served
+pub state_serves : (k : Tables) (job : Job) (input : List ℕ) (t m : ℕ) (old new : RunState) → SameTasks old new → new.world ≡ old.world →
+    (c : Refines k job input t m None old) → new.through ≡ suc t →
+    Shares (record new { world = moved_world old.world t new.world }) c.interleaving.tasks c.interleaving.at m → Refines k job input t m None new
+state_serves k job input t m old new same world c through shares =
+    (state_moved k job input t t m None old new (omega arith) same moved c c.interleaving refl refl refl (inr through) shares).0
+  where
+    moved : new.world ≡ moved_world old.world t new.world
+    moved = world ∙ (λ i. moved_world old.world (c.tick i) (sym world i))

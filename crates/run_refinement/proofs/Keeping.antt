@@ -6,7 +6,6 @@ use Rattle.std.proofs.lemmas.Bool.{cases_lt}
 use Rattle.std.specs.Prelude.{is_some, slice_get}
 use Rattle.std.specs.List.{list_all}
 use Rattle.turn_semantics.specs.Lists.{IsAmong}
-use Rattle.input_lines.specs.declared.part.Part.{Part}
 use Rattle.exceptions.specs.Exceptions.{Exc}
 use Rattle.cancel_scopes.specs.Sight.{seen}
 use Rattle.cancel_scopes.specs.Tree.{outer_of}
@@ -19,16 +18,16 @@ use Rattle.job_tree.specs.Starting.{StartsInNurseries}
 use Rattle.job_meaning.specs.Log.{Table}
 use Rattle.job_meaning.specs.Moments.{a_round_after, wakes_at}
 use Rattle.job_meaning.specs.declared.clock.Clock.{Clock}
-use Rattle.job_meaning.specs.Follow.{IsSettled}
+use Rattle.interleavings.specs.Laws.{IsSettledBy}
 use Rattle.job_meaning.specs.Rest as rest
 use Rattle.job_meaning.proofs.Clips.{seen_near}
-use Rattle.turn_semantics.specs.Midway.{stack_at}
+use Rattle.turn_semantics.specs.Midway.{Tables, stack_at}
 use Rattle.turn_semantics.specs.Turned.{AgreesOn}
 use Rattle.task_machine.specs.declared.stop.TaskState.{TaskState}
-use Rattle.task_machine.specs.declared.stop.TaskState.TheVariants.{ToBegin, Asked, Asleep, Waiting, GivingUp, Awaits, Over}
+use Rattle.task_machine.specs.declared.stop.TaskState.TheVariants.{ToBegin, Asked, Asleep, Waiting, GivingUp, Awaits, Over, Queued}
 use Rattle.task_machine.specs.declared.stop.Stop.{Stop}
 use Rattle.task_machine.specs.declared.stop.Wake.{Wake}
-use Rattle.task_machine.specs.declared.stop.Wake.TheVariants.{Due, Seen, Settled}
+use Rattle.task_machine.specs.declared.stop.Wake.TheVariants.{Due, Seen, Settled, Granted}
 use Rattle.task_machine.specs.declared.task.Home.{Home}
 use Rattle.task_machine.specs.declared.task.Task.{Task}
 use Rattle.task_machine.specs.declared.world.World.{World}
@@ -64,6 +63,8 @@ use Rattle.run_refinement.proofs.Found.{finds, gives}
 use Rattle.run_refinement.proofs.Going.{settled_children}
 use Rattle.task_machine.proofs.Stopping.{settled_from}
 use Rattle.run_refinement.proofs.Recorded.{same_owner, Recorded, stays, tells, recorded}
+use Rattle.objects.specs.Whats.{What}
+use Rattle.job_meaning.specs.Walk.{last_grant}
 
 -- ---- a wake in another world
 
@@ -82,43 +83,52 @@ SetsAlike old new (Waiting key since) =
 SetsAlike old new task_state = Unit {0}
 
 -- and is timely where the same is seen in the same moment
-timely_still : (old new : World) (scope : Option ℕ) (task_state : TaskState) (wake : Wake) → new.clock ≡ old.clock → new.tick ≡ old.tick →
+timely_still : (old new : World) (what : Option What) (scope : Option ℕ) (task_state : TaskState) (wake : Wake) → new.clock ≡ old.clock → new.tick ≡ old.tick →
     seen (outer_of new.scopes scope) new.tick ≡ seen (outer_of old.scopes scope) old.tick →
     ((id : ℕ) → waits_of task_state ≡ Some id → nursery_at new.book id ≡ nursery_at old.book id) → SetsAlike old new task_state →
-    IsTimely old scope task_state wake → IsTimely new scope task_state wake
-timely_still old new scope (ToBegin at) wake clock tick seeing same sets h = h ∙ sym tick
-timely_still old new scope (Asleep paced ticks since) Due clock tick seeing same sets h =
+    IsTimely old what scope task_state wake → IsTimely new what scope task_state wake
+timely_still old new what scope (ToBegin at) wake clock tick seeing same sets h = h ∙ sym tick
+timely_still old new what scope (Asleep paced ticks since) Due clock tick seeing same sets h =
     (ap (λ (x : Clock). wakes_at x ticks since) clock ∙ h.0 ∙ sym tick, seeing ∙ h.1)
-timely_still old new scope (Asleep paced ticks since) Seen clock tick seeing same sets h =
+timely_still old new what scope (Asleep paced ticks since) Seen clock tick seeing same sets h =
     (subst (λ (v : ℕ). since < v) (sym tick) h.0, seeing ∙ h.1)
-timely_still old new scope (Waiting key since) Due clock tick seeing same sets h =
+timely_still old new what scope (Waiting key since) Due clock tick seeing same sets h =
     subst (λ (x : Clock). IsOver x (set_by x (event_at new key) since) since new.tick (seen (outer_of new.scopes scope) new.tick)) (sym clock)
     (subst (λ (v : ℕ). IsOver old.clock (set_by old.clock (event_at new key) since) since v (seen (outer_of new.scopes scope) new.tick))
     (sym tick)
     (over_alike old.clock (set_by old.clock (event_at old key) since) (set_by old.clock (event_at new key) since) since old.tick
     (seen (outer_of old.scopes scope) old.tick) (seen (outer_of new.scopes scope) new.tick) sets seeing h))
-timely_still old new scope (Waiting key since) Seen clock tick seeing same sets h = (
+timely_still old new what scope (Waiting key since) Seen clock tick seeing same sets h = (
   subst (λ (x : Clock). SeesNow x (set_by x (event_at new key) since) since new.tick) (sym clock)
       (subst (λ (v : ℕ). SeesNow old.clock (set_by old.clock (event_at new key) since) since v) (sym tick)
       (sees_alike old.clock (set_by old.clock (event_at old key) since) (set_by old.clock (event_at new key) since) since old.tick sets h.0)),
   seeing ∙ h.1,
 )
-timely_still old new scope (GivingUp since) wake clock tick seeing same sets h = h ∙ sym tick
-timely_still old new scope (Awaits id since) wake clock tick seeing same sets h =
+timely_still old new what scope (Queued object ask since body) (Granted grant) clock tick seeing same sets h = h
+timely_still old new what scope (Queued object ask since body) Seen clock tick seeing same sets h =
+    (h.0, subst (λ (v : ℕ). since < v) (sym tick) h.1, seeing ∙ h.2)
+timely_still old new what scope (Queued object ask since body) Due clock tick seeing same sets h = (
+  h.0,
+  subst (λ (v : ℕ). since < v) (sym tick) h.1,
+  ap (λ (x : Clock). last_grant x since) clock ∙ (h.2 ∙ sym tick),
+  seeing ∙ h.3,
+)
+timely_still old new what scope (GivingUp since) wake clock tick seeing same sets h = h ∙ sym tick
+timely_still old new what scope (Awaits id since) wake clock tick seeing same sets h =
     same_nursery (λ n. a_round_after new.clock n.last ≤ new.tick) old.book new.book id (same id refl)
     (subst (λ (x : Clock). HasNursery old.book id (λ n. a_round_after x n.last ≤ new.tick)) (sym clock)
     (subst (λ (v : ℕ). HasNursery old.book id (λ n. a_round_after old.clock n.last ≤ v)) (sym tick) h))
-timely_still old new scope _ _ clock tick seeing same sets h = h
+timely_still old new what scope _ _ clock tick seeing same sets h = h
 
 -- so a task may continue in another world where a nursery that it waits for is the same, if it is settled
-may_still : (old new : World) (task : Task) (wake : Wake) → new.clock ≡ old.clock → new.tick ≡ old.tick →
+may_still : (old new : World) (what : Option What) (task : Task) (wake : Wake) → new.clock ≡ old.clock → new.tick ≡ old.tick →
     seen (outer_of new.scopes (scope_of task)) new.tick ≡ seen (outer_of old.scopes (scope_of task)) old.tick →
     ((id : ℕ) → waits_of task.task_state ≡ Some id → HasNursery old.book id (λ n. is_settled n ≡ true) →
-    nursery_at new.book id ≡ nursery_at old.book id) → SetsAlike old new task.task_state → MayGo old task wake → MayGo new task wake
-may_still old new task wake clock tick seeing same sets may =
+    nursery_at new.book id ≡ nursery_at old.book id) → SetsAlike old new task.task_state → MayGo old what task wake → MayGo new what task wake
+may_still old new what task wake clock tick seeing same sets may =
     record {
       fits = fits_still task.task_state (lent_of task) old.book new.book wake there may.fits;
-      timely = timely_still old new (scope_of task) task.task_state wake clock tick seeing there sets may.timely;
+      timely = timely_still old new what (scope_of task) task.task_state wake clock tick seeing there sets may.timely;
     }
   where
     there : (id : ℕ) → waits_of task.task_state ≡ Some id → nursery_at new.book id ≡ nursery_at old.book id
@@ -127,8 +137,8 @@ may_still old new task wake clock tick seeing same sets may =
 -- ---- a turn of another task
 
 -- what a task sees is the same after it
-pub seen_still : {k : Table} {job : Job} {input : List ℕ} {t m s : ℕ} {old new : RunState} {before after : Task} {stop : Stop} →
-    IsSettled k job input → GivesNamesOnce job → StartsInNurseries job →
+pub seen_still : {k : Tables} {job : Job} {input : List ℕ} {t m s : ℕ} {old new : RunState} {before after : Task} {stop : Stop} →
+    IsSettledBy k job input → GivesNamesOnce job → StartsInNurseries job →
     (c : Refines k job input t m None old) → (T : Turning k job input t m s old new c.numbers before after stop c.interleaving) → (u : ℕ) → u < m →
     u ≢ s → (task : Task) → old.task u ≡ Some task →
     Follows new T.is.cancelled_from input t T.is.at (numbers_then c.numbers s m T.took.numbers_after) (leaving_by stop s) u task →
@@ -147,7 +157,7 @@ seen_still {k} {job} {input} {t} {m} {s} {old} {new} {before} {after} {stop} set
     other = T.of_other u below differs
 
     IsOn : Table → List Started → Type 0
-    IsOn f qs = RunInvariant k f (root_result k job input) qs × AllFrom k qs t × ((x : Started) → IsAmong x qs → AgreesOn t k f x.places)
+    IsOn f qs = RunInvariant k f (root_result k job input) qs × AllFrom k qs t × ((x : Started) → IsAmong x qs → AgreesOn t k.cancelled_from f x.places)
 
     on_before : IsOn c.interleaving.cancelled_from c.interleaving.tasks
     on_before = runs_keep_invariant k job input settled names starting c.interleaving.cancelled_from t m c.interleaving.tasks c.interleaving.reached
@@ -158,27 +168,28 @@ seen_still {k} {job} {input} {t} {m} {s} {old} {new} {before} {after} {stop} set
     less : u < m + length T.move.begun
     less = omega (arith, below)
 
-    seen_before : seen (stack_at k q.places).scopes t ≡ seen (stack_at c.interleaving.cancelled_from q.places).scopes t
+    seen_before : seen (stack_at k.cancelled_from q.places).scopes t ≡ seen (stack_at c.interleaving.cancelled_from q.places).scopes t
     seen_before =
-        seen_near (suc t) (stack_at k q.places).scopes (stack_at c.interleaving.cancelled_from q.places).scopes t
-        (near_places t k c.interleaving.cancelled_from q.places (on_before.2 q (c.interleaving.has u below).0)).0 (omega arith)
+        seen_near (suc t) (stack_at k.cancelled_from q.places).scopes (stack_at c.interleaving.cancelled_from q.places).scopes t
+        (near_places t k.cancelled_from c.interleaving.cancelled_from q.places (on_before.2 q (c.interleaving.has u below).0)).0 (omega arith)
 
-    seen_after : seen (stack_at k q.places).scopes t ≡ seen (stack_at T.is.cancelled_from q.places).scopes t
+    seen_after : seen (stack_at k.cancelled_from q.places).scopes t ≡ seen (stack_at T.is.cancelled_from q.places).scopes t
     seen_after =
-        seen_near (suc t) (stack_at k q.places).scopes (stack_at T.is.cancelled_from q.places).scopes t
-        (near_places t k T.is.cancelled_from q.places (on_after.2 q (subst (λ (x : Started). IsAmong x T.is.tasks) other (T.is.has u less).0))).0
+        seen_near (suc t) (stack_at k.cancelled_from q.places).scopes (stack_at T.is.cancelled_from q.places).scopes t
+        (near_places t k.cancelled_from T.is.cancelled_from q.places (on_after.2 q (subst (λ (x : Started). IsAmong x T.is.tasks) other (T.is.has u less).0))).0
         (omega arith)
 
 -- a task that may continue may still do so
-pub still_goes : {k : Table} {job : Job} {input : List ℕ} {t m s : ℕ} {old new : RunState} {before after : Task} {stop : Stop} →
-    IsSettled k job input → GivesNamesOnce job → StartsInNurseries job →
+pub still_goes : {k : Tables} {job : Job} {input : List ℕ} {t m s : ℕ} {old new : RunState} {before after : Task} {stop : Stop} →
+    IsSettledBy k job input → GivesNamesOnce job → StartsInNurseries job →
     (c : Refines k job input t m None old) → (T : Turning k job input t m s old new c.numbers before after stop c.interleaving) → (u : ℕ) → u < m →
     u ≢ s → (task : Task) → old.task u ≡ Some task →
     Follows new T.is.cancelled_from input t T.is.at (numbers_then c.numbers s m T.took.numbers_after) (leaving_by stop s) u task → (wake : Wake) →
-    MayGo old.world task wake → MayGo new.world task wake
+    MayGo old.world (old.granted u) task wake → MayGo new.world (new.granted u) task wake
 still_goes {t = t} {old = old} {new = new} settled names starting c T u below differs task lives now wake may =
-    may_still old.world new.world task wake (ap (λ (w : World). w.clock) T.code.world) tick same
-    (λ id e over. nursery_same c T u task differs lives id (inr e)) (sets task.task_state refl) may
+    subst (λ (o : Option What). MayGo new.world o task wake) (sym (T.code.granted_after u differs))
+    (may_still old.world new.world (old.granted u) task wake (ap (λ (w : World). w.clock) T.code.world) tick same
+    (λ id e over. nursery_same c T u task differs lives id (inr e)) (sets task.task_state refl) may)
   where
     places : AreAt (label_at new.world) (event_at new.world) T.is.cancelled_from (outer_of new.world.scopes (scope_of task)) (c.interleaving.at u).places
     places =
@@ -193,6 +204,7 @@ still_goes {t = t} {old = old} {new = new} settled names starting c T u below di
     sets (ToBegin at) is = tt
     sets (Asked kernel purpose) is = tt
     sets (Asleep paced ticks since) is = tt
+    sets (Queued object ask since body) is = tt
     sets (GivingUp since) is = tt
     sets (Awaits id since) is = tt
     sets Over is = tt
@@ -207,7 +219,7 @@ still_goes {t = t} {old = old} {new = new} settled names starting c T u below di
         ∙ ap (λ (v : ℕ). seen (outer_of old.world.scopes (scope_of task)) v) (sym c.tick)
 
 -- and a nursery of a task is as it was
-pub still_waits : {k : Table} {job : Job} {input : List ℕ} {t m s : ℕ} {old new : RunState} {before after : Task} {stop : Stop} →
+pub still_waits : {k : Tables} {job : Job} {input : List ℕ} {t m s : ℕ} {old new : RunState} {before after : Task} {stop : Stop} →
     (c : Refines k job input t m None old) →
     Turning k job input t m s old new c.numbers before after stop c.interleaving → (u : ℕ) → u ≢ s → (task : Task) → old.task u ≡ Some task →
     (P : Nursery → Type 0) → (id : ℕ) →
@@ -218,7 +230,7 @@ still_waits {old = old} {new = new} c T u differs task lives P id has h =
 -- ---- homes after a turn
 
 -- after a turn each home is a nursery of its owner still, and the owner of a new child's is the mover
-pub homes_kept : {k : Table} {job : Job} {input : List ℕ} {t m s : ℕ} {old new : RunState} {before after : Task} {stop : Stop} →
+pub homes_kept : {k : Tables} {job : Job} {input : List ℕ} {t m s : ℕ} {old new : RunState} {before after : Task} {stop : Stop} →
     (c : Refines k job input t m None old) →
     (T : Turning k job input t m s old new c.numbers before after stop c.interleaving) → (parent next : ℕ → ℕ) →
     ((p : ℕ) → p < m → next p ≡ parent p) →
@@ -293,7 +305,7 @@ homes_kept {k} {job} {input} {t} {m} {s} {old} {new} {before} {after} {stop} c T
 
 -- ---- a task leaves
 
-module _ (k : Table) (job : Job) (input : List ℕ) (t m s : ℕ) (old new : RunState) (task : Task) (exc : Option Exc)
+module _ (k : Tables) (job : Job) (input : List ℕ) (t m s : ℕ) (old new : RunState) (task : Task) (exc : Option Exc)
     (c : Refines k job input t m (Some s) old)
     (l : Leaving t s old new (c.interleaving.at s) task exc) where
   -- it had no nursery
@@ -363,11 +375,12 @@ module _ (k : Table) (job : Job) (input : List ℕ) (t m s : ℕ) (old new : Run
           absurd (none_runs n.0.children y.index (settled_children n.0 n.2) runs.1)
 
   -- and a task that may continue may still do so
-  pub goes_left : (x : Task) → (wake : Wake) → MayGo old.world x wake → MayGo new.world x wake
-  goes_left x wake may =
-      may_still old.world new.world x wake (ap (λ (w : World). w.clock) l.world) (ap (λ (w : World). w.tick) l.world)
+  pub goes_left : (p : ℕ) (x : Task) → (wake : Wake) → MayGo old.world (old.granted p) x wake → MayGo new.world (new.granted p) x wake
+  goes_left p x wake may =
+      subst (λ (o : Option What). MayGo new.world o x wake) (sym (l.objects.granted p))
+      (may_still old.world new.world (old.granted p) x wake (ap (λ (w : World). w.clock) l.world) (ap (λ (w : World). w.tick) l.world)
       (ap (λ (w : World). seen (outer_of w.scopes (scope_of x)) w.tick) l.world) (λ id e over. settled_same id over)
-      (sets x.task_state) may
+      (sets x.task_state) may)
     where
       sets : (task_state : TaskState) → SetsAlike old.world new.world task_state
       sets (Waiting key since) =
@@ -375,6 +388,7 @@ module _ (k : Table) (job : Job) (input : List ℕ) (t m s : ℕ) (old new : Run
       sets (ToBegin at) = tt
       sets (Asked kernel purpose) = tt
       sets (Asleep paced ticks since) = tt
+      sets (Queued object ask since body) = tt
       sets (GivingUp since) = tt
       sets (Awaits id since) = tt
       sets Over = tt

@@ -9,9 +9,9 @@ use Rattle.cancel_scopes.specs.Tree.{Stack, stack_of, outer_of}
 use Rattle.job_tree.specs.Names.{GivesNamesOnce}
 use Rattle.job_tree.specs.Starting.{StartsInNurseries}
 use Rattle.job_tree.specs.Tree.{Tree as Job}
-use Rattle.job_meaning.specs.Follow.{IsSettled}
+use Rattle.interleavings.specs.Laws.{IsSettledBy}
 use Rattle.job_meaning.specs.Log.{Table}
-use Rattle.job_meaning.specs.Rest.{Event, noted, signs, enters, starts}
+use Rattle.job_meaning.specs.Rest.{Event, noted, signs, enters, acts, starts}
 use Rattle.task_machine.specs.declared.entry.ScopeFrom.{ScopeFrom}
 use Rattle.turn_semantics.specs.Turned.{EntersIn}
 use Rattle.task_machine.specs.declared.task.Own.{Own}
@@ -33,6 +33,7 @@ use Rattle.interleavings.proofs.Running.{runs_keep_invariant}
 use Rattle.task_machine.proofs.Cancels.{open_around}
 use Rattle.task_machine.proofs.Others.{among_left, among_right}
 use Rattle.task_machine.proofs.Stacked.{one_of, alone_at}
+use Rattle.turn_semantics.specs.Midway.{Tables}
 
 -- ---- which task entered a label
 
@@ -40,6 +41,7 @@ use Rattle.task_machine.proofs.Stacked.{one_of, alone_at}
 pub known_enters : (l : Label) (es : List Event) → IsAmong l (entered_made es) → EntersIn l es
 known_enters l [] k = absurd k
 known_enters l (noted t e ∷ es) k = known_enters l es k
+known_enters l (acts shared t done ∷ es) k = known_enters l es k
 known_enters l (signs m t ∷ es) k = known_enters l es k
 known_enters l (enters m t d ∷ es) (inl e) = inl e
 known_enters l (enters m t d ∷ es) (inr k) = inr (known_enters l es k)
@@ -60,7 +62,7 @@ two_counted l x y (q ∷ qs) (inr i) (inl f) differs =
 two_counted l x y (q ∷ qs) (inr i) (inr j) differs = let g = two_counted l x y qs i j differs in omega (arith, g)
 
 -- A label was entered by one task of a run.
-pub one_entered : {k : Table} {job : Job} {input : List ℕ} {t m : ℕ} → (interleaving : Interleaving k job input t m) → IsSettled k job input →
+pub one_entered : {k : Tables} {job : Job} {input : List ℕ} {t m : ℕ} → (interleaving : Interleaving k job input t m) → IsSettledBy k job input →
     GivesNamesOnce job → StartsInNurseries job →
     (l : Label) (p q : ℕ) → p < m → q < m → IsAmong l (entered_made (interleaving.at p).made) → IsAmong l (entered_made (interleaving.at q).made) → p ≡ q
 one_entered {k} {job} {input} {t} {m} interleaving settled names nurseries l p q below lower a b = by_test (same_or p q)
@@ -128,7 +130,7 @@ alone_is labels key k label (l ∷ ls) a (inr i) e = alone_is labels key k label
 -- ---- all tasks
 
 -- a task that has not ended is one of those started
-pub below_of : {k : Table} {job : Job} {input : List ℕ} {t m : ℕ} {leaving : Option ℕ} {state : RunState} → Refines k job input t m leaving state →
+pub below_of : {k : Tables} {job : Job} {input : List ℕ} {t m : ℕ} {leaving : Option ℕ} {state : RunState} → Refines k job input t m leaving state →
     (p : ℕ) (task : Task) → state.task p ≡ Some task → p < m
 below_of {m = m} c p task e = by_order (cases_lt p m)
   where
@@ -137,7 +139,7 @@ below_of {m = m} c p task e = by_order (cases_lt p m)
     by_order (inr l) = absurd (not_both (c.unborn p l).0 e)
 
 -- the label of a scope that a task opened was entered by it
-pub opened_entered : {k : Table} {job : Job} {input : List ℕ} {t m : ℕ} {leaving : Option ℕ} {state : RunState} →
+pub opened_entered : {k : Tables} {job : Job} {input : List ℕ} {t m : ℕ} {leaving : Option ℕ} {state : RunState} →
     (c : Refines k job input t m leaving state) → (key p : ℕ) (l : Label) →
     OpenedBy state key p → label_at state.world key ≡ Some l → IsAmong l (entered_made (c.interleaving.at p).made)
 opened_entered {state = state} c key p l o e =
@@ -145,8 +147,8 @@ opened_entered {state = state} c key p l o e =
 
 -- Different scopes have different labels: one of another task was entered by that one, and one of the same task is in the
 -- same stack.
-pub labels_apart : {k : Table} {job : Job} {input : List ℕ} {t m : ℕ} {leaving : Option ℕ} {state : RunState} →
-    (c : Refines k job input t m leaving state) → IsSettled k job input → GivesNamesOnce job →
+pub labels_apart : {k : Tables} {job : Job} {input : List ℕ} {t m : ℕ} {leaving : Option ℕ} {state : RunState} →
+    (c : Refines k job input t m leaving state) → IsSettledBy k job input → GivesNamesOnce job →
     StartsInNurseries job → (a b : ℕ) (l : Label) → label_at state.world a ≡ Some l → label_at state.world b ≡ Some l → a ≡ b
 labels_apart {k} {job} {input} {t} {m} {leaving} {state} c settled names nurseries a b l e f =
     same_task (subst (OpenedBy state b) (sym same) y.1)
@@ -186,7 +188,7 @@ labels_apart {k} {job} {input} {t} {m} {leaving} {state} c settled names nurseri
         alone_is (label_at state.world) b a l (outer_of state.world.scopes (scope_of task)) alone inside e
 
 -- each label that a scope has was entered by a task
-pub labels_known : {k : Table} {job : Job} {input : List ℕ} {t m : ℕ} {leaving : Option ℕ} {state : RunState} →
+pub labels_known : {k : Tables} {job : Job} {input : List ℕ} {t m : ℕ} {leaving : Option ℕ} {state : RunState} →
     (c : Refines k job input t m leaving state) → (key : ℕ) (l : Label) →
     label_at state.world key ≡ Some l → IsEntered c.interleaving.at l
 labels_known c key l e = let x = c.owned key (c.labelled key l e) in (x.0, opened_entered c key x.0 l x.1 e)

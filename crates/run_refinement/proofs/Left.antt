@@ -1,6 +1,6 @@
 -- A task leaves: its end is recorded in its nursery, and what is left of it is kept. All others continue unchanged.
 use Rattle.std.proofs.lemmas.Bool.{eqb-true, eq-eqb}
-use Rattle.std.proofs.Common.{◌≡◌, ◌≢◌, ◌⊎◌, inl, inr, ◌==◌, Bool, true, false, ℕ, suc, ◌<◌, ◌≤◌, Option, Some, None, List, [], ◌∷◌, map, length, refl, ap, sym, ◌∙◌, subst, arith}
+use Rattle.std.proofs.Common.{◌≡◌, ◌≢◌, ◌⊎◌, inl, inr, ◌==◌, Bool, true, false, ℕ, suc, ◌<◌, ◌≤◌, Option, Some, None, List, [], ◌∷◌, map, length, refl, ap, sym, ◌∙◌, subst, arith, ◌++◌}
 use Rattle.std.specs.Prelude.{IsSome, slice_get, slice_set}
 use Rattle.std.specs.Option.{option_map}
 use Rattle.std.proofs.lemmas.List.Elements.{All-nil}
@@ -19,10 +19,10 @@ use Rattle.nursery_book.specs.declared.book.NurseryBook.{NurseryBook}
 use Rattle.task_machine.specs.States.{state_of}
 use Rattle.task_machine.specs.declared.entry.ScopeFrom.{ScopeFrom}
 use Rattle.task_machine.specs.Noted.{from_of}
-use Rattle.turn_semantics.specs.Midway.{Place}
+use Rattle.turn_semantics.specs.Midway.{Tables, Place}
 use Rattle.turn_semantics.specs.Placed.{PlacedStop}
 use Rattle.task_machine.specs.declared.stop.TaskState.{TaskState}
-use Rattle.task_machine.specs.declared.stop.TaskState.TheVariants.{ToBegin, Asked, Asleep, Waiting, GivingUp, Awaits, Over}
+use Rattle.task_machine.specs.declared.stop.TaskState.TheVariants.{ToBegin, Asked, Asleep, Waiting, GivingUp, Awaits, Over, Queued}
 use Rattle.task_machine.specs.declared.task.Home.{Home}
 use Rattle.task_machine.specs.declared.task.Own.{Own}
 use Rattle.task_machine.specs.declared.task.Task.{Task}
@@ -43,6 +43,10 @@ use Rattle.run_refinement.specs.Leaving.{Leaving}
 use Rattle.run_refinement.proofs.Recorded.{same_owner, AllLike, Recorded, stays, tells, recorded, set_long, set_at, set_else, all_like, carry}
 use Rattle.run_refinement.proofs.LabelsApart.{below_of}
 use Rattle.run_refinement.proofs.Found.{finds, gives, puts}
+use Rattle.run_refinement.proofs.SharesKept.{shares_kept}
+use Rattle.run_refinement.specs.Sharing.{waits_in, waits_by, is_queued}
+use Rattle.objects.specs.declared.ticket.Ticket.{Ticket}
+use Rattle.run_refinement.proofs.ActsKeep.{same_or}
 
 -- ---- what stays of a task
 
@@ -74,6 +78,7 @@ task_state_kept numbers old new (ToBegin at) rest.to_begin like h = h
 task_state_kept numbers old new (Asked kernel purpose) (rest.asking k p) like h = h
 task_state_kept numbers old new (Asleep paced ticks since) (rest.asleep p n u) like h = h
 task_state_kept numbers old new (Waiting event since) (rest.waiting_for name u) like h = h
+task_state_kept numbers old new (Queued object ask since body) (rest.queued name a u steps) like h = h
 task_state_kept numbers old new (GivingUp since) (rest.giving_up u) like h = h
 task_state_kept numbers old new (Awaits id since) (rest.awaiting children u exc) like h =
     (h.0, h.1, carry old new id (λ n. n.body ≡ Some exc) (λ n. n.body ≡ Some exc) like (λ n m l e. l.body ∙ e) h.2)
@@ -94,6 +99,7 @@ stands_kept task w book f numbers stopped ps like h =
           (h.numbered id i);
       placed = h.placed;
       new = h.new;
+      stop = h.stop;
       own = h.own;
       event = h.event;
     }
@@ -102,6 +108,7 @@ goes_kept : (task : Task) (w : World) (book : NurseryBook) → AllLike w.book bo
 goes_kept task w book like h =
     record {
       in_range = h.in_range;
+      lent = h.lent;
       starts = h.starts;
       home = h.home;
       scope = h.scope;
@@ -126,9 +133,22 @@ over_task_state numbers book (ToBegin at) u e h = absurd h
 over_task_state numbers book (Asked kernel purpose) u e h = absurd h
 over_task_state numbers book (Asleep paced ticks since) u e h = absurd h
 over_task_state numbers book (Waiting event since) u e h = absurd h
+over_task_state numbers book (Queued object ask since body) u e h = absurd h
 over_task_state numbers book (GivingUp since) u e h = absurd h
 over_task_state numbers book (Awaits id since) u e h = absurd h
 over_task_state numbers book Over u e h = refl
+
+-- and is in no queue
+no_queue : (numbers : Numbers) (book : NurseryBook) (task_state : TaskState) (u : ℕ) (e : Option Exc) (since : ℕ) →
+    IsTaskState numbers book task_state (rest.at_end u e) → is_queued task_state since ≡ false
+no_queue numbers book (Queued object ask v body) u e since h = absurd h
+no_queue numbers book (ToBegin at) u e since h = refl
+no_queue numbers book (Asked kernel purpose) u e since h = refl
+no_queue numbers book (Asleep paced ticks v) u e since h = refl
+no_queue numbers book (Waiting event v) u e since h = refl
+no_queue numbers book (GivingUp v) u e since h = refl
+no_queue numbers book (Awaits id v) u e since h = refl
+no_queue numbers book Over u e since h = refl
 
 none_opened : (labels : Labels) (book : NurseryBook) (own : List Own) → Opened labels book [] own None → own ≡ []
 none_opened labels book [] h = refl
@@ -146,6 +166,7 @@ started_kept : (clock : Clock) (old new : ℕ → ℕ) (at : ℕ → Started) (c
     ((p : ℕ) → new p ≡ old p) → AreStarted clock old at child es → AreStarted clock new at child es
 started_kept clock old new at child [] same h = tt
 started_kept clock old new at child (rest.noted t e ∷ es) same h = started_kept clock old new at child es same h
+started_kept clock old new at child (rest.acts shared t done ∷ es) same h = started_kept clock old new at child es same h
 started_kept clock old new at child (rest.signs l t ∷ es) same h = started_kept clock old new at child es same h
 started_kept clock old new at child (rest.enters l t d ∷ es) same h = started_kept clock old new at child es same h
 started_kept clock old new at child (rest.starts i l t ∷ es) same h = (
@@ -167,7 +188,7 @@ home_parts (Some y) id index e =
 -- ---- the tasks without it
 
 -- a task that has ended leaves, and its end is recorded in its home: then no task's end is left to record
-pub state_left : (k : Table) (job : Job) (input : List ℕ) (t m s : ℕ) (old new : RunState) (task : Task) (exc : Option Exc) →
+pub state_left : (k : Tables) (job : Job) (input : List ℕ) (t m s : ℕ) (old new : RunState) (task : Task) (exc : Option Exc) →
     (c : Refines k job input t m (Some s) old) →
     Leaving t s old new (c.interleaving.at s) task exc → Refines k job input t m None new
 state_left k job input t m s old new task exc c l =
@@ -177,6 +198,7 @@ state_left k job input t m s old new task exc c l =
       counted = c.counted ∙ sym l.turns;
       clock = clock ∙ c.clock;
       tick = ap (λ (w : World). w.tick) l.world ∙ c.tick;
+      in_range = c.in_range;
       small = c.small;
       some = c.some;
       begun = l.start 0 ∙ c.begun;
@@ -197,6 +219,11 @@ state_left k job input t m s old new task exc c l =
           (started_kept old.world.clock old.start new.start c.interleaving.at (c.interleaving.at p).child (c.interleaving.at p).made l.start
           (c.started p lt));
       children = λ p lt. l.children p ∙ c.children p lt;
+      through = subst (λ (v : ℕ). (v ≡ t) ⊎ (v ≡ suc t)) (sym l.objects.through) c.through;
+      path_of_root = l.path 0 ∙ c.path_of_root;
+      path_of_child = λ p child lt i. l.path child ∙ (c.path_of_child p child lt (subst (IsAmong child) (l.children p) i)
+          ∙ ap (λ (ps : List ℕ). ps ++ child ∷ []) (sym (l.path p)));
+      shares = shares_kept old new c.interleaving.tasks c.interleaving.at m same_waits (ap (λ (w : World). w.tick) l.world) l.objects c.shares;
     }
   where
     q : Started
@@ -234,6 +261,18 @@ state_left k job input t m s old new task exc c l =
         (subst (λ (w : Option ℕ). Opened (label_at old.world) old.world.book [] task.own.items w) waits
         (subst (λ (bs : List Block). Opened (label_at old.world) old.world.book bs task.own.items (waits_of task.task_state)) blocks
         it.goes.opened))
+
+    -- and is in no queue
+    same_waits : (ticket : Ticket) → waits_in new.task ticket ≡ waits_in old.task ticket
+    same_waits ticket = by_row (same_or ticket.row s)
+      where
+        by_row : (ticket.row ≡ s) ⊎ (ticket.row ≢ s) → waits_in new.task ticket ≡ waits_in old.task ticket
+        by_row (inl e) =
+            ap (λ (o : Option Task). waits_by o ticket.since) (ap new.task e ∙ l.left)
+            ∙ (sym (no_queue (c.numbers s) old.world.book task.task_state t exc ticket.since
+            (subst (λ (x : rest.Stopped). IsTaskState (c.numbers s) old.world.book task.task_state x) l.ended it.task_state))
+            ∙ sym (ap (λ (o : Option Task). waits_by o ticket.since) (ap old.task e ∙ l.was)))
+        by_row (inr differs) = ap (λ (o : Option Task). waits_by o ticket.since) (l.others ticket.row differs).0
 
     no_nursery : (id : ℕ) (x : Task) → old.task s ≡ Some x → HasNurseryOf id (blocks_of x.frames.items) (waits_of x.task_state) → ⊥
     no_nursery id x e h =
@@ -495,6 +534,7 @@ state_left k job input t m s old new task exc c l =
         last_after (Asked kernel purpose) is h = tt
         last_after (Asleep paced ticks since) is h = tt
         last_after (Waiting event since) is h = tt
+        last_after (Queued object ask since body) is h = tt
         last_after (GivingUp since) is h = tt
         last_after Over is h = tt
 

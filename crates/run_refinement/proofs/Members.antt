@@ -5,10 +5,9 @@ use Rattle.std.specs.Option.{option_map}
 use Rattle.nursery_book.specs.Nursery.{End, Nursery}
 use Rattle.nursery_book.specs.Book.{nursery_at, HasNursery}
 use Rattle.job_tree.specs.Tree.{Tree as Job}
-use Rattle.job_meaning.specs.Log.{Table}
 use Rattle.job_meaning.specs.Moments.{a_round_after}
 use Rattle.job_meaning.specs.Rest as rest
-use Rattle.turn_semantics.specs.Midway.{Begun}
+use Rattle.turn_semantics.specs.Midway.{Tables, Begun}
 use Rattle.task_machine.specs.declared.stop.Stop.{Stop}
 use Rattle.task_machine.specs.declared.task.Home.{Home}
 use Rattle.task_machine.specs.declared.task.Task.{Task}
@@ -26,7 +25,7 @@ use Rattle.task_machine.proofs.Stacked.{one_of}
 use Rattle.run_refinement.proofs.Found.{below_length, got_first, finds, gives, puts}
 use Rattle.run_refinement.proofs.LabelsApart.{below_of}
 
-module _ (k : Table) (job : Job) (input : List ℕ) (t m s : ℕ) (old new : RunState) (before after : Task) (stop : Stop)
+module _ (k : Tables) (job : Job) (input : List ℕ) (t m s : ℕ) (old new : RunState) (before after : Task) (stop : Stop)
     (c : Refines k job input t m None old)
     (T : Turning k job input t m s old new c.numbers before after stop c.interleaving) where
   mover : Follows old c.interleaving.cancelled_from input t c.interleaving.at c.numbers None s before

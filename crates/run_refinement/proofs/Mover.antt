@@ -18,13 +18,13 @@ use Rattle.job_meaning.specs.declared.clock.Clock.{Clock}
 use Rattle.job_meaning.specs.Walk.{Here}
 use Rattle.job_meaning.specs.Shown.{Shown}
 use Rattle.job_meaning.specs.Rest as rest
-use Rattle.job_meaning.specs.Rest.{Event, Stopped, to_begin, asking, asleep, waiting_for, giving_up, awaiting, at_end}
+use Rattle.job_meaning.specs.Rest.{Event, Stopped, to_begin, asking, asleep, waiting_for, giving_up, awaiting, at_end, queued}
 use Rattle.task_machine.specs.States.{state_of}
 use Rattle.task_machine.specs.Noted.{entry_of, IsSlice, shown_made, AreNoted}
-use Rattle.turn_semantics.specs.Names.{NewIn}
+use Rattle.turn_semantics.specs.Names.{NewIn, NewStop}
 use Rattle.turn_semantics.specs.Placed.{PlacedAfter, outer_places}
 use Rattle.turn_semantics.specs.Turned.{StopsAt}
-use Rattle.turn_semantics.specs.Midway.{Place, own_after}
+use Rattle.turn_semantics.specs.Midway.{Tables, Place, own_after}
 use Rattle.turn_semantics.specs.Steps.{cancelled_from_after}
 use Rattle.task_machine.specs.declared.stop.Stop.{Stop}
 use Rattle.task_machine.specs.declared.task.Home.{Home}
@@ -32,7 +32,7 @@ use Rattle.task_machine.specs.declared.task.Own.{Own}
 use Rattle.task_machine.specs.declared.task.Task.{Task}
 use Rattle.task_machine.specs.declared.world.World.{World}
 use Rattle.task_machine.specs.declared.stop.TaskState.{TaskState}
-use Rattle.task_machine.specs.declared.stop.TaskState.TheVariants.{ToBegin, Asked, Asleep, Waiting, GivingUp, Awaits, Over}
+use Rattle.task_machine.specs.declared.stop.TaskState.TheVariants.{ToBegin, Asked, Asleep, Waiting, GivingUp, Awaits, Over, Queued}
 use Rattle.task_machine.specs.Acts.{scoping_of}
 use Rattle.task_machine.specs.Fitting.{blocks_of, waits_of, AreOthers}
 use Rattle.task_machine.specs.Stacked.{AreAt, IsKey, AwaitsEvent}
@@ -73,6 +73,7 @@ since_now t clock there cancelled woken own made numbers book (Asked kernel purp
 since_now t clock there cancelled woken own made numbers book (Asked kernel purpose) _ cancelled_from ps same count h stops after = absurd h
 since_now t clock there cancelled woken own made numbers book (Asleep paced ticks since) stopped cancelled_from ps same count h stops after = tt
 since_now t clock there cancelled woken own made numbers book (Waiting event since) stopped cancelled_from ps same count h stops after = tt
+since_now t clock there cancelled woken own made numbers book (Queued object ask since body) stopped cancelled_from ps same count h stops after = tt
 since_now t clock there cancelled woken own made numbers book (GivingUp since) stopped cancelled_from ps same count h stops after = tt
 since_now t clock there cancelled woken own made numbers book (Awaits id since) stopped cancelled_from ps same count h stops after = tt
 since_now t clock there cancelled woken own made numbers book Over stopped cancelled_from ps same count h stops after = tt
@@ -88,10 +89,11 @@ ended_now at numbers q book (ToBegin v) ends = tt
 ended_now at numbers q book (Asked kernel purpose) ends = tt
 ended_now at numbers q book (Asleep paced ticks since) ends = tt
 ended_now at numbers q book (Waiting event since) ends = tt
+ended_now at numbers q book (Queued object ask since body) ends = tt
 ended_now at numbers q book (GivingUp since) ends = tt
 ended_now at numbers q book Over ends = tt
 
-module _ (k : Table) (job : Job) (input : List ℕ) (t m s : ℕ) (old new : RunState) (before after : Task) (stop : Stop)
+module _ (k : Tables) (job : Job) (input : List ℕ) (t m s : ℕ) (old new : RunState) (before after : Task) (stop : Stop)
     (c : Refines k job input t m None old)
     (T : Turning k job input t m s old new c.numbers before after stop c.interleaving) where
   mover : Follows old c.interleaving.cancelled_from input t c.interleaving.at c.numbers None s before
@@ -120,6 +122,7 @@ module _ (k : Table) (job : Job) (input : List ℕ) (t m s : ℕ) (old new : Run
   lives_on (asking kernel purpose) h returned stays = refl
   lives_on (asleep paced n since) h returned stays = refl
   lives_on (waiting_for event since) h returned stays = refl
+  lives_on (queued object ask since body) h returned stays = refl
   lives_on (giving_up since) h returned stays = refl
   lives_on (awaiting children ended exc) h returned stays = refl
   lives_on (at_end u e) h returned stays =
@@ -183,6 +186,7 @@ module _ (k : Table) (job : Job) (input : List ℕ) (t m s : ℕ) (old new : Run
         new =
             subst (λ (gs : List rest.Frame). NewIn gs (outer_places (Some T.stopped) T.move.places)) (sym T.took.frames_after)
             (subst (λ (o : Option Stopped). NewIn T.move.frames (outer_places o T.move.places)) T.stops T.names.frames);
+        stop = subst (λ (o : Option Stopped). NewStop o T.move.places) T.stops T.names.stop;
         own = T.names.own;
         event =
             subst (λ (o : Option Stopped).

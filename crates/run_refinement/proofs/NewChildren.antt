@@ -20,7 +20,7 @@ use Rattle.job_meaning.specs.Rest.{Stopped, to_begin}
 use Rattle.task_machine.specs.States.{state_of}
 use Rattle.task_machine.specs.declared.entry.ScopeFrom.{ScopeFrom}
 use Rattle.task_machine.specs.Noted.{entry_of, IsSlice}
-use Rattle.turn_semantics.specs.Midway.{Begun}
+use Rattle.turn_semantics.specs.Midway.{Tables, Begun}
 use Rattle.turn_semantics.specs.Names.{names_at, OwnNames, NewIn}
 use Rattle.turn_semantics.specs.Names as names
 use Rattle.turn_semantics.specs.Placed.{PlacedAfter, HasChildAfter}
@@ -30,7 +30,7 @@ use Rattle.task_machine.specs.declared.task.Own.{Own}
 use Rattle.task_machine.specs.declared.task.Task.{Task}
 use Rattle.task_machine.specs.declared.world.World.{World}
 use Rattle.task_machine.specs.Acts.{Scoping, scoping_of}
-use Rattle.task_machine.specs.Fitting.{Block, blocks_of, waits_of, AreInRangeFrames, StartsFit, Opened}
+use Rattle.task_machine.specs.Fitting.{Block, blocks_of, waits_of, AreInRangeFrames, StartsFit, Opened, AreOf}
 use Rattle.task_machine.specs.Frames.{frames_of}
 use Rattle.task_machine.specs.Labels.{Labels}
 use Rattle.task_machine.specs.Left.{keys_of, OwnFirst}
@@ -53,6 +53,8 @@ use Rattle.task_machine.proofs.Advances.{blocks_onto, own_keys, blocks_by}
 use Rattle.task_machine.proofs.StateLemmas.{KeyedAfter, keyed_by, task_state_waits}
 use Rattle.task_machine.proofs.Stacked.{one_of}
 use Rattle.run_refinement.proofs.Found.{below_length, same_got, finds}
+use Rattle.run_refinement.proofs.Inputs.{none_received}
+use Rattle.input_lines.specs.Part.{buffer_of}
 
 -- ---- a task that did nothing yet
 
@@ -82,7 +84,7 @@ tracks_none known f s e g =
 
 -- ---- one child
 
-module _ (k : Table) (job : Job) (input : List ℕ) (t m s : ℕ) (old new : RunState) (before after : Task) (stop : Stop)
+module _ (k : Tables) (job : Job) (input : List ℕ) (t m s : ℕ) (old new : RunState) (before after : Task) (stop : Stop)
     (c : Refines k job input t m None old)
     (T : Turning k job input t m s old new c.numbers before after stop c.interleaving) where
   abbrev now : Numbers
@@ -206,6 +208,7 @@ module _ (k : Table) (job : Job) (input : List ℕ) (t m s : ℕ) (old new : Run
           numbered = λ id has. absurd (subst (HasBlock id) no_blocks has);
           placed = subst (λ (gs : List rest.Frame). PlacedAfter (Some to_begin) gs b.places) (sym frames_are) (body_starts, tt);
           new = subst (λ (gs : List rest.Frame). NewIn gs b.places) (sym frames_are) (new_names.0, tt);
+          stop = tt;
           own = new_names.1;
           event = tt;
         }
@@ -214,6 +217,7 @@ module _ (k : Table) (job : Job) (input : List ℕ) (t m s : ℕ) (old new : Run
     goes_there =
         record {
           in_range = subst AreInRangeFrames (sym frames_are) (h.in_range, tt);
+          lent = subst (AreOf (buffer_of task.part)) (sym (none_received (λ id. []) task.frames.items b.body frames_are)) tt;
           starts = subst StartsFit (sym frames_are) (body_starts, tt);
           home = subst (λ (o : Option ℕ). ForSome o (IsOpen new.world.scopes)) (sym home_is) opens;
           scope = subst (λ (o : Option ℕ). ForSome o (IsOpen new.world.scopes)) (sym scope_is) opens;

@@ -13,9 +13,9 @@ use Rattle.job_meaning.specs.Rest as rest
 use Rattle.turn_semantics.specs.Midway.{Place}
 use Rattle.turn_semantics.specs.Placed.{outer_places, HasChild, WaitsFor, HasChildAfter}
 use Rattle.task_machine.specs.declared.frame.Frame.{Frame}
-use Rattle.task_machine.specs.declared.frame.Frame.TheVariants.{Steps, Scope, Event, Nursery, Repeat, Try, Handler, Cleanup}
+use Rattle.task_machine.specs.declared.frame.Frame.TheVariants.{Steps, Scope, Event, Nursery, Repeat, Try, Handler, Cleanup, Token, Received}
 use Rattle.task_machine.specs.declared.stop.TaskState.{TaskState}
-use Rattle.task_machine.specs.declared.stop.TaskState.TheVariants.{ToBegin, Asked, Asleep, Waiting, GivingUp, Awaits, Over}
+use Rattle.task_machine.specs.declared.stop.TaskState.TheVariants.{ToBegin, Asked, Asleep, Waiting, GivingUp, Awaits, Over, Queued}
 use Rattle.task_machine.specs.declared.task.Own.{Own}
 use Rattle.task_machine.specs.Fitting.{Block, a_nursery, blocks_of, Opened, waits_of}
 use Rattle.task_machine.specs.Frames.{frame_of, frames_onto, frames_of}
@@ -134,6 +134,7 @@ is_stop numbers book (ToBegin at) rest.to_begin h = ((λ ps. refl), (λ i home p
 is_stop numbers book (Asked kernel purpose) (rest.asking k p) h = ((λ ps. refl), (λ i home ps w. w))
 is_stop numbers book (Asleep paced ticks since) (rest.asleep p n u) h = ((λ ps. refl), (λ i home ps w. w))
 is_stop numbers book (Waiting event since) (rest.waiting_for name u) h = ((λ ps. refl), (λ i home ps w. w))
+is_stop numbers book (Queued object ask since body) (rest.queued name a u steps) h = ((λ ps. refl), (λ i home ps w. w))
 is_stop numbers book (GivingUp since) (rest.giving_up u) h = ((λ ps. refl), (λ i home ps w. w))
 is_stop numbers book (Awaits nursery since) (rest.awaiting children u exc) h = (children, u, exc, refl, h.0)
 is_stop numbers book Over (rest.at_end u e) h = ((λ ps. refl), (λ i home ps w. w))
@@ -330,6 +331,12 @@ carry labels events book f numbers [] (o ∷ own) (Some id) stopped keys outer s
 carry labels events book f numbers (Steps steps ∷ fs) own waits stopped keys outer st ps opened stop at e =
     outer_plain (λ i home qs c. c) (λ i home qs c. c) (carry labels events book f numbers fs own waits stopped keys
     (frame_of numbers (Steps steps) ∷ outer) st ps opened stop at e)
+carry labels events book f numbers (Token limiter ∷ fs) own waits stopped keys outer st ps opened stop at e =
+    outer_plain (λ i home qs c. c) (λ i home qs c. c) (carry labels events book f numbers fs own waits stopped keys
+    (frame_of numbers (Token limiter) ∷ outer) st ps opened stop at e)
+carry labels events book f numbers (Received received ∷ fs) own waits stopped keys outer st ps opened stop at e =
+    outer_plain (λ i home qs c. c) (λ i home qs c. c) (carry labels events book f numbers fs own waits stopped keys
+    (frame_of numbers (Received received) ∷ outer) st ps opened stop at e)
 carry labels events book f numbers (Repeat pass left cuts body ∷ fs) own waits stopped keys outer st ps opened stop at e =
     outer_plain (λ i home qs c. c) (λ i home qs c. c) (carry labels events book f numbers fs own waits stopped keys
     (frame_of numbers (Repeat pass left cuts body) ∷ outer) st ps opened stop at e)
@@ -410,6 +417,12 @@ pub housed_onto : (labels : Labels) (events : Events) (book : NurseryBook) (f : 
 housed_onto labels events book f numbers [] own waits stopped keys outer st ps opened stop at e id i has among = absurd has
 housed_onto labels events book f numbers (Steps steps ∷ fs) own waits stopped keys outer st ps opened stop at e id i has among =
     housed_onto labels events book f numbers fs own waits stopped keys (frame_of numbers (Steps steps) ∷ outer) st ps opened stop at e id i has
+    among
+housed_onto labels events book f numbers (Token limiter ∷ fs) own waits stopped keys outer st ps opened stop at e id i has among =
+    housed_onto labels events book f numbers fs own waits stopped keys (frame_of numbers (Token limiter) ∷ outer) st ps opened stop at e id i has
+    among
+housed_onto labels events book f numbers (Received received ∷ fs) own waits stopped keys outer st ps opened stop at e id i has among =
+    housed_onto labels events book f numbers fs own waits stopped keys (frame_of numbers (Received received) ∷ outer) st ps opened stop at e id i has
     among
 housed_onto labels events book f numbers (Repeat pass left cuts body ∷ fs) own waits stopped keys outer st ps opened stop at e id i has among =
     housed_onto labels events book f numbers fs own waits stopped keys (frame_of numbers (Repeat pass left cuts body) ∷ outer) st ps opened stop at e id

@@ -7,7 +7,6 @@ use Rattle.cancel_scopes.specs.Tree.{outer_of, IsOpen}
 use Rattle.nursery_book.specs.Nursery.{End, Nursery as Members, is_settled}
 use Rattle.nursery_book.specs.Book.{nursery_at, HasNursery}
 use Rattle.job_tree.specs.Tree.{Tree as Job}
-use Rattle.job_meaning.specs.Log.{Table}
 use Rattle.task_machine.specs.declared.stop.Stop.{Stop}
 use Rattle.task_machine.specs.declared.task.Home.{Home}
 use Rattle.task_machine.specs.declared.task.Task.{Task}
@@ -30,6 +29,7 @@ use Rattle.task_machine.proofs.Cancels.{open_around}
 use Rattle.task_machine.proofs.Stacked.{one_of}
 use Rattle.run_refinement.proofs.Found.{got_first, finds}
 use Rattle.run_refinement.proofs.Parts.{numbers_mover, numbers_other}
+use Rattle.turn_semantics.specs.Midway.{Tables}
 
 -- ---- a nursery in which a child runs
 
@@ -48,7 +48,7 @@ unsettled n i e s = by_body (is_some n.body) s
     by_body false f = let g : false ≡ true = f in cc
 
 -- a home among the nurseries of the mover is one of its blocks
-pub home_block : {k : Table} {job : Job} {input : List ℕ} {t m s : ℕ} {old new : RunState} {before after : Task} {stop : Stop} →
+pub home_block : {k : Tables} {job : Job} {input : List ℕ} {t m s : ℕ} {old new : RunState} {before after : Task} {stop : Stop} →
     (c : Refines k job input t m None old) →
     Turning k job input t m s old new c.numbers before after stop c.interleaving → (home : Home) →
     HasNurseryOf home.nursery (blocks_of before.frames.items) (waits_of before.task_state) →
@@ -61,7 +61,7 @@ home_block {old = old} c T home (inr waits) runs =
     absurd (unsettled n.0 home.index n.2.1 (subst (λ (x : Members). is_settled x ≡ true) (one_of o.0 n.0 (sym o.1 ∙ n.1)) o.2))
 
 -- that nursery after the turn
-pub grown : {k : Table} {job : Job} {input : List ℕ} {t m s : ℕ} {old new : RunState} {before after : Task} {stop : Stop} →
+pub grown : {k : Tables} {job : Job} {input : List ℕ} {t m s : ℕ} {old new : RunState} {before after : Task} {stop : Stop} →
     (c : Refines k job input t m None old) →
     (T : Turning k job input t m s old new c.numbers before after stop c.interleaving) → (id : ℕ) → HasBlock id (blocks_of before.frames.items) →
     (n : Members) → nursery_at old.world.book id ≡ Some n → (x : Members) × (nursery_at new.world.book id ≡ Some x)
@@ -71,7 +71,7 @@ grown {old = old} {new = new} c T id has n e = finds new.world.book id _ (T.took
 -- ---- the home of another task
 
 -- one of the mover's nurseries is one still
-pub mover_owned : {k : Table} {job : Job} {input : List ℕ} {t m s : ℕ} {old new : RunState} {before after : Task} {stop : Stop} →
+pub mover_owned : {k : Tables} {job : Job} {input : List ℕ} {t m s : ℕ} {old new : RunState} {before after : Task} {stop : Stop} →
     (c : Refines k job input t m None old) →
     (T : Turning k job input t m s old new c.numbers before after stop c.interleaving) → (u : ℕ) (home : Home) →
     (h : LivesIn old c.interleaving.at c.numbers u home) → h.parent ≡ s →
@@ -86,7 +86,7 @@ mover_owned {old = old} {before = before} c T u home h e = (block, T.took.nurser
         h.owned) h.runs
 
 -- a task that lives in a nursery of the mover does so after its turn
-pub mover_home : {k : Table} {job : Job} {input : List ℕ} {t m s : ℕ} {old new : RunState} {before after : Task} {stop : Stop} →
+pub mover_home : {k : Tables} {job : Job} {input : List ℕ} {t m s : ℕ} {old new : RunState} {before after : Task} {stop : Stop} →
     (c : Refines k job input t m None old) →
     (T : Turning k job input t m s old new c.numbers before after stop c.interleaving) → (u : ℕ) (home : Home) →
     (h : LivesIn old c.interleaving.at c.numbers u home) → h.parent ≡ s →
@@ -132,7 +132,7 @@ mover_home {k} {job} {input} {t} {m} {s} {old} {new} {before} {after} c T u home
     below = subst (λ (p : ℕ). h.number < (c.interleaving.at p).count) e h.below
 
 -- one of another task's
-else_home : {k : Table} {job : Job} {input : List ℕ} {t m s : ℕ} {old new : RunState} {before after : Task} {stop : Stop} →
+else_home : {k : Tables} {job : Job} {input : List ℕ} {t m s : ℕ} {old new : RunState} {before after : Task} {stop : Stop} →
     (c : Refines k job input t m None old) →
     (T : Turning k job input t m s old new c.numbers before after stop c.interleaving) → (u : ℕ) (home : Home) → u < m →
     (h : LivesIn old c.interleaving.at c.numbers u home) → h.parent ≢ s →
@@ -158,7 +158,7 @@ else_home {k} {job} {input} {t} {m} {s} {old} {new} {before} {after} c T u home 
     low = let e : h.parent < u = h.earlier in omega arith
 
 -- a task that lives in another's nursery does so after any turn
-pub lives_in : {k : Table} {job : Job} {input : List ℕ} {t m s : ℕ} {old new : RunState} {before after : Task} {stop : Stop} →
+pub lives_in : {k : Tables} {job : Job} {input : List ℕ} {t m s : ℕ} {old new : RunState} {before after : Task} {stop : Stop} →
     (c : Refines k job input t m None old) →
     (T : Turning k job input t m s old new c.numbers before after stop c.interleaving) → (u : ℕ) (home : Home) → u < m →
     LivesIn old c.interleaving.at c.numbers u home →
@@ -170,7 +170,7 @@ lives_in {k} {job} {input} {t} {m} {s} {old} {new} {before} {after} c T u home s
     by_parent (inr differs) = else_home c T u home small h differs
 
 -- a task has the home that it had after any turn, or none if it had none
-pub home_stays : {k : Table} {job : Job} {input : List ℕ} {t m s : ℕ} {old new : RunState} {before after : Task} {stop : Stop} →
+pub home_stays : {k : Tables} {job : Job} {input : List ℕ} {t m s : ℕ} {old new : RunState} {before after : Task} {stop : Stop} →
     (c : Refines k job input t m None old) →
     (T : Turning k job input t m s old new c.numbers before after stop c.interleaving) → (u : ℕ) (home : Option Home) → u < m →
     HasHome old c.interleaving.at c.numbers u home →
@@ -181,7 +181,7 @@ home_stays c T u (Some home) small h = lives_in c T u home small h
 -- ---- the scope of a home
 
 -- that of another task's nursery is open, and none of the mover's
-pub home_else : {k : Table} {job : Job} {input : List ℕ} {t m s : ℕ} {old new : RunState} {before after : Task} {stop : Stop} →
+pub home_else : {k : Tables} {job : Job} {input : List ℕ} {t m s : ℕ} {old new : RunState} {before after : Task} {stop : Stop} →
     (c : Refines k job input t m None old) →
     Turning k job input t m s old new c.numbers before after stop c.interleaving → (u : ℕ) (home : Home) →
     (h : LivesIn old c.interleaving.at c.numbers u home) → h.parent ≢ s →
@@ -198,7 +198,7 @@ home_else {old = old} {before = before} c T u home h differs =
     )
 
 -- that of a nursery of the mover's is open after the turn
-mover_open : {k : Table} {job : Job} {input : List ℕ} {t m s : ℕ} {old new : RunState} {before after : Task} {stop : Stop} →
+mover_open : {k : Tables} {job : Job} {input : List ℕ} {t m s : ℕ} {old new : RunState} {before after : Task} {stop : Stop} →
     (c : Refines k job input t m None old) →
     (T : Turning k job input t m s old new c.numbers before after stop c.interleaving) → (u : ℕ) (home : Home) →
     (h : LivesIn old c.interleaving.at c.numbers u home) → h.parent ≡ s →
@@ -216,7 +216,7 @@ mover_open {new = new} {after = after} c T u home h e =
     (own_around (outer_of new.world.scopes (scope_of after)) after.own.items _ x.scope x.index T.code.fits_after.runs.first x.got))
 
 -- so the scope of each home stays open
-pub home_open : {k : Table} {job : Job} {input : List ℕ} {t m s : ℕ} {old new : RunState} {before after : Task} {stop : Stop} →
+pub home_open : {k : Tables} {job : Job} {input : List ℕ} {t m s : ℕ} {old new : RunState} {before after : Task} {stop : Stop} →
     (c : Refines k job input t m None old) →
     (T : Turning k job input t m s old new c.numbers before after stop c.interleaving) → ActsOf c T → (u : ℕ) (home : Option Home) →
     HasHome old c.interleaving.at c.numbers u home →

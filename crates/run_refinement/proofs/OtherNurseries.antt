@@ -8,7 +8,7 @@ use Rattle.nursery_book.specs.Book.{nursery_at, HasNursery}
 use Rattle.nursery_book.specs.declared.book.NurseryBook.{NurseryBook}
 use Rattle.job_meaning.specs.Rest as rest
 use Rattle.task_machine.specs.declared.stop.TaskState.{TaskState}
-use Rattle.task_machine.specs.declared.stop.TaskState.TheVariants.{ToBegin, Asked, Asleep, Waiting, GivingUp, Awaits, Over}
+use Rattle.task_machine.specs.declared.stop.TaskState.TheVariants.{ToBegin, Asked, Asleep, Waiting, GivingUp, Awaits, Over, Queued}
 use Rattle.task_machine.specs.declared.task.Own.{Own}
 use Rattle.task_machine.specs.Fitting.{Block, a_scope, a_nursery, AreOthers, IsMine, IsAwaited, Opened, waits_of}
 use Rattle.task_machine.specs.Labels.{Labels}
@@ -143,6 +143,7 @@ task_state_stays numbers book new (ToBegin at) rest.to_begin stay h = h
 task_state_stays numbers book new (Asked kernel purpose) (rest.asking k p) stay h = h
 task_state_stays numbers book new (Asleep paced ticks since) (rest.asleep p n u) stay h = h
 task_state_stays numbers book new (Waiting event since) (rest.waiting_for name u) stay h = h
+task_state_stays numbers book new (Queued object ask since body) (rest.queued name a u steps) stay h = h
 task_state_stays numbers book new (GivingUp since) (rest.giving_up u) stay h = h
 task_state_stays numbers book new (Awaits nursery since) (rest.awaiting children u exc) stay h =
     (h.0, h.1, same_nursery (λ n. n.body ≡ Some exc) book new nursery (stay nursery refl) h.2)

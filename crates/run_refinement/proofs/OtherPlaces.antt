@@ -11,7 +11,7 @@ use Rattle.nursery_book.specs.Book.{nursery_at}
 use Rattle.job_tree.specs.Tree.{Tree as Job}
 use Rattle.job_meaning.specs.Log.{Table}
 use Rattle.job_meaning.specs.Rest as rest
-use Rattle.turn_semantics.specs.Midway.{Place, Begun}
+use Rattle.turn_semantics.specs.Midway.{Tables, Place, Begun}
 use Rattle.turn_semantics.specs.Placed.{outer_places, HasChild, HasChildAfter}
 use Rattle.turn_semantics.specs.Steps.{cancelled_from_after}
 use Rattle.turn_semantics.specs.Turned.{Starts}
@@ -57,6 +57,7 @@ begins_late id index number n es [] bs s b = absurd b
 begins_late id index number n es (t ∷ ts) [] s b = absurd b
 begins_late id index number n [] (t ∷ ts) (b ∷ bs) s h = absurd s
 begins_late id index number n (rest.noted u e ∷ es) (t ∷ ts) (b ∷ bs) s h = begins_late id index number n es (t ∷ ts) (b ∷ bs) s h
+begins_late id index number n (rest.acts shared u done ∷ es) (t ∷ ts) (b ∷ bs) s h = begins_late id index number n es (t ∷ ts) (b ∷ bs) s h
 begins_late id index number n (rest.signs l u ∷ es) (t ∷ ts) (b ∷ bs) s h = begins_late id index number n es (t ∷ ts) (b ∷ bs) s h
 begins_late id index number n (rest.enters l u d ∷ es) (t ∷ ts) (b ∷ bs) s h = begins_late id index number n es (t ∷ ts) (b ∷ bs) s h
 begins_late id index number n (rest.starts i l u ∷ es) (t ∷ ts) (b ∷ bs) s (inl h) = let e : n ≡ number = sym s.1 ∙ h.1 in omega arith
@@ -66,7 +67,7 @@ begins_late id index number n (rest.starts i l u ∷ es) (t ∷ ts) (b ∷ bs) s
 -- ---- a child's home is the nursery that has its number
 
 -- a task that has not ended and is a member of a nursery at a place has its home there
-pub member_home : {k : Table} {job : Job} {input : List ℕ} {t m : ℕ} {old : RunState} → (c : Refines k job input t m None old) →
+pub member_home : {k : Tables} {job : Job} {input : List ℕ} {t m : ℕ} {old : RunState} → (c : Refines k job input t m None old) →
     (u : ℕ) (task : Task) → old.task u ≡ Some task → (last id index : ℕ) (e : Option End) →
     IsMember old c.interleaving.at last id index u e → home_of task ≡ Some (id, index)
 member_home c u task is last id index None h = absurd h
@@ -77,7 +78,7 @@ member_home c u task is last id index (Some (Some exc)) h =
     absurd (let clash : true ≡ false = sym alive ∙ ended in cc)
 
 -- the nursery of the mover that has the number of a child is the home of that child
-pub home_is : {k : Table} {job : Job} {input : List ℕ} {t m s : ℕ} {old new : RunState} {before after : Task} {stop : Stop} →
+pub home_is : {k : Tables} {job : Job} {input : List ℕ} {t m s : ℕ} {old new : RunState} {before after : Task} {stop : Stop} →
     (c : Refines k job input t m None old) →
     (T : Turning k job input t m s old new c.numbers before after stop c.interleaving) → (u : ℕ) (task : Task) → old.task u ≡ Some task →
     (home : Home) → task.home ≡ Some home →
@@ -113,7 +114,7 @@ home_is {k} {job} {input} {t} {m} {s} {old} {new} {before} {after} c T u task is
 -- ---- enclosing scopes and nurseries
 
 -- the places of a child that opened no scope, of the task that moved
-mover_places : {k : Table} {job : Job} {input : List ℕ} {t m s : ℕ} {old new : RunState} {before after : Task} {stop : Stop} →
+mover_places : {k : Tables} {job : Job} {input : List ℕ} {t m s : ℕ} {old new : RunState} {before after : Task} {stop : Stop} →
     (c : Refines k job input t m None old) →
     (T : Turning k job input t m s old new c.numbers before after stop c.interleaving) → (u : ℕ) (task : Task) → old.task u ≡ Some task →
     (home : Home) → task.home ≡ Some home →
@@ -204,7 +205,7 @@ nowhere labels more events others f g [] a = a
 nowhere labels more events others f g (p ∷ ps) a = absurd a
 
 -- after a turn the places of every other task are those of its stack, by the new moments of cancellation
-pub places_other : {k : Table} {job : Job} {input : List ℕ} {t m s : ℕ} {old new : RunState} {before after : Task} {stop : Stop} →
+pub places_other : {k : Tables} {job : Job} {input : List ℕ} {t m s : ℕ} {old new : RunState} {before after : Task} {stop : Stop} →
     (c : Refines k job input t m None old) →
     (T : Turning k job input t m s old new c.numbers before after stop c.interleaving) → ActsOf c T → (u : ℕ) (task : Task) → u ≢ s →
     old.task u ≡ Some task →

@@ -18,7 +18,7 @@ use Rattle.task_machine.specs.declared.task.Own.{Own}
 use Rattle.task_machine.specs.declared.task.Task.{Task}
 use Rattle.task_machine.specs.declared.world.World.{World}
 use Rattle.task_machine.specs.declared.stop.TaskState.{TaskState}
-use Rattle.task_machine.specs.declared.stop.TaskState.TheVariants.{ToBegin, Asked, Asleep, Waiting, GivingUp, Awaits, Over}
+use Rattle.task_machine.specs.declared.stop.TaskState.TheVariants.{ToBegin, Asked, Asleep, Waiting, GivingUp, Awaits, Over, Queued}
 use Rattle.task_machine.specs.Acts.{scoping_of}
 use Rattle.task_machine.specs.Fitting.{blocks_of, waits_of}
 use Rattle.task_machine.specs.Stacked.{AreAt}
@@ -42,8 +42,9 @@ use Rattle.task_machine.proofs.Stacked.{one_of}
 use Rattle.run_refinement.proofs.Found.{same_got, finds, gives, puts}
 use Rattle.run_refinement.proofs.Parts.{numbers_other}
 use Rattle.run_refinement.proofs.LabelsApart.{below_of}
+use Rattle.turn_semantics.specs.Midway.{Tables}
 
-module _ (k : Table) (job : Job) (input : List ℕ) (t m s : ℕ) (old new : RunState) (before after : Task) (stop : Stop)
+module _ (k : Tables) (job : Job) (input : List ℕ) (t m s : ℕ) (old new : RunState) (before after : Task) (stop : Stop)
     (c : Refines k job input t m None old)
     (T : Turning k job input t m s old new c.numbers before after stop c.interleaving) where
   -- ---- which tasks are in a nursery
@@ -125,6 +126,7 @@ module _ (k : Table) (job : Job) (input : List ℕ) (t m s : ℕ) (old new : Run
     goes =
         record {
           in_range = was.goes.in_range;
+          lent = was.goes.lent;
           starts = was.goes.starts;
           home = home;
           scope = scope_stays a (home_scope task) task.own.items others opens home;
@@ -153,6 +155,7 @@ module _ (k : Table) (job : Job) (input : List ℕ) (t m s : ℕ) (old new : Run
               (was.stands.numbered id has);
           placed = was.stands.placed;
           new = was.stands.new;
+          stop = was.stands.stop;
           own = was.stands.own;
         }
 
@@ -215,6 +218,7 @@ module _ (k : Table) (job : Job) (input : List ℕ) (t m s : ℕ) (old new : Run
     last_after (Asked kernel purpose) e h = tt
     last_after (Asleep paced ticks since) e h = tt
     last_after (Waiting event since) e h = tt
+    last_after (Queued object ask since body) e h = tt
     last_after (GivingUp since) e h = tt
     last_after Over e h = tt
 

@@ -9,10 +9,10 @@ use Rattle.job_meaning.specs.Log.{Table}
 use Rattle.job_meaning.specs.Moments.{clock_of, tick_of, a_round_after}
 use Rattle.job_meaning.specs.declared.clock.Clock.{Clock}
 use Rattle.job_meaning.specs.Walk.{Here}
-use Rattle.job_meaning.specs.Meaning.{root_label, root_here, meaning_table, meaning_records, meaning_cancelled_from, meaning_end, cancelled_from_by}
+use Rattle.job_meaning.specs.Meaning.{root_label, root_here, meaning_records, meaning_cancelled_from, meaning_end, cancelled_from_by}
 use Rattle.job_meaning.specs.Shown.{Shown, as_shown, shown_at}
-use Rattle.job_meaning.specs.Rest.{Event, noted, signs, enters, starts, Stopped, to_begin, asking, asleep, waiting_for, giving_up, awaiting, at_end}
-use Rattle.turn_semantics.specs.Midway.{Begun}
+use Rattle.job_meaning.specs.Rest.{Event, noted, signs, enters, acts, starts, Stopped, to_begin, asking, asleep, waiting_for, giving_up, awaiting, at_end, queued}
+use Rattle.turn_semantics.specs.Midway.{Tables, Begun}
 use Rattle.task_machine.specs.Noted.{shown_made}
 use Rattle.interleavings.specs.Interleaving.{Started}
 use Rattle.interleavings.specs.Going.{root_task, task_after_turn, children_from}
@@ -23,10 +23,11 @@ use Rattle.interleavings.proofs.Readings.{in_either}
 use Rattle.interleavings.proofs.Running.{runs_are_the_meaning}
 use Rattle.run_refinement.specs.RunState.{RunState, EndedTask, HasEnded, AreStarted, Refines}
 use Rattle.run_refinement.specs.Over.{ShowsRow, IsOver}
+use Rattle.interleavings.specs.Laws.{meaning_tables}
 
 -- ---- the root stays where it began
 
-children_later : (k : Table) (t m : ℕ) (bs : List Begun) (x : Started) → IsAmong x (children_from k t m bs) → m ≤ x.serial
+children_later : (k : Tables) (t m : ℕ) (bs : List Begun) (x : Started) → IsAmong x (children_from k t m bs) → m ≤ x.serial
 unfolding children_from
 children_later k t m [] x i = absurd i
 children_later k t m (b ∷ bs) x (inl e) = let f = ap (λ (y : Started). y.serial) e in omega (arith, f)
@@ -36,7 +37,7 @@ children_later k t m (b ∷ bs) x (inr i) = let h = children_later k t (suc m) b
 abbrev RootStays : Job → List ℕ → ℕ → List Started → Type 0
 RootStays job input m qs = (0 < m) × ((x : Started) → IsAmong x qs → x.serial ≡ 0 → x.here ≡ root_here job input)
 
-root_stays : (k : Table) (job : Job) (input : List ℕ) (f : Table) (t m : ℕ) (qs : List Started) → Reached k job input f t m qs →
+root_stays : (k : Tables) (job : Job) (input : List ℕ) (f : Table) (t m : ℕ) (qs : List Started) → Reached k job input f t m qs →
     RootStays job input m qs
 root_stays k job input _ _ _ _ (begun f) = (omega arith, by_in)
   where
@@ -68,6 +69,7 @@ end_at to_begin = 0
 end_at (asking kernel purpose) = 0
 end_at (asleep paced n since) = 0
 end_at (waiting_for event since) = 0
+end_at (queued object ask since body) = 0
 end_at (giving_up since) = 0
 end_at (awaiting children ended exc) = 0
 end_at (at_end u e) = u
@@ -77,6 +79,7 @@ exc_at to_begin = None
 exc_at (asking kernel purpose) = None
 exc_at (asleep paced n since) = None
 exc_at (waiting_for event since) = None
+exc_at (queued object ask since body) = None
 exc_at (giving_up since) = None
 exc_at (awaiting children ended exc) = None
 exc_at (at_end u e) = e
@@ -100,6 +103,7 @@ shown_entries clock input [] = refl
 shown_entries clock input (noted t e ∷ es) = ap (λ (xs : List Shown). shown_at input (tick_of clock t) e ∷ xs)
     (shown_entries clock input es)
 shown_entries clock input (signs l t ∷ es) = shown_entries clock input es
+shown_entries clock input (acts shared t done ∷ es) = shown_entries clock input es
 shown_entries clock input (enters l t d ∷ es) = shown_entries clock input es
 shown_entries clock input (starts i l t ∷ es) = shown_entries clock input es
 
@@ -107,6 +111,7 @@ rows_started : (clock : Clock) (f : Table) (start : ℕ → ℕ) (at : ℕ → S
     AreStarted clock start at child es → StartsRows clock (λ p. row_at clock f (start p) (at p)) child es
 rows_started clock f start at child [] h = tt
 rows_started clock f start at child (noted t e ∷ es) h = rows_started clock f start at child es h
+rows_started clock f start at child (acts shared t done ∷ es) h = rows_started clock f start at child es h
 rows_started clock f start at child (signs l t ∷ es) h = rows_started clock f start at child es h
 rows_started clock f start at child (enters l t d ∷ es) h = rows_started clock f start at child es h
 rows_started clock f start at child (starts i l t ∷ es) h = ((h.0, h.1), rows_started clock f start at child es h.2)
@@ -116,7 +121,7 @@ ended_row s u e h = subst (λ (x : Stopped). x ≡ at_end u (exc_at x)) (sym h) 
 
 -- if every task of the program has ended, what is kept of them is what the job means
 pub state_over : (job : Job) (input : List ℕ) → GivesNamesOnce job → StartsInNurseries job → (t m : ℕ) (state : RunState) →
-    Refines (meaning_table job input) job input t m None state →
+    Refines (meaning_tables job input) job input t m None state →
     ((p : ℕ) → state.task p ≡ None) → IsOver job input m state
 state_over job input names starting t m state c none =
     record {
@@ -127,8 +132,8 @@ state_over job input names starting t m state c none =
       end = λ taken d. (means taken d).2;
     }
   where
-    k : Table
-    k = meaning_table job input
+    k : Tables
+    k = meaning_tables job input
 
     f : Table
     f = c.interleaving.cancelled_from
@@ -194,4 +199,4 @@ state_over job input names starting t m state c none =
     means : (taken : List ℕ) → DepthFirst rows (0 ∷ []) taken →
         (records_by rows taken ≡ meaning_records job input) × (cancelled_from_in rows taken ≡ meaning_cancelled_from job input)
         × ((rows 0).end ≡ meaning_end job input)
-    means taken d = runs_are_the_meaning job input names starting f t m c.interleaving.tasks c.interleaving.reached rows has_row label c.begun taken d
+    means taken d = runs_are_the_meaning job input names c.in_range c.small starting f t m c.interleaving.tasks c.interleaving.reached rows has_row label c.begun taken d

@@ -6,7 +6,7 @@ use Rattle.std.specs.Prelude.{slice_get, nat_lt}
 use Rattle.turn_semantics.specs.Lists.{IsAmong}
 use Rattle.job_tree.specs.Starting.{StartsIn}
 use Rattle.job_meaning.specs.declared.clock.Clock.{Clock}
-use Rattle.job_meaning.specs.Rest.{Event, noted, signs, enters, starts, Frame, Stopped}
+use Rattle.job_meaning.specs.Rest.{Event, noted, signs, enters, acts, starts, Frame, Stopped}
 use Rattle.exceptions.specs.Exceptions.{Label}
 use Rattle.nursery_book.specs.declared.book.NurseryBook.{NurseryBook}
 use Rattle.turn_semantics.specs.Midway.{Place, Begun}
@@ -93,6 +93,7 @@ pub numbered_on : (n : ℕ) (es : List Event) (bs : List Begun) → Starts n es 
 numbered_on n [] [] h i b e = absurd (not_both refl e)
 numbered_on n [] (c ∷ bs) h i b e = absurd h
 numbered_on n (noted t x ∷ es) bs h i b e = numbered_on n es bs h i b e
+numbered_on n (acts shared t done ∷ es) bs h i b e = numbered_on n es bs h i b e
 numbered_on n (signs l t ∷ es) bs h i b e = numbered_on n es bs h i b e
 numbered_on n (enters l t d ∷ es) bs h i b e = numbered_on n es bs h i b e
 numbered_on n (starts j l t ∷ es) [] h i b e = absurd h
@@ -146,6 +147,7 @@ own_or key (o ∷ own) = by_test (same_or o.id key) (own_or key own)
 pub entered_append : (es fs : List Event) → entered_made (es ++ fs) ≡ entered_made es ++ entered_made fs
 entered_append [] fs = refl
 entered_append (noted t e ∷ es) fs = entered_append es fs
+entered_append (acts shared t done ∷ es) fs = entered_append es fs
 entered_append (signs l t ∷ es) fs = entered_append es fs
 entered_append (enters l t d ∷ es) fs = ap (λ (ls : List Label). l ∷ ls) (entered_append es fs)
 entered_append (starts i l t ∷ es) fs = entered_append es fs
@@ -154,6 +156,7 @@ entered_append (starts i l t ∷ es) fs = entered_append es fs
 pub entered_same : (es : List Event) → labels_entered es ≡ entered_made es
 entered_same [] = refl
 entered_same (noted t e ∷ es) = entered_same es
+entered_same (acts shared t done ∷ es) = entered_same es
 entered_same (signs l t ∷ es) = entered_same es
 entered_same (enters l t d ∷ es) = ap (λ (ls : List Label). l ∷ ls) (entered_same es)
 entered_same (starts i l t ∷ es) = entered_same es

@@ -4,7 +4,6 @@ use Rattle.std.proofs.Common.{◌≡◌, ◌≢◌, ◌==◌, Bool, true, false,
 use Rattle.std.specs.Prelude.{slice_get, slice_set}
 use Rattle.exceptions.specs.Exceptions.{Exc}
 use Rattle.job_tree.specs.Tree.{Tree as Job}
-use Rattle.job_meaning.specs.Log.{Table}
 use Rattle.nursery_book.specs.Nursery.{End, Nursery, with_child}
 use Rattle.nursery_book.specs.Book.{nursery_at, HasNursery, Updates}
 use Rattle.nursery_book.specs.declared.book.NurseryBook.{NurseryBook}
@@ -18,11 +17,12 @@ use Rattle.run_refinement.specs.Leaving.{EndIsRecorded}
 use Rattle.run_refinement.proofs.Found.{finds, puts}
 use Rattle.run_refinement.proofs.OtherNurseries.{scope_of_nursery}
 use Rattle.run_refinement.proofs.RunStates.{one_nursery}
+use Rattle.turn_semantics.specs.Midway.{Tables}
 
 -- ---- which task a nursery belongs to
 
 -- no two tasks have one nursery
-pub same_owner : (k : Table) (job : Job) (input : List ℕ) (t m : ℕ) (leaving : Option ℕ) (state : RunState) →
+pub same_owner : (k : Tables) (job : Job) (input : List ℕ) (t m : ℕ) (leaving : Option ℕ) (state : RunState) →
     Refines k job input t m leaving state → (p u : ℕ) (a b : Task) (id : ℕ) →
     state.task p ≡ Some a → state.task u ≡ Some b → HasNurseryOf id (blocks_of a.frames.items) (waits_of a.task_state) →
     HasNurseryOf id (blocks_of b.frames.items) (waits_of b.task_state) → p ≡ u

@@ -28,6 +28,7 @@ use Rattle.run_refinement.proofs.Parts.{own_or}
 use Rattle.task_machine.proofs.Apart.{has_scope}
 use Rattle.task_machine.proofs.Stacked.{one_of}
 use Rattle.run_refinement.proofs.Found.{finds}
+use Rattle.turn_semantics.specs.Midway.{Tables}
 
 -- ---- a task and its home, apart
 
@@ -86,7 +87,7 @@ follows_by state f input t at numbers leaving s task n q e g h home =
 
 -- ---- the tasks of the program
 
-module _ (k : Table) (job : Job) (input : List ℕ) (t m : ℕ) (leaving : Option ℕ) (state : RunState) (c : Refines k job input t m leaving state)
+module _ (k : Tables) (job : Job) (input : List ℕ) (t m : ℕ) (leaving : Option ℕ) (state : RunState) (c : Refines k job input t m leaving state)
   where
     -- no task has a later serial number than those given
     pub ended_task_below : (s : ℕ) (g : EndedTask) → state.ended_task s ≡ Some g → s < m

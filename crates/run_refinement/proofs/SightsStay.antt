@@ -8,8 +8,8 @@ use Rattle.job_tree.specs.Tree.{Tree as Job}
 use Rattle.job_tree.specs.Names.{GivesNamesOnce}
 use Rattle.job_tree.specs.Starting.{StartsInNurseries}
 use Rattle.job_meaning.specs.Log.{Table}
-use Rattle.job_meaning.specs.Follow.{IsSettled}
-use Rattle.turn_semantics.specs.Midway.{Place}
+use Rattle.interleavings.specs.Laws.{IsSettledBy}
+use Rattle.turn_semantics.specs.Midway.{Tables, Place}
 use Rattle.task_machine.specs.declared.stop.Stop.{Stop}
 use Rattle.task_machine.specs.declared.task.Task.{Task}
 use Rattle.task_machine.specs.Labels.{Labels, Events}
@@ -49,8 +49,8 @@ scope_label labels events f tree scope key ps own is st opened at =
     (subst (λ (o : Option ℕ). AreAt labels events f (outer_of tree o) ps) is at))
 
 -- The scope of another task shows the effective deadline that it showed, or is marked.
-pub shows_still : {k : Table} {job : Job} {input : List ℕ} {t m s : ℕ} {old new : RunState} {before after : Task} {stop : Stop} →
-    IsSettled k job input → GivesNamesOnce job → StartsInNurseries job →
+pub shows_still : {k : Tables} {job : Job} {input : List ℕ} {t m s : ℕ} {old new : RunState} {before after : Task} {stop : Stop} →
+    IsSettledBy k job input → GivesNamesOnce job → StartsInNurseries job →
     (c : Refines k job input t m None old) → (T : Turning k job input t m s old new c.numbers before after stop c.interleaving) → (u : ℕ) → u < m →
     u ≢ s → (task : Task) → old.task u ≡ Some task →
     Follows new T.is.cancelled_from input t T.is.at (numbers_then c.numbers s m T.took.numbers_after) (leaving_by stop s) u task → (key : ℕ) →

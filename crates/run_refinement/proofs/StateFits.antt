@@ -13,7 +13,6 @@ use Rattle.std.specs.List.{last_or}
 use Rattle.cancel_scopes.specs.Sight.{Level}
 use Rattle.cancel_scopes.specs.Tree.{Stack, Tree, stack_of, outer_of, IsOpen, IsChain, IsApart}
 use Rattle.job_tree.specs.Tree.{Tree as Job}
-use Rattle.job_meaning.specs.Log.{Table}
 use Rattle.nursery_book.specs.Nursery.{End, Nursery}
 use Rattle.nursery_book.specs.Book.{nursery_at}
 use Rattle.nursery_book.specs.declared.book.NurseryBook.{NurseryBook}
@@ -34,6 +33,7 @@ use Rattle.task_machine.proofs.Others.{LevelAt, level_at, all_after, among_left,
 use Rattle.run_refinement.specs.RunState.{RunState, LivesIn, HasHome, OpenedBy, Refines}
 use Rattle.run_refinement.specs.Turn.{IsSound}
 use Rattle.run_refinement.proofs.Found.{got_first, SplitAt, split_at, later_after, finds, gives, puts, KeysAt, keys_at}
+use Rattle.turn_semantics.specs.Midway.{Tables}
 
 -- ---- keys
 
@@ -230,7 +230,7 @@ one_runs (Some x ∷ es) (suc index) e = one_runs es index e
 
 -- ---- a scope of a task that encloses those of another
 
-module _ (k : Table) (job : Job) (input : List ℕ) (t m : ℕ) (leaving : Option ℕ) (state : RunState) (c : Refines k job input t m leaving state)
+module _ (k : Tables) (job : Job) (input : List ℕ) (t m : ℕ) (leaving : Option ℕ) (state : RunState) (c : Refines k job input t m leaving state)
     (sound : IsSound state.world.scopes) where
   -- the stack of one of a task's scopes
   stack_by : (s : ℕ) (task : Task) → state.task s ≡ Some task → (n : ℕ) (o : Own) → slice_get task.own.items n ≡ Some o →

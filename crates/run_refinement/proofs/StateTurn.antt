@@ -7,8 +7,7 @@ use Rattle.nursery_book.specs.Book.{nursery_at}
 use Rattle.job_tree.specs.Names.{GivesNamesOnce}
 use Rattle.job_tree.specs.Starting.{StartsInNurseries}
 use Rattle.job_tree.specs.Tree.{Tree as Job}
-use Rattle.job_meaning.specs.Follow.{IsSettled}
-use Rattle.job_meaning.specs.Log.{Table}
+use Rattle.interleavings.specs.Laws.{IsSettledBy}
 use Rattle.task_machine.specs.declared.stop.Stop.{Stop}
 use Rattle.task_machine.specs.declared.task.Own.{Own}
 use Rattle.task_machine.specs.declared.task.Task.{Task}
@@ -24,20 +23,21 @@ use Rattle.run_refinement.proofs.LabelsApart.{labels_apart, labels_known}
 use Rattle.run_refinement.proofs.OtherScopes.{Acted, AreElse}
 use Rattle.run_refinement.proofs.OtherNurseries.{nurseries_stay}
 use Rattle.run_refinement.proofs.Parts.{own_or}
+use Rattle.turn_semantics.specs.Midway.{Tables}
 
 -- ---- the mover
 
 -- what the mover does to scopes
-abbrev pub ActsOf : {k : Table} {job : Job} {input : List ℕ} {t m s : ℕ} {old new : RunState} {before after : Task} {stop : Stop} →
+abbrev pub ActsOf : {k : Tables} {job : Job} {input : List ℕ} {t m s : ℕ} {old new : RunState} {before after : Task} {stop : Stop} →
     (c : Refines k job input t m None old) →
     Turning k job input t m s old new c.numbers before after stop c.interleaving → Type 0
 ActsOf {old = old} {new = new} {before = before} {after = after} c T =
     Acted (IsEntered c.interleaving.at) old.world.tick (scoping_of before old.world) (scoping_of after new.world) T.move.made
 
 -- the mover of a turn acts on sound stacks, with labels that are apart and known, and enters new ones
-pub acted : {k : Table} {job : Job} {input : List ℕ} {t m s : ℕ} {old new : RunState} {before after : Task} {stop : Stop} →
+pub acted : {k : Tables} {job : Job} {input : List ℕ} {t m s : ℕ} {old new : RunState} {before after : Task} {stop : Stop} →
     (c : Refines k job input t m None old) →
-    (T : Turning k job input t m s old new c.numbers before after stop c.interleaving) → IsSettled k job input → GivesNamesOnce job →
+    (T : Turning k job input t m s old new c.numbers before after stop c.interleaving) → IsSettledBy k job input → GivesNamesOnce job →
     StartsInNurseries job → ActsOf c T
 acted c T settled names nurseries =
     record {
@@ -52,7 +52,7 @@ acted c T settled names nurseries =
 -- ---- another task
 
 -- none of its scopes is the mover's
-pub else_own : {k : Table} {job : Job} {input : List ℕ} {t m s : ℕ} {old new : RunState} {before after : Task} {stop : Stop} →
+pub else_own : {k : Tables} {job : Job} {input : List ℕ} {t m s : ℕ} {old new : RunState} {before after : Task} {stop : Stop} →
     (c : Refines k job input t m None old) →
     Turning k job input t m s old new c.numbers before after stop c.interleaving → (u : ℕ) (task : Task) → u ≢ s → old.task u ≡ Some task →
     AreElse task.own.items before.own.items
@@ -67,13 +67,13 @@ else_own {s = s} {old = old} {before = before} c T u task differs is o i got = b
         absurd (differs (sym (c.apart o.id s u mine theirs)))
 
 -- each of its scopes is open
-pub own_open : {k : Table} {job : Job} {input : List ℕ} {t m : ℕ} {old : RunState} → (c : Refines k job input t m None old) →
+pub own_open : {k : Tables} {job : Job} {input : List ℕ} {t m : ℕ} {old : RunState} → (c : Refines k job input t m None old) →
     (u : ℕ) (task : Task) → old.task u ≡ Some task →
     (o : Own) (i : ℕ) → slice_get task.own.items i ≡ Some o → IsOpen old.world.scopes o.id
 own_open {old = old} c u task is o i got = let x = (c.follows u task is).tracks.kept o i got in is_open old.world.scopes o.id x.0 x.2
 
 -- each of its nurseries stays
-pub nursery_same : {k : Table} {job : Job} {input : List ℕ} {t m s : ℕ} {old new : RunState} {before after : Task} {stop : Stop} →
+pub nursery_same : {k : Tables} {job : Job} {input : List ℕ} {t m s : ℕ} {old new : RunState} {before after : Task} {stop : Stop} →
     (c : Refines k job input t m None old) →
     Turning k job input t m s old new c.numbers before after stop c.interleaving → (u : ℕ) (task : Task) → u ≢ s → old.task u ≡ Some task →
     (id : ℕ) → HasNurseryOf id (blocks_of task.frames.items) (waits_of task.task_state) →

@@ -1,32 +1,32 @@
 -- The tasks of the program after a turn of the code: they are those of the run after it, and what the stop
 -- says of the task is true.
 use Rattle.task_machine.specs.Frames.{Lent}
-use Rattle.std.proofs.Common.{◌≡◌, ◌≢◌, ℕ, zero, suc, ◌+◌, ◌<◌, min, max, Bool, Option, Some, None, List, ◌++◌, length, refl, ap, sym, ◌∙◌, subst, arith}
-use Rattle.exceptions.specs.Exceptions.{Exc}
+use Rattle.std.proofs.Common.{◌≡◌, ◌≢◌, ℕ, zero, suc, ◌+◌, ◌<◌, min, max, Bool, Option, Some, None, List, ◌++◌, length, refl, ap, sym, ◌∙◌, subst, arith, ◌⊎◌, inl, inr, true}
+use Rattle.exceptions.specs.Exceptions.{Exc, Label}
 use Rattle.cancel_scopes.specs.Sight.{seen}
 use Rattle.input_lines.specs.declared.kernel.Kernel.{Kernel}
 use Rattle.cancel_scopes.specs.Tree.{outer_of}
 use Rattle.job_tree.specs.Tree.{Tree as Job}
 use Rattle.job_tree.specs.Names.{GivesNamesOnce}
 use Rattle.job_tree.specs.Starting.{StartsInNurseries}
-use Rattle.job_meaning.specs.Follow.{IsSettled}
+use Rattle.interleavings.specs.Laws.{IsSettledBy}
 use Rattle.job_meaning.specs.Log.{Table}
 use Rattle.job_meaning.specs.Moments.{tick_of, start_of, far, wakes_at}
 use Rattle.job_meaning.specs.declared.clock.Clock.{Clock}
 use Rattle.job_meaning.specs.declared.clock.Clock.TheVariants.{ByTicks as by_ticks, ByRounds as by_rounds}
 use Rattle.job_meaning.specs.Walk.{Here}
-use Rattle.job_meaning.specs.Rest.{Stopped, asleep, waiting_for, giving_up, awaiting, at_end}
+use Rattle.job_meaning.specs.Rest.{Stopped, asleep, waiting_for, giving_up, awaiting, at_end, queued}
 use Rattle.nursery_book.specs.Book.{HasNursery}
 use Rattle.nursery_book.specs.declared.book.NurseryBook.{NurseryBook}
-use Rattle.turn_semantics.specs.Midway.{Place, stack_at}
+use Rattle.turn_semantics.specs.Midway.{Tables, Place, stack_at, label_among}
 use Rattle.turn_semantics.specs.Steps.{cancelled_from_after}
 use Rattle.turn_semantics.specs.Names.{names_at, OwnNames}
-use Rattle.turn_semantics.specs.Placed.{PlacedAfter}
+use Rattle.turn_semantics.specs.Placed.{PlacedAfter, IsSome as IsSomeLabel}
 use Rattle.turn_semantics.specs.Turned.{StopsAt, FallsAsleep as FallsAsleepFor}
 use Rattle.task_machine.specs.declared.stop.TaskState.{TaskState}
-use Rattle.task_machine.specs.declared.stop.TaskState.TheVariants.{Asked, Asleep, Waiting, GivingUp, Awaits, Over}
+use Rattle.task_machine.specs.declared.stop.TaskState.TheVariants.{Asked, Asleep, Waiting, GivingUp, Awaits, Over, Queued}
 use Rattle.task_machine.specs.declared.stop.Stop.{Stop}
-use Rattle.task_machine.specs.declared.stop.Stop.TheVariants.{Ask, Sleep, WaitFor, GiveUp, Wait, Ended}
+use Rattle.task_machine.specs.declared.stop.Stop.TheVariants.{Ask, Sleep, WaitFor, GiveUp, Wait, Ended, Queue}
 use Rattle.task_machine.specs.declared.stop.Wake.{Wake}
 use Rattle.task_machine.specs.declared.task.Task.{Task}
 use Rattle.task_machine.specs.declared.world.World.{World}
@@ -51,6 +51,8 @@ use Rattle.run_refinement.proofs.StateTurn.{acted}
 use Rattle.run_refinement.proofs.OthersFollow.{others_follow}
 use Rattle.run_refinement.proofs.Taken.{turning, tasks_long}
 use Rattle.run_refinement.proofs.Turned.{state_turned}
+use Rattle.interleavings.specs.Runs.{keeping}
+use Rattle.job_tree.specs.declared.object.Ask.{Ask as AskKind}
 
 -- ---- what a stop says
 
@@ -78,6 +80,7 @@ pub ends_now : (clock there : Clock) (numbers : Numbers) (book : NurseryBook) (p
 ends_now clock there numbers book part (Ask request) task_state t cancelled_from ps s h q e = tt
 ends_now clock there numbers book part (Sleep due) task_state t cancelled_from ps s h q e = tt
 ends_now clock there numbers book part (WaitFor event) task_state t cancelled_from ps s h q e = tt
+ends_now clock there numbers book part (Queue request) task_state t cancelled_from ps s h q e = tt
 ends_now clock there numbers book part (GiveUp due) task_state t cancelled_from ps s h q e = tt
 ends_now clock there numbers book part (Wait id) task_state t cancelled_from ps s h q e = tt
 ends_now clock there numbers book part (Ended exc) Over t cancelled_from ps (at_end u x) h q e =
@@ -103,6 +106,10 @@ record WaitsIn (world : World) (task : Task) (task_state : TaskState) (s : Stopp
   pub own : OwnNames (names_at ps)
   pub event : AwaitsEvent (label_at world) (outer_of world.scopes (scope_of task)) (Some s) task_state ps
   pub some : HasEvent s ps
+
+some_label : (o : Option Label) → IsSomeLabel o → (l : Label) × (o ≡ Some l)
+some_label None h = absurd h
+some_label (Some l) h = (l, refl)
 
 -- and what the stop says is so
 says_now : (clock there : Clock) (numbers : Numbers) (book : NurseryBook) (part : Lent) (stop : Stop) (task_state : TaskState) (t : ℕ)
@@ -153,10 +160,30 @@ says_now clock there numbers book part (WaitFor event) (Waiting key since) t can
     ends w =
     absurd h.blocks_on
 says_now clock there numbers book part (WaitFor event) _ t cancelled_from ps s h world task e of tick ticking same at in_range held ends w = absurd h.returned
+says_now clock there numbers book part (Queue request) (Queued key ask since body) t cancelled_from ps (queued name a u steps) h world task e of tick ticking
+    same at in_range held ends w =
+    let is : since ≡ world.tick = h.blocks_on.1 ∙ (h.now.0 ∙ sym tick) in
+    let label : (l : Label) × (label_among true name ps ≡ Some l) = some_label (label_among true name ps) w.some in
+    record {
+      body = body;
+      task_state = e ∙ (ap (λ (n : ℕ). Queued n ask since body) (sym h.returned.0)
+          ∙ (ap (λ (x : AskKind). Queued request.object x since body) (sym h.returned.1) ∙ ap (λ (v : ℕ). Queued request.object request.ask v body) is));
+      label = label.0;
+      labelled = ap (label_at world) h.returned.0 ∙ (w.event.1 ∙ label.1);
+      buffer = h.returned.2 ∙ ap (λ (l : Lent). l.input) (sym of);
+      range = h.returned.3 ∙ ap (λ (l : Lent). l.range) (sym of);
+    }
+says_now clock there numbers book part (Queue request) (Queued key ask since body) t cancelled_from ps _ h world task e of tick ticking same at in_range
+    held ends w =
+    absurd h.blocks_on
+says_now clock there numbers book part (Queue request) _ t cancelled_from ps s h world task e of tick ticking same at in_range held ends w = absurd h.returned
 says_now clock there numbers book part (GiveUp due) (GivingUp since) t cancelled_from ps (giving_up u) h world task e of tick ticking same at
     in_range held ends w =
-    let is : since ≡ world.tick = h.blocks_on ∙ (h.now ∙ sym tick) in
-    record { task_state = e ∙ ap (λ (v : ℕ). GivingUp v) is; due_is = h.returned ∙ ap suc is }
+    record { since = since; since_is = by_round h.now; task_state = e; due_is = h.returned }
+  where
+    by_round : (u ≡ t) ⊎ (u ≡ suc t) → (since ≡ world.tick) ⊎ (since ≡ suc world.tick)
+    by_round (inl g) = inl (h.blocks_on ∙ (g ∙ sym tick))
+    by_round (inr g) = inr (h.blocks_on ∙ (g ∙ ap suc (sym tick)))
 says_now clock there numbers book part (GiveUp due) (GivingUp since) t cancelled_from ps _ h world task e of tick ticking same at in_range held ends w =
     absurd h.blocks_on
 says_now clock there numbers book part (GiveUp due) _ t cancelled_from ps s h world task e of tick ticking same at in_range held ends w = absurd h.returned
@@ -179,8 +206,8 @@ says_now clock there numbers book part (Ended exc) task_state t cancelled_from p
 -- ---- a turn
 
 -- each other task follows as it did
-pub other_follows : (k : Table) (job : Job) (input : List ℕ) (t m s : ℕ) (old new : RunState) (before after : Task) (stop : Stop) →
-    IsSettled k job input → GivesNamesOnce job →
+pub other_follows : (k : Tables) (job : Job) (input : List ℕ) (t m s : ℕ) (old new : RunState) (before after : Task) (stop : Stop) →
+    IsSettledBy k job input → GivesNamesOnce job →
     StartsInNurseries job → (c : Refines k job input t m None old) →
     (T : Turning k job input t m s old new c.numbers before after stop c.interleaving) → (u : ℕ) → u < m → u ≢ s →
     (task : Task) → old.task u ≡ Some task → Follows new T.is.cancelled_from input t T.is.at (numbers_then c.numbers s m T.took.numbers_after)
@@ -188,11 +215,11 @@ pub other_follows : (k : Table) (job : Job) (input : List ℕ) (t m s : ℕ) (ol
 other_follows k job input t m s old new before after stop settled names starting c T u below differs task is =
     others_follow k job input t m s old new before after stop c T (acted c T settled names starting) u below differs task is
 
-module _ (k : Table) (job : Job) (input : List ℕ) (t m s : ℕ) (old new : RunState) (before after : Task) (wake : Wake) (stop : Stop)
-    (settled : IsSettled k job input)
+module _ (k : Tables) (job : Job) (input : List ℕ) (t m s : ℕ) (old new : RunState) (before after : Task) (wake : Wake) (stop : Stop)
+    (settled : IsSettledBy k job input)
     (names : GivesNamesOnce job) (starting : StartsInNurseries job) (c : Refines k job input t m None old)
     (x : TakesTurn t m s old new before after wake stop)
-    (may : MayWake c.interleaving.cancelled_from c.interleaving.tasks (record { at = t; own = (now_for wake (state_of before old.world)).own })
+    (may : MayWake (keeping c.interleaving.cancelled_from k) c.interleaving.tasks (record { at = t; own = (now_for wake (state_of before old.world)).own })
     (c.interleaving.at s) (wake_in old.world.book before.task_state wake) (c.interleaving.at s).rest.stopped)
   where
     -- what the code says of it is all that is known of a turn

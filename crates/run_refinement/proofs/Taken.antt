@@ -9,10 +9,10 @@ use Rattle.job_meaning.specs.Log.{Table}
 use Rattle.job_meaning.specs.Moments.{a_round_after, Now, only_at}
 use Rattle.job_meaning.specs.declared.clock.Clock.{Clock}
 use Rattle.job_meaning.specs.Walk.{Here}
-use Rattle.job_meaning.specs.Follow.{IsSettled}
+use Rattle.interleavings.specs.Laws.{IsSettledBy}
 use Rattle.job_meaning.specs.Rest as rest
 use Rattle.nursery_book.specs.declared.book.NurseryBook.{NurseryBook}
-use Rattle.turn_semantics.specs.Midway.{Place, Begun, Move}
+use Rattle.turn_semantics.specs.Midway.{Tables, Place, Begun, Move}
 use Rattle.turn_semantics.specs.Wakes as wakes
 use Rattle.turn_semantics.specs.Wakes.{turn_from, CanWake}
 use Rattle.turn_semantics.specs.Placed.{PlacedStop, outer_places}
@@ -23,7 +23,7 @@ use Rattle.turn_semantics.proofs.Names.{turn_stays_new}
 use Rattle.task_machine.specs.States.{State, state_of, here_at}
 use Rattle.task_machine.specs.declared.stop.Stop.{Stop}
 use Rattle.task_machine.specs.declared.stop.Wake.{Wake}
-use Rattle.task_machine.specs.declared.stop.Wake.TheVariants.{Begin, Due, Seen, Answer, Settled}
+use Rattle.task_machine.specs.declared.stop.Wake.TheVariants.{Begin, Due, Seen, Answer, Settled, Granted}
 use Rattle.task_machine.specs.declared.task.Task.{Task}
 use Rattle.task_machine.specs.Fitting.{Block, blocks_of, Fits, waits_of}
 use Rattle.task_machine.specs.Frames.{frames_of}
@@ -41,6 +41,7 @@ use Rattle.run_refinement.proofs.Inputs.{on_at, turn_on_input}
 use Rattle.run_refinement.proofs.Goes.{may_can, WentOn, went_on}
 use Rattle.run_refinement.proofs.Fresh.{fresh_after}
 use Rattle.run_refinement.proofs.LabelsApart.{below_of}
+use Rattle.interleavings.specs.Runs.{keeping}
 
 -- as many tasks as children begun
 pub begun_long : (clock : Clock) (at : ℕ) (numbers : Numbers) (book : NurseryBook) (bs : List Block) (waits : Option ℕ) (ts : List Task)
@@ -53,7 +54,7 @@ begun_long clock at numbers book bs waits (t ∷ ts) [] h = absurd h
 begun_long clock at numbers book bs waits (t ∷ ts) (c ∷ cs) h = ap suc (begun_long clock at numbers book bs waits ts cs h.1)
 
 -- a turn of the code starts as many tasks as that of the definitions begins children
-pub tasks_long : {k : Table} {job : Job} {input : List ℕ} {t m s : ℕ} {old new : RunState} {numbers : ℕ → Numbers} {before after : Task}
+pub tasks_long : {k : Tables} {job : Job} {input : List ℕ} {t m s : ℕ} {old new : RunState} {numbers : ℕ → Numbers} {before after : Task}
     {stop : Stop} {was : Interleaving k job input t m} →
     (T : Turning k job input t m s old new numbers before after stop was) → length T.took.tasks ≡ length T.move.begun
 tasks_long {old = old} {new = new} {after = after} T =
@@ -80,14 +81,15 @@ now_at_tick : (w : Wake) (s : State) (t : ℕ) → s.tick ≡ t → now_for w s 
 now_at_tick Begin s t e = ap (λ (m : ℕ). only_at m) e
 now_at_tick Due s t e = ap (λ (m : ℕ). only_at m) e
 now_at_tick Seen s t e = ap (λ (m : ℕ). only_at m) e
+now_at_tick (Granted grant) s t e = ap (λ (m : ℕ). only_at m) e
 now_at_tick (Answer answer) s t e = ap (λ (m : ℕ). record { at = m; own = s.cancelled }) e
 now_at_tick Settled s t e = ap (λ (m : ℕ). only_at m) e
 
 -- What the code says of a turn is one turn of the definitions.
-pub turning : (k : Table) (job : Job) (input : List ℕ) (t m s : ℕ) (old new : RunState) (before after : Task) (wake : Wake) (stop : Stop) →
-    IsSettled k job input → GivesNamesOnce job → StartsInNurseries job → (c : Refines k job input t m None old) →
+pub turning : (k : Tables) (job : Job) (input : List ℕ) (t m s : ℕ) (old new : RunState) (before after : Task) (wake : Wake) (stop : Stop) →
+    IsSettledBy k job input → GivesNamesOnce job → StartsInNurseries job → (c : Refines k job input t m None old) →
     TakesTurn t m s old new before after wake stop → Fits (state_of before old.world) (waits_of before.task_state) →
-    MayWake c.interleaving.cancelled_from c.interleaving.tasks (record { at = t; own = (now_for wake (state_of before old.world)).own })
+    MayWake (keeping c.interleaving.cancelled_from k) c.interleaving.tasks (record { at = t; own = (now_for wake (state_of before old.world)).own })
     (c.interleaving.at s) (wake_in old.world.book before.task_state wake)
     (c.interleaving.at s).rest.stopped →
     Turning k job input t m s old new c.numbers before after stop c.interleaving
@@ -105,9 +107,12 @@ turning k job input t m s old new before after wake stop settled names starting 
       stopped = at_stop.0;
       stops = at_stop.1;
       took = took;
+      woken = refl;
+      steps = turn.steps;
+      turned = refl;
       promise = promise;
       names = turn_stays_new turn.steps now q.here c.interleaving.cancelled_from w q.rest q.places q.count can
-          (subst (λ (gs : List rest.Frame). NewIn gs (outer_places (Some q.rest.stopped) q.places)) f.frames f.stands.new) f.stands.own;
+          (subst (λ (gs : List rest.Frame). NewIn gs (outer_places (Some q.rest.stopped) q.places)) f.frames f.stands.new) f.stands.stop f.stands.own;
       fresh = fresh_after k job input t m s now.own c.interleaving o at_stop.0 settled names starting less went;
       inputs = on_at q.here.input o.begun (turn_on_input turn.steps c.interleaving.cancelled_from now q.here w q.rest.stopped q.rest.frames q.places
           q.count);
@@ -139,7 +144,7 @@ turning k job input t m s old new before after wake stop settled names starting 
     w = wake_in old.world.book before.task_state wake
 
     can : CanWake w q.rest.stopped
-    can = may_can c.interleaving.cancelled_from c.interleaving.tasks now q w q.rest.stopped may
+    can = may_can (keeping c.interleaving.cancelled_from k) c.interleaving.tasks now q w q.rest.stopped may
 
     turn : TookTurn (state_of before old.world) (state_of after new.world) wake stop c.interleaving.cancelled_from (c.numbers s) q.rest.stopped q.places q.count
     turn = code.turn c.interleaving.cancelled_from (c.numbers s) q.places q.count q.rest.stopped f.task_state f.stands

@@ -9,14 +9,14 @@ use Rattle.cancel_scopes.specs.Tree.{Stack, stack_of, IsOpen}
 use Rattle.job_tree.specs.Names.{GivesNamesOnce}
 use Rattle.job_tree.specs.Starting.{StartsInNurseries}
 use Rattle.job_tree.specs.Tree.{Tree as Job}
-use Rattle.job_meaning.specs.Follow.{IsSettled}
+use Rattle.interleavings.specs.Laws.{IsSettledBy}
 use Rattle.job_meaning.specs.Log.{Table}
 use Rattle.job_meaning.specs.Meaning.{From, cancelled_from_by}
 use Rattle.job_meaning.specs.Moments.{tick_of, a_round_after}
 use Rattle.job_meaning.specs.declared.clock.Clock.{Clock}
 use Rattle.job_meaning.specs.Walk.{Here}
-use Rattle.job_meaning.specs.Rest.{Event, noted, signs, enters, starts}
-use Rattle.turn_semantics.specs.Midway.{Begun}
+use Rattle.job_meaning.specs.Rest.{Event, noted, signs, enters, acts, starts}
+use Rattle.turn_semantics.specs.Midway.{Tables, Begun}
 use Rattle.turn_semantics.specs.Turned.{MadeAt, Starts, labels_of}
 use Rattle.task_machine.specs.declared.stop.Stop.{Stop}
 use Rattle.task_machine.specs.declared.task.Own.{Own}
@@ -50,6 +50,7 @@ use Rattle.run_refinement.proofs.Parts.{own_or, begun_at}
 use Rattle.task_machine.proofs.Stacked.{one_of}
 use Rattle.run_refinement.proofs.Found.{below_length, past_length, nth}
 use Rattle.run_refinement.proofs.Taken.{tasks_long}
+use Rattle.run_refinement.proofs.SharesTurned.{shares_turned, paths_turned}
 
 -- ---- moments of cancellation
 
@@ -72,6 +73,7 @@ pub started_same : (clock : Clock) (was are : ℕ → ℕ) (at now : ℕ → Sta
     AreStarted clock was at child es → AreStarted clock are now later es
 started_same clock was are at now child later [] same h = tt
 started_same clock was are at now child later (noted t e ∷ es) same h = started_same clock was are at now child later es same h
+started_same clock was are at now child later (acts shared t done ∷ es) same h = started_same clock was are at now child later es same h
 started_same clock was are at now child later (signs l t ∷ es) same h = started_same clock was are at now child later es same h
 started_same clock was are at now child later (enters l t d ∷ es) same h = started_same clock was are at now child later es same h
 started_same clock was are at now child later (starts i l t ∷ es) same h =
@@ -83,6 +85,7 @@ pub started_join : (clock : Clock) (start : ℕ → ℕ) (at : ℕ → Started) 
     AreStarted clock start at child es → AreStarted clock start at child fs → AreStarted clock start at child (es ++ fs)
 started_join clock start at child [] fs h k = k
 started_join clock start at child (noted t e ∷ es) fs h k = started_join clock start at child es fs h k
+started_join clock start at child (acts shared t done ∷ es) fs h k = started_join clock start at child es fs h k
 started_join clock start at child (signs l t ∷ es) fs h k = started_join clock start at child es fs h k
 started_join clock start at child (enters l t d ∷ es) fs h k = started_join clock start at child es fs h k
 started_join clock start at child (starts i l t ∷ es) fs h k = (h.0, h.1, started_join clock start at child es fs h.2 k)
@@ -98,6 +101,7 @@ pub started_now : (clock : Clock) (start : ℕ → ℕ) (at : ℕ → Started) (
     AreStarted clock start at child es
 started_now clock start at child t ls n [] bs made h are = tt
 started_now clock start at child t ls n (noted u e ∷ es) bs made h are = started_now clock start at child t ls n es bs made.1 h are
+started_now clock start at child t ls n (acts shared u done ∷ es) bs made h are = started_now clock start at child t ls n es bs made.1 h are
 started_now clock start at child t ls n (signs l u ∷ es) bs made h are = started_now clock start at child t ls n es bs made.2 h are
 started_now clock start at child t ls n (enters l u d ∷ es) bs made h are = started_now clock start at child t (l ∷ ls) n es bs made.1 h are
 started_now clock start at child t ls n (starts i l u ∷ es) [] made h are = absurd h
@@ -115,8 +119,8 @@ started_now clock start at child t ls n (starts i l u ∷ es) (b ∷ bs) made h 
 
 -- ---- after a turn
 
-module _ (k : Table) (job : Job) (input : List ℕ) (t m s : ℕ) (old new : RunState) (before after : Task) (stop : Stop)
-    (settled : IsSettled k job input) (names : GivesNamesOnce job)
+module _ (k : Tables) (job : Job) (input : List ℕ) (t m s : ℕ) (old new : RunState) (before after : Task) (stop : Stop)
+    (settled : IsSettledBy k job input) (names : GivesNamesOnce job)
     (starting : StartsInNurseries job) (c : Refines k job input t m None old)
     (T : Turning k job input t m s old new c.numbers before after stop c.interleaving) where
   abbrev numbers : ℕ → Numbers
@@ -390,6 +394,7 @@ module _ (k : Table) (job : Job) (input : List ℕ) (t m s : ℕ) (old new : Run
         counted = T.counts ∙ (ap (λ (n : ℕ). n + 1) c.counted ∙ sym T.code.turns);
         clock = clock ∙ c.clock;
         tick = ap (λ (w : World). w.tick) T.code.world ∙ c.tick;
+        in_range = c.in_range;
         small = c.small;
         some = (let first : 0 < m = c.some in omega (arith, first));
         begun = T.code.start_after 0 c.some ∙ c.begun;
@@ -407,15 +412,19 @@ module _ (k : Table) (job : Job) (input : List ℕ) (t m s : ℕ) (old new : Run
         started = λ p less.
             subst (λ (x : Clock). AreStarted x new.start T.is.at (T.is.at p).child (T.is.at p).made) (sym clock) (started_after p less);
         children = children_kept k job input t m s old new before after stop settled names starting c T;
+        through = inl (T.code.through_after ∙ T.code.unserved);
+        path_of_root = T.code.path_after 0 c.some ∙ c.path_of_root;
+        path_of_child = paths_turned k job input t m s old new before after stop settled names starting c T;
+        shares = shares_turned k job input t m s old new before after stop settled names starting c T;
       },
       refl,
     )
 
 -- The tasks of the program after a turn are those of the run after it, with the new tasks, if every other task that was there has
 -- its relation to the run after it.
-pub state_turned : {k : Table} {job : Job} {input : List ℕ} {t m s : ℕ} {old new : RunState} {before after : Task} {stop : Stop} →
+pub state_turned : {k : Tables} {job : Job} {input : List ℕ} {t m s : ℕ} {old new : RunState} {before after : Task} {stop : Stop} →
     (c : Refines k job input t m None old) →
-    (T : Turning k job input t m s old new c.numbers before after stop c.interleaving) → IsSettled k job input → GivesNamesOnce job →
+    (T : Turning k job input t m s old new c.numbers before after stop c.interleaving) → IsSettledBy k job input → GivesNamesOnce job →
     StartsInNurseries job →
     ((u : ℕ) → u < m → u ≢ s → (task : Task) → old.task u ≡ Some task →
     Follows new T.is.cancelled_from input t T.is.at (numbers_then c.numbers s m T.took.numbers_after) (leaving_by stop s) u task) →

@@ -11,7 +11,7 @@ use Rattle.task_machine.specs.declared.task.Task.{Task}
 use Rattle.task_machine.specs.declared.world.World.{World}
 use Rattle.task_machine.specs.Worlds.{label_at}
 use Rattle.run_refinement.specs.RunState.{RunState}
-use Rattle.run_refinement.specs.Sharing.{RoundAct, InRecordOrder, waits_in, serve_all, acts_on, find_get}
+use Rattle.run_refinement.specs.Sharing.{RoundAct, InRecordOrder, AreAskedBefore, waits_in, serve_all, acts_on, find_get}
 
 -- the tasks before and after are the same, and so is what is kept of them
 pub record SameTasks (old new : RunState) : Type 0 where
@@ -53,6 +53,8 @@ pub record ServesRound (t : ℕ) (old new : RunState) : Type 0 where
   pub object :
       (l : Label) → option_map (object_in (waits_in new.task)) (new.object l)
       ≡ (serve_all (waits_in old.task) t (option_map (object_in (waits_in old.task)) (old.object l)) (acts_on l ordered)).object
+  -- who is in a queue has asked by now
+  pub asked : (l : Label) → AreAskedBefore (suc t) (new.object l)
   pub round : new.round ≡ []
   pub granted : (s : ℕ) → new.granted s ≡ granted_to old t ordered s (old.task s)
 

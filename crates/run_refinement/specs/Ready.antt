@@ -45,7 +45,7 @@ IsTimely world what scope (Queued object ask since body) (Granted grant) = what 
 IsTimely world what scope (Queued object ask since body) Seen =
     (what ≡ None) × (since < world.tick) × (seen (outer_of world.scopes scope) world.tick ≡ true)
 IsTimely world what scope (Queued object ask since body) Due =
-    (what ≡ None) × (last_grant world.clock since ≡ world.tick) × (seen (outer_of world.scopes scope) world.tick ≡ false)
+    (what ≡ None) × (since < world.tick) × (last_grant world.clock since ≡ world.tick) × (seen (outer_of world.scopes scope) world.tick ≡ false)
 IsTimely world what scope (GivingUp since) wake = suc since ≡ world.tick
 IsTimely world what scope (Awaits id since) wake = HasNursery world.book id (λ n. a_round_after world.clock n.last ≤ world.tick)
 IsTimely world what scope task_state wake = Unit {0}

@@ -12,6 +12,7 @@ use Rattle.nursery_book.specs.declared.book.NurseryBook.{NurseryBook}
 use Rattle.task_machine.specs.declared.stop.TaskState.{TaskState}
 use Rattle.task_machine.specs.declared.stop.TaskState.TheVariants.{ToBegin, Asked, Awaits}
 use Rattle.job_tree.specs.Tree.{Tree as Job}
+use Rattle.job_tree.specs.InRange.{IsInRange}
 use Rattle.job_meaning.specs.Log.{Table}
 use Rattle.job_meaning.specs.Moments.{clock_of, tick_of, Now, only_at}
 use Rattle.job_meaning.specs.declared.clock.Clock.{Clock}
@@ -43,7 +44,7 @@ use Rattle.interleavings.specs.Interleaving.{Started, live}
 use Rattle.interleavings.specs.Acts.{acts_of, acts_of_all, InOrder, granted_so_far}
 use Rattle.interleavings.specs.Rows.{entered_made, children_made}
 use Rattle.interleavings.specs.Runs.{Reached, turns_taken}
-use Rattle.run_refinement.specs.Sharing.{RoundAct, done_by, done_before, done_from, object_after, waits_in, SameObject}
+use Rattle.run_refinement.specs.Sharing.{RoundAct, done_by, done_before, done_from, object_after, waits_in, SameObject, AreAskedBefore, AsksBefore, asked_at}
 
 -- ---- a run of the definitions, and its tasks by their serial numbers
 
@@ -256,6 +257,13 @@ pub record Shares (state : RunState) (tasks : List Started) (at : ℕ → Starte
   pub served : (taken : List Started) → InOrder tasks (0 ∷ []) taken → (l : Label) →
       SameObject at state.through (option_map (object_in (waits_in state.task)) (state.object l)) (object_after unopened (by_moment (done_before state.through (acts_of_all l taken))))
   pub granted : (taken : List Started) → InOrder tasks (0 ∷ []) taken → (s : ℕ) → s < m → GrantedAt state taken s (at s) (at s).rest.stopped
+  pub ungranted : (s : ℕ) → m ≤ s → state.granted s ≡ None
+  -- only tasks of the run did something since
+  pub known : (a : RoundAct) → IsAmong a state.round → a.serial < m
+  -- who is in a queue asked before that moment
+  pub asked : (l : Label) → AreAskedBefore state.through (state.object l)
+  -- and a task does not ask twice in one moment
+  pub once : (s : ℕ) → s < m → AsksBefore (asked_at state.world.tick (at s).rest.stopped) (at s).made
 
 -- The tasks of the program are a run of the definitions in this moment with m tasks, where a table is followed. One task may have
 -- ended whose end is not recorded yet.
@@ -265,6 +273,7 @@ pub record Refines (k : Tables) (job : Job) (input : List ℕ) (t m : ℕ) (leav
   pub counted : turns_taken interleaving.reached ≡ state.turns
   pub clock : state.world.clock ≡ clock_of job.format
   pub tick : state.world.tick ≡ t
+  pub in_range : IsInRange job
   pub small : length input ≤ MAX_INPUT
   pub some : 0 < m
   pub begun : state.start 0 ≡ 0

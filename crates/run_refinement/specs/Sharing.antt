@@ -1,7 +1,8 @@
 -- What the code holds of limiters and channels, and how it corresponds to what the tasks of a run did to them.
-use Rattle.std.specs.Prelude.{◌≡◌, ◌==◌, ◌&&◌, ◌||◌, ◌+◌, ◌++◌, ℕ, Bool, true, false, nat_lt, Option, Some, None, List, [], ◌∷◌, map}
+use Rattle.std.specs.Prelude.{◌≡◌, ◌==◌, ◌&&◌, ◌||◌, ◌+◌, ◌<◌, ◌++◌, ℕ, Bool, true, false, nat_lt, Option, Some, None, List, [], ◌∷◌, map}
 use Rattle.job_tree.specs.declared.object.Ask.TheVariants.{Acquire, Send, Receive}
 use Rattle.std.specs.List.{filter}
+use Rattle.std.specs.Option.{option_map}
 use Rattle.input_lines.specs.Lines.{Range}
 use Rattle.input_lines.specs.Part.{range_of}
 use Rattle.exceptions.specs.Exceptions.{Label}
@@ -9,11 +10,13 @@ use Rattle.objects.specs.Limiters as limiters
 use Rattle.objects.specs.Limiters.{Limiter, LimiterAct}
 use Rattle.objects.specs.Channels as channels
 use Rattle.objects.specs.Channels.{Channel, ChannelAct, Sender}
-use Rattle.objects.specs.Held.{ObjectOf, Gets, gets_token, gets_by, limiter_left, channel_left, new_object}
+use Rattle.objects.specs.declared.object.Object.{Object as HeldObject}
+use Rattle.objects.specs.Held.{ObjectOf, object_in, Gets, gets_token, gets_by, limiter_left, channel_left, new_object}
 use Rattle.objects.specs.Held as held
 use Rattle.objects.specs.Whats.{What}
 use Rattle.objects.specs.declared.ticket.Ticket.{Ticket}
 use Rattle.job_meaning.specs.Log.{Act, opens, asks, gives_back, closes, same_label}
+use Rattle.job_meaning.specs.Rest as rest
 use Rattle.job_meaning.specs.Sharing.{Done, done_if, Asker, stays_at, Object, unopened, a_limiter, a_channel, serve_act}
 use Rattle.task_machine.specs.declared.serving.ObjectAct.{ObjectAct}
 use Rattle.task_machine.specs.declared.stop.ObjectRequest.{ObjectRequest}
@@ -60,6 +63,17 @@ abbrev pub asked_by : ℕ → Task → Labels → Stop → List RoundAct
 asked_by s task labels (Queue request) = asked_of s request (labels request.object)
 asked_by s task labels _ = []
 
+-- each time a task asked something before, by its events, was before a moment
+abbrev pub AsksBefore : ℕ → List rest.Event → Type 0
+AsksBefore v [] = Unit {0}
+AsksBefore v (rest.acts l u (asks ask part left) ∷ es) = (u < v) × AsksBefore v es
+AsksBefore v (_ ∷ es) = AsksBefore v es
+
+-- the moment in which a task asked that is in a queue, or else this one
+abbrev pub asked_at : ℕ → rest.Stopped → ℕ
+asked_at t (rest.queued object ask since body) = since
+asked_at t _ = t
+
 -- ---- the order of records
 
 -- whether a task comes before another one, or is the same, by the serial numbers of the tasks from the root to each
@@ -99,6 +113,14 @@ waits_by (Some task) since = is_queued task.task_state since
 -- whether the task of a ticket still waits, where these have not ended
 abbrev pub waits_in : (ℕ → Option Task) → Ticket → Bool
 waits_in tasks ticket = waits_by (tasks ticket.row) ticket.since
+
+-- a test of tickets, which fails for those of this moment or later
+abbrev pub asked_before : ℕ → (Ticket → Bool) → Ticket → Bool
+asked_before t waits ticket = nat_lt ticket.since t && waits ticket
+
+-- all who are in the queues of an object of the code asked before a moment
+abbrev pub AreAskedBefore : ℕ → Option HeldObject → Type 0
+AreAskedBefore t o = (waits : Ticket → Bool) → option_map (object_in (asked_before t waits)) o ≡ option_map (object_in waits) o
 
 -- an object of the definitions after acts, one after the other
 abbrev pub object_after : Object → List Done → Object

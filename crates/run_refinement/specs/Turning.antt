@@ -10,7 +10,7 @@ use Rattle.turn_semantics.specs.Midway.{Tables, Begun, Move}
 use Rattle.turn_semantics.specs.Names.{StaysNew}
 use Rattle.turn_semantics.specs.Steps.{cancelled_from_after}
 use Rattle.turn_semantics.specs.Turned.{TurnsOver}
-use Rattle.turn_semantics.specs.Wakes.{Wake}
+use Rattle.turn_semantics.specs.Wakes.{Wake, turn_from}
 use Rattle.task_machine.specs.States.{state_of}
 use Rattle.task_machine.specs.declared.stop.Stop.{Stop}
 use Rattle.task_machine.specs.declared.stop.Wake as code
@@ -18,6 +18,7 @@ use Rattle.task_machine.specs.declared.task.Task.{Task}
 use Rattle.task_machine.specs.Fitting.{Fits, waits_of}
 use Rattle.task_machine.specs.Standing.{TookTo, now_for, woken_at}
 use Rattle.task_machine.specs.Stops.{Numbers}
+use Rattle.task_machine.specs.Waking.{wake_in}
 use Rattle.interleavings.specs.Going.{task_after_turn}
 use Rattle.interleavings.specs.Runs.{turns_taken}
 use Rattle.run_refinement.specs.RunState.{Interleaving, RunState}
@@ -45,6 +46,10 @@ pub record Turning
     pub stopped : rest.Stopped
     pub stops : move.stopped ≡ Some stopped
     pub took : TookTo (woken_at woken_by (state_of before old.world)) (state_of after new.world) stop was.cancelled_from (numbers s) move
+    pub woken : wake ≡ wake_in old.world.book before.task_state woken_by
+    pub steps : ℕ
+    pub turned : move ≡ turn_from steps was.cancelled_from (record { at = t; own = own }) (was.at s).here wake (was.at s).rest.stopped (was.at s).rest.frames
+        (was.at s).places (was.at s).count
     pub promise : TurnsOver (was.at s).stop (record { at = t; own = own }) (was.at s).here was.cancelled_from wake (was.at s).rest (was.at s).places
         (was.at s).count move
     pub names : StaysNew move
