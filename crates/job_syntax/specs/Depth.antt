@@ -8,7 +8,7 @@ use Rattle.job_tree.specs.declared.object.Ask.{Ask}
 use Rattle.job_tree.specs.declared.object.Ask.TheVariants.{Acquire, Send, Receive}
 use Rattle.job_tree.specs.Tree.{Step, sleep, checkpoint, forever, pace, find, head, longest, need, raise, cancel, set_event, wait_for, ask_for, close_channel, scope, nursery, event, object, start, repeat, attempt, Steps, stop, step, Handled, unhandled, except, Cleaned, uncleaned, finally}
 
--- this of the block of a step that asks for something; a `send` has no block
+-- what holds of the block of a step that asks for something; a `send` has no block
 abbrev pub IfBlock : Ask → Type 0 → Type 0
 IfBlock Acquire is = is
 IfBlock Send is = Unit {0}
