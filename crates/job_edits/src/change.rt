@@ -153,12 +153,7 @@ fn push_named_step(
 }
 
 // Appends some words, a number, and what ends them.
-fn push_counted_step(
-    out: &mut Vec<u8>,
-    words: &[u8],
-    n: u64,
-    end: &[u8],
-) -> Result<(), AllocError>
+fn push_counted_step(out: &mut Vec<u8>, words: &[u8], n: u64, end: &[u8]) -> Result<(), AllocError>
     ensures { OnOk result (out.new.items ≡ out.old.items ++ (words.now ++ decimal n ++ end.now)) }
 {
     push_counted(out, words, n)?;

@@ -1,7 +1,7 @@
 ghost use Rattle.std.specs.Prelude.{◌≡◌, ◌++◌, ◌∷◌, ◌+◌, ◌-◌, [], Some, None, OnOk, IfOk, MatchOption};
 ghost use Rattle.job_tree.specs.Blocks.{step_of, steps_of, handled_of, cleaned_of};
 ghost use Rattle.job_syntax.specs.Pieces.{block_or_end};
-ghost use Rattle.job_syntax.specs.Depth.{AreWithin, IsWithin, IsGrantWithin, IsHandlerWithin, IsCleanupWithin};
+ghost use Rattle.job_syntax.specs.Depth.{IfBlock, AreWithin, IsWithin, IsHandlerWithin, IsCleanupWithin};
 ghost use Rattle.job_reader.specs.Jobs.{IsReadable};
 ghost use Rattle.job_layout.specs.Spaced.{after_gap};
 ghost use Rattle.job_layout.specs.Layout.{one_line, fitting_line, with_steps, with_step, with_rest, semicolon_mark, with_block, with_handler, with_cleanup, job_tokens};
@@ -127,7 +127,7 @@ fn push_grant(
     ask: Ask,
     body: &Body,
 ) -> Result<(), AllocError>
-    requires { IsGrantWithin (32 - level) ask body.now }
+    requires { IfBlock ask (IsNested level body.now) }
     ensures { OnOk result (layout.new ≡ block_or_end ask
         (with_block bare.now level body.now (with_steps bare.now (level + 1) body.now) layout.old)
         (layout.old ++ semicolon_mark ∷ [])) }

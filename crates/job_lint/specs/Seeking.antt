@@ -3,8 +3,7 @@ use Rattle.std.specs.Prelude.{ℕ, Bool, true, false, ◌&&◌, ◌||◌, List, 
 use Rattle.std.specs.Str.{bytes_eq}
 use Rattle.job_tree.specs.declared.deadline.Deadline.{Deadline}
 use Rattle.job_tree.specs.declared.deadline.Deadline.TheVariants.{Never, After, At}
-use Rattle.job_tree.specs.declared.object.ObjectKind.{ObjectKind}
-use Rattle.job_tree.specs.declared.object.ObjectKind.TheVariants.{Limiter, Channel}
+use Rattle.job_tree.specs.declared.object.ObjectKind.TheVariants.{Limiter}
 use Rattle.job_tree.specs.declared.object.Ask.{Ask}
 use Rattle.job_tree.specs.declared.object.Ask.TheVariants.{Acquire, Send, Receive}
 use Rattle.job_tree.specs.Tree.{Step, sleep, checkpoint, forever, pace, find, head, longest, need, raise, cancel, set_event, wait_for, ask_for, close_channel, scope, nursery, event, object, start, repeat, attempt, Steps, stop, step, Handled, unhandled, except, Cleaned, uncleaned, finally}

@@ -1,5 +1,5 @@
 -- What holds of a job that a text spells.
-use Rattle.std.proofs.Common.{ℕ, List, [], false, None, refl, ap, sym, ◌∙◌}
+use Rattle.std.proofs.Common.{ℕ, List, [], false, refl, ap, sym, ◌∙◌}
 use Rattle.job_tree.specs.declared.format.Format.{Format}
 use Rattle.job_tree.specs.Tree.{Tree}
 use Rattle.job_tree.specs.Names.{GivesNamesOnce, size_of}

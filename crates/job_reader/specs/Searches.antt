@@ -1,5 +1,5 @@
 -- The state of a search for a stray use of a name.
-use Rattle.std.specs.Prelude.{ℕ, List, [], ◌∷◌, Option}
+use Rattle.std.specs.Prelude.{ℕ, List, [], Option}
 use Rattle.job_reader.specs.declared.uses.Search.{Search}
 use Rattle.job_reader.specs.declared.uses.Search.TheVariants.{Passed, Stopped}
 use Rattle.job_reader.specs.declared.uses.Around.{Around, Nothing, Inside'}

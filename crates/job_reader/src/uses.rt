@@ -125,15 +125,15 @@ fn search_inside<'a>(
     ensures { (more : List Use) → found_in result more
         ≡ found_in search.entry (uses_of (inside kind name.now (named_around around.now)) body.now ++ more) }
 {
-    search_steps(body.as_slice(), &Around::Inside(kind, &*name, &*around), search)
+    search_steps(
+        body.as_slice(),
+        &Around::Inside(kind, &*name, &*around),
+        search,
+    )
 }
 
 #[cycle(search)]
-fn search_handler<'a>(
-    handler: &Option<Handler>,
-    around: &Around,
-    search: Search<'a>,
-) -> Search<'a>
+fn search_handler<'a>(handler: &Option<Handler>, around: &Around, search: Search<'a>) -> Search<'a>
     ensures { (more : List Use) → found_in result more
         ≡ found_in search.entry (handled_uses (named_around around.now) (handled_of handler.now) ++ more) }
 {
@@ -155,12 +155,7 @@ fn search_cleanup<'a>(cleanup: &Option<Body>, around: &Around, search: Search<'a
 }
 
 // Continues the search past one use of a name, which is the next name that a step uses. `kind` is what the step uses.
-fn search_use<'a>(
-    kind: TargetKind,
-    name: &Name,
-    around: &Around,
-    search: Search<'a>,
-) -> Search<'a>
+fn search_use<'a>(kind: TargetKind, name: &Name, around: &Around, search: Search<'a>) -> Search<'a>
     ensures { (more : List Use) → found_in result more
         ≡ found_in search.entry (use_of kind name.now (named_around around.now) ∷ more) }
 {

@@ -4,7 +4,7 @@ use Rattle.std.specs.Str.{bytes_eq}
 use Rattle.std.proofs.lemmas.Slice.Eq.{bytes_eq-Decides}
 use Rattle.job_tree.specs.declared.format.Format.{Format}
 use Rattle.job_tree.specs.declared.format.Format.TheVariants.{One, Two, Three}
-use Rattle.job_tree.specs.Formats.{extends_format_1, has_events}
+use Rattle.job_tree.specs.Formats.{has_events}
 use Rattle.job_tree.specs.declared.deadline.Deadline.TheVariants.{Never, After, At}
 use Rattle.job_tree.specs.declared.object.ObjectKind.{ObjectKind}
 use Rattle.job_tree.specs.declared.object.ObjectKind.TheVariants.{Limiter, Channel}

@@ -8,6 +8,12 @@ use Rattle.job_tree.specs.declared.object.Ask.{Ask}
 use Rattle.job_tree.specs.declared.object.Ask.TheVariants.{Acquire, Send, Receive}
 use Rattle.job_tree.specs.Tree.{Step, sleep, checkpoint, forever, pace, find, head, longest, need, raise, cancel, set_event, wait_for, ask_for, close_channel, scope, nursery, event, object, start, repeat, attempt, Steps, stop, step, Handled, unhandled, except, Cleaned, uncleaned, finally}
 
+-- what holds of the block of a step that asks for something; a `send` has no block
+abbrev pub IfBlock : Ask → Type 0 → Type 0
+IfBlock Acquire is = is
+IfBlock Send is = Unit {0}
+IfBlock Receive is = is
+
 abbrev mutual
   -- blocks are nested at most `depth` deep inside a block
   pub AreWithin : ℕ → Steps → Type 0
@@ -27,7 +33,7 @@ abbrev mutual
   IsWithin depth (cancel name) = Unit {0}
   IsWithin depth (set_event name) = Unit {0}
   IsWithin depth (wait_for name) = Unit {0}
-  IsWithin depth (ask_for name ask body) = IsGrantWithin depth ask body
+  IsWithin depth (ask_for name ask body) = IfBlock ask ((0 < depth) × AreWithin (depth - 1) body)
   IsWithin depth (close_channel name) = Unit {0}
   IsWithin depth (scope name deadline shield fail body) = (0 < depth) × AreWithin (depth - 1) body
   IsWithin depth (nursery name deadline shield body) = (0 < depth) × AreWithin (depth - 1) body
@@ -37,12 +43,6 @@ abbrev mutual
   IsWithin depth (repeat count over body) = (0 < depth) × AreWithin (depth - 1) body
   IsWithin depth (attempt body handler cleanup) = ((0 < depth) × AreWithin (depth - 1) body) × IsHandlerWithin depth handler
       × IsCleanupWithin depth cleanup
-
-  -- a `send` has no block
-  pub IsGrantWithin : ℕ → Ask → Steps → Type 0
-  IsGrantWithin depth Acquire body = (0 < depth) × AreWithin (depth - 1) body
-  IsGrantWithin depth Send body = Unit {0}
-  IsGrantWithin depth Receive body = (0 < depth) × AreWithin (depth - 1) body
 
   pub IsHandlerWithin : ℕ → Handled → Type 0
   IsHandlerWithin depth unhandled = Unit {0}

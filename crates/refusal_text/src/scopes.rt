@@ -84,11 +84,7 @@ fn search_steps(
 
 // Searches a step.
 #[cycle(search)]
-fn search_step(
-    alloc: Global,
-    step: &Step,
-    around: &Around,
-) -> Result<Option<Vec<Name>>, AllocError>
+fn search_step(alloc: Global, step: &Step, around: &Around) -> Result<Option<Vec<Name>>, AllocError>
     ensures { IfOk result (λ found. (more : List Use) →
         around_stray (uses_in (named_around around.now) (step_of step.now) ++ more)
         ≡ or_names (names_held found) (around_stray more)) }
@@ -151,7 +147,11 @@ fn search_inside(
         around_stray (uses_of (inside kind name.now (named_around around.now)) body.now ++ more)
         ≡ or_names (names_held found) (around_stray more)) }
 {
-    search_steps(alloc, body.as_slice(), &Around::Inside(kind, &*name, &*around))
+    search_steps(
+        alloc,
+        body.as_slice(),
+        &Around::Inside(kind, &*name, &*around),
+    )
 }
 
 // Searches a step that uses a name and has a block.

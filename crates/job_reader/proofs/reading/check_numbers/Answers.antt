@@ -1,4 +1,4 @@
-use Rattle.std.proofs.Common.{None, sym, ap, ◌∙◌}
+use Rattle.std.proofs.Common.{sym, ap, ◌∙◌}
 use Rattle.job_tree.specs.declared.format.Format.{Format}
 use Rattle.job_syntax.specs.Ranges.{number_fault}
 use Rattle.std.proofs.lemmas.Result.{on_ok_weaker}
