@@ -50,49 +50,58 @@ fn push_sentence(text: &mut Vec<u8>, lint: Lint, name: &[u8]) -> Result<(), Allo
 fn push_idle_scope(text: &mut Vec<u8>, name: &[u8]) -> Result<(), AllocError>
     ensures { OnOk result (text.new.items ≡ text.old.items ++ idle_scope_text name.now) }
 {
-    text.extend_from_slice(b"nothing cancels the scope ")?;
-    text.extend_from_slice(name)?;
-    text.extend_from_slice(b": it has no deadline, and no `cancel ")?;
-    text.extend_from_slice(name)?;
-    text.extend_from_slice(b"` is in it")
+    push_twice(
+        text,
+        b"nothing cancels the scope ",
+        name,
+        b": it has no deadline, and no `cancel ",
+        b"` is in it",
+    )
 }
 
 fn push_unset_event(text: &mut Vec<u8>, name: &[u8]) -> Result<(), AllocError>
     ensures { OnOk result (text.new.items ≡ text.old.items ++ unset_event_text name.now) }
 {
-    text.extend_from_slice(b"nothing sets the event ")?;
-    text.extend_from_slice(name)?;
-    text.extend_from_slice(b": no `set ")?;
-    text.extend_from_slice(name)?;
-    text.extend_from_slice(b"` is in it")
+    push_twice(
+        text,
+        b"nothing sets the event ",
+        name,
+        b": no `set ",
+        b"` is in it",
+    )
 }
 
 fn push_unawaited_event(text: &mut Vec<u8>, name: &[u8]) -> Result<(), AllocError>
     ensures { OnOk result (text.new.items ≡ text.old.items ++ unawaited_event_text name.now) }
 {
-    text.extend_from_slice(b"nothing waits for the event ")?;
-    text.extend_from_slice(name)?;
-    text.extend_from_slice(b": no `wait ")?;
-    text.extend_from_slice(name)?;
-    text.extend_from_slice(b"` is in it")
+    push_twice(
+        text,
+        b"nothing waits for the event ",
+        name,
+        b": no `wait ",
+        b"` is in it",
+    )
 }
 
 fn push_unused_limiter(text: &mut Vec<u8>, name: &[u8]) -> Result<(), AllocError>
     ensures { OnOk result (text.new.items ≡ text.old.items ++ unused_limiter_text name.now) }
 {
-    text.extend_from_slice(b"nothing asks for a token of the limiter ")?;
-    text.extend_from_slice(name)?;
-    text.extend_from_slice(b": no `acquire ")?;
-    text.extend_from_slice(name)?;
-    text.extend_from_slice(b"` is in it")
+    push_twice(
+        text,
+        b"nothing asks for a token of the limiter ",
+        name,
+        b": no `acquire ",
+        b"` is in it",
+    )
 }
 
 fn push_order_inversion(text: &mut Vec<u8>, name: &[u8]) -> Result<(), AllocError>
     ensures { OnOk result (text.new.items ≡ text.old.items ++ order_inversion_text name.now) }
 {
-    text.extend_from_slice(b"tokens of ")?;
-    text.extend_from_slice(name)?;
-    text.extend_from_slice(
+    push_around(
+        text,
+        b"tokens of ",
+        name,
         b" and of a limiter in it are asked for in both orders, each while the other is held: this may deadlock",
     )
 }
@@ -112,11 +121,13 @@ fn push_unsent_channel(text: &mut Vec<u8>, name: &[u8]) -> Result<(), AllocError
 fn push_unreceived_channel(text: &mut Vec<u8>, name: &[u8]) -> Result<(), AllocError>
     ensures { OnOk result (text.new.items ≡ text.old.items ++ unreceived_channel_text name.now) }
 {
-    text.extend_from_slice(b"nothing receives from the channel ")?;
-    text.extend_from_slice(name)?;
-    text.extend_from_slice(b": no `receive ")?;
-    text.extend_from_slice(name)?;
-    text.extend_from_slice(b"` is in it")
+    push_twice(
+        text,
+        b"nothing receives from the channel ",
+        name,
+        b": no `receive ",
+        b"` is in it",
+    )
 }
 
 fn push_unclosed_channel(text: &mut Vec<u8>, name: &[u8]) -> Result<(), AllocError>
@@ -192,9 +203,40 @@ fn is_closing(name: &[u8]) -> bool
 fn push_late_cancel(text: &mut Vec<u8>, name: &[u8]) -> Result<(), AllocError>
     ensures { OnOk result (text.new.items ≡ text.old.items ++ late_cancel_text name.now) }
 {
-    text.extend_from_slice(b"`cancel ")?;
-    text.extend_from_slice(name)?;
-    text.extend_from_slice(
+    push_around(
+        text,
+        b"`cancel ",
+        name,
         b"` in a cleanup or handler takes effect a tick later than in Trio, which may change the outcome: format 3 has Trio's outcome",
     )
+}
+
+// Appends some words, a name, and other words.
+fn push_around(
+    text: &mut Vec<u8>,
+    before: &[u8],
+    name: &[u8],
+    after: &[u8],
+) -> Result<(), AllocError>
+    ensures { OnOk result (text.new.items ≡ text.old.items ++ (before.now ++ name.now ++ after.now)) }
+{
+    text.extend_from_slice(before)?;
+    text.extend_from_slice(name)?;
+    text.extend_from_slice(after)
+}
+
+// Appends some words, a name, other words, the name again, and what ends the sentence.
+fn push_twice(
+    text: &mut Vec<u8>,
+    before: &[u8],
+    name: &[u8],
+    between: &[u8],
+    after: &[u8],
+) -> Result<(), AllocError>
+    ensures { OnOk result (text.new.items
+        ≡ text.old.items ++ (before.now ++ name.now ++ between.now ++ name.now ++ after.now)) }
+{
+    push_around(text, before, name, between)?;
+    text.extend_from_slice(name)?;
+    text.extend_from_slice(after)
 }

@@ -10,6 +10,7 @@ use Rattle.trio_text.specs.Blocks.{OrPass, Inside, Writes, WritesStep}
 abbrev pub Block : Known → Steps → ℕ → List ℕ → List ℕ → List ℕ → Type 0
 Block known body level around = Inside (OrPass body (Writes known around body)) level
 
+-- the same block, where the level and the nursery are said in another way
 pub moved : (known : Known) (body : Steps) (level deep : ℕ) (around near a b : List ℕ) → deep ≡ level → near ≡ around →
     Block known body deep near a b → Block known body level around a b
 moved known body level deep around near a b same_level same_around is =
