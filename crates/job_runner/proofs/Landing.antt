@@ -1,13 +1,13 @@
 -- A runner whose clock jumped: whether it may, and its state when the tasks that may continue
 -- are ready.
-use Rattle.std.proofs.Common.{◌≡◌, ◌≢◌, ℕ, suc, ◌<◌, ◌≤◌, ◌^◌, max, Option, Some, None, List, [], ◌∷◌, map, refl, ap, sym, ◌∙◌, arith}
+use Rattle.std.proofs.Common.{◌≡◌, ◌≢◌, ℕ, suc, ◌<◌, ◌≤◌, ◌^◌, max, Option, Some, None, List, [], ◌∷◌, ◌++◌, map, refl, ap, sym, ◌∙◌, arith}
 use Rattle.std.specs.Option.{option_map}
 use Rattle.std.proofs.lemmas.List.Elements.{All-map, All-nil}
 use Rattle.clock.specs.Clock as timers
 use Rattle.clock.specs.Clock.{now_of, limit_of, HasTimer, AllLater, JumpsTo, MeetsLimit}
 use Rattle.task_table.specs.declared.entry.Entry.{Entry}
 use Rattle.task_table.specs.Batch.{Batches}
-use Rattle.task_table.specs.Entries.{Added, NonePlaced, without_answer}
+use Rattle.task_table.specs.Entries.{Added, NonePlaced, added_of, without_answer}
 use Rattle.cancel_scopes.specs.Sight.{Tick}
 use Rattle.job_meaning.specs.Meaning.{meaning_end}
 use Rattle.job_meaning.specs.Moments.{clock_of, tick_of}
@@ -21,10 +21,11 @@ use Rattle.clock.specs.Sleeping.{IsFirst}
 use Rattle.job_runner.specs.declared.runner.Runner.{Runner}
 use Rattle.job_runner.specs.Jumps.{IsNextMoment, IsPast, IsWaking, WakesOnly}
 use Rattle.job_runner.specs.Limits.{last_of}
+use Rattle.job_runner.specs.Shared.{later_calls, ready_calls}
 use Rattle.job_runner.specs.Phases.{phase_by, phase_of}
 use Rattle.task_table.specs.TaskTable.{running_at, task_of, ended_task_of}
 use Rattle.task_table.specs.Rows.{times}
-use Rattle.job_runner.specs.Shelves.{IsCalledAdded, IsCalledEntry, AreShelved, IsRefined, IsUnderway, NoneChanged, running_times, times_shelved}
+use Rattle.job_runner.specs.Shelves.{IsCalledAdded, IsCalledEntry, IsAddedOf, IsEntryOf, HoldsParts, AreShelved, IsRefined, IsUnderway, NoneChanged, running_times, times_shelved}
 use Rattle.job_runner.proofs.Jumped.{timers_later, cancel_later, has_timer, root_lives, is_next_moment, next_later, interleaving_jumps, ends_later, later_consistent, has_jumped}
 use Rattle.job_runner.proofs.States.{moment_bounded}
 use Rattle.job_runner.proofs.Shelving.{none_away, times_next, times_now}
@@ -57,15 +58,41 @@ turned_over {r} batch h none current next =
       known = h.known;
       current = rw current (All-map (IsCalledEntry r.task_table r.world) without_answer r.batch.next h.next);
       next = rw next (All-nil (IsCalledAdded r.task_table r.world));
+      none_later = h.none_later;
+      later = h.later;
       once = λ id other.
-          let all : times_shelved r.batch r.clock id ≡ running_times r.world.book (running_at r.task_table id) = h.once id other in
+          let all : times_shelved r.batch (later_calls r) r.clock id ≡ running_times r.world.book (running_at r.task_table id) = h.once id other in
           let was : times_now id r.batch.current ≡ 0 = ap (times_now id) none in
           let a : times_now id batch.current ≡ times_next id r.batch.next =
           ap (times_now id) current ∙ ap (times id) (same_tasks r.batch.next) in
           let b : times_next id batch.next ≡ 0 = ap (times_next id) next in
           omega (arith, all, was, a, b);
-      away = none_away (λ (x : ℕ). times_shelved batch r.clock x ≡ 0);
+      away = none_away (λ (x : ℕ). times_shelved batch (later_calls r) r.clock x ≡ 0);
     }
+
+same_added : (added : List Added) → map added_of (map without_answer added) ≡ added
+same_added [] = refl
+same_added (a ∷ added) = ap (λ (xs : List Added). a ∷ xs) (same_added added)
+
+-- so the same tasks are ready
+pub turned_calls : (r : Runner) (batch : Batches) → r.batch.current ≡ [] → batch.current ≡ map without_answer r.batch.next → batch.next ≡ [] →
+    ready_calls (record r { batch = batch }) ≡ ready_calls r
+turned_calls r batch none current next =
+    ap (λ (es : List Entry). map added_of es ++ (batch.next ++ later_calls r)) current
+    ∙ ap (λ (xs : List Added). map added_of (map without_answer r.batch.next) ++ (xs ++ later_calls r)) next
+    ∙ ap (λ (xs : List Added). xs ++ later_calls r) (same_added r.batch.next)
+    ∙ sym (ap (λ (es : List Entry). map added_of es ++ (r.batch.next ++ later_calls r)) none)
+
+-- and their parts are of the same input
+pub turned_parts : {r : Runner} (batch : Batches) → HoldsParts r → batch.current ≡ map without_answer r.batch.next → batch.next ≡ [] →
+    HoldsParts (record r { batch = batch })
+turned_parts {r} batch h current next = record {
+  objects = h.objects;
+  round = h.round;
+  current = rw current (All-map (IsEntryOf r.input.now) without_answer r.batch.next h.next);
+  next = rw next (All-nil (IsAddedOf r.input.now));
+  later = h.later;
+}
 
 -- ---- a run that is blocked
 

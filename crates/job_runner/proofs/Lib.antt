@@ -5,6 +5,8 @@ pub mod States
 pub mod Lived
 pub mod Known
 pub mod Shelving
+pub mod Granted
+pub mod GrantedRows
 pub mod Readied
 pub mod WokenWaiters
 pub mod Signalled
@@ -19,6 +21,7 @@ pub mod Waiters
 pub mod FewRequests
 pub mod Rounds
 pub mod Starting
+pub mod TakenActs
 pub mod Turning
 pub mod Turns
 pub mod Committing

@@ -11,7 +11,7 @@ use Rattle.task_table.specs.declared.entry.Call.{Call}
 use Rattle.task_table.specs.declared.entry.Call.TheVariants as calls
 use Rattle.cancel_scopes.specs.Sight.{Tick, is_reached}
 use Rattle.task_machine.specs.declared.stop.TaskState.{TaskState}
-use Rattle.task_machine.specs.declared.stop.TaskState.TheVariants.{ToBegin, Asked, Asleep, Waiting, GivingUp, Awaits, Over}
+use Rattle.task_machine.specs.declared.stop.TaskState.TheVariants.{ToBegin, Asked, Asleep, Waiting, Queued, GivingUp, Awaits, Over}
 use Rattle.task_machine.specs.declared.world.World.{World}
 use Rattle.task_machine.specs.Events.{WaitsWithin}
 use Rattle.task_machine.specs.Tasks.{scope_of}
@@ -28,7 +28,8 @@ use Rattle.task_table.proofs.Lists.{push_some}
 use Rattle.task_table.proofs.Times.{one_if}
 use Rattle.job_runner.specs.declared.runner.Runner.{Runner}
 use Rattle.job_runner.specs.Jumps.{seen_call, sight_asleep, sight_by, sight_in, BeganBefore, Stayed, IsAnyNow, IsWaking, NoneSees, WakesOnly}
-use Rattle.job_runner.specs.Shelves.{GoesBy, IsCalled, IsCalledAdded, IsCalledEntry, IsConsistent, DozesIn, Stays, AllStay, sleep_slot_of, wait_slot_of, timer_times, times_shelved, running_times, task_state_times, settled_times, AreShelved}
+use Rattle.job_runner.specs.Shared.{later_calls}
+use Rattle.job_runner.specs.Shelves.{GoesBy, IsCalled, IsCalledAdded, IsCalledEntry, IsCalledLater, IsConsistent, DozesIn, Stays, AllStay, sleep_slot_of, wait_slot_of, timer_times, times_shelved, running_times, task_state_times, settled_times, AreShelved}
 use Rattle.job_runner.proofs.Counting.{count_below, fewer_below, found_within}
 use Rattle.job_runner.proofs.Goes.{due_goes, seen_goes}
 use Rattle.job_runner.proofs.Known.{SleepsIn, seen_by, known_without, sees_from}
@@ -56,6 +57,7 @@ running_most book (Some x) = by_task_state x.task.task_state
     by_task_state (Asked kernel purpose) = omega arith
     by_task_state (Asleep paced ticks since) = omega arith
     by_task_state (Waiting event since) = omega arith
+    by_task_state (Queued object ask since body) = omega arith
     by_task_state (GivingUp since) = omega arith
     by_task_state (Awaits id since) = by_settled (nursery_at book id)
     by_task_state Over = omega arith
@@ -74,6 +76,7 @@ consistent_still h time = record {
   bounded = h.bounded;
   none_started = h.none_started;
   none_set = h.none_set;
+  none_done = h.none_done;
 }
 
 -- how many timers there are
@@ -123,10 +126,11 @@ module _ {old new : Runner} {id : ℕ} {call : Call} (h : IsWaking old) (w : Wak
   left other tick e =
       sym (w.timers.others other (λ f. none-some tick (sym w.timers.changed ∙ (ap (due_of new.clock) (sym f) ∙ e)))) ∙ e
 
-  once : (other : ℕ) → times_shelved new.batch new.clock other ≡ running_times old.world.book (running_at old.task_table other)
+  once : (other : ℕ) →
+      times_shelved new.batch (later_calls old) new.clock other ≡ running_times old.world.book (running_at old.task_table other)
   once other =
-      let all : times_shelved old.batch old.clock other ≡ running_times old.world.book (running_at old.task_table other) = h.once other in
-      let more = shelved_more old.batch new.batch old.clock id call w.current w.next other in
+      let all : times_shelved old.batch (later_calls old) old.clock other ≡ running_times old.world.book (running_at old.task_table other) = h.once other in
+      let more = shelved_more old.batch new.batch (later_calls old) old.clock id call w.current w.next other in
       elim (eqb_tells id other) [
         | inl same ↦
             let one : one_if (id == other) ≡ 1 = ap one_if same.0 in
@@ -149,6 +153,8 @@ module _ {old new : Runner} {id : ℕ} {call : Call} (h : IsWaking old) (w : Wak
         unchanged = h.unchanged;
         none_current = w.current ∙ h.none_current;
         next = rw w.next (All-push (IsCalledAdded old.task_table old.world) old.batch.next (id, call) h.next called);
+        none_left = h.none_left;
+        none_later = h.none_later;
         once = once;
         someone = inl (λ e. push_some old.batch.next (id, call) (sym w.next ∙ e));
       })
@@ -176,6 +182,7 @@ within_by (Waiting event since) t began bounded = let lt : since < t = began in 
 within_by (ToBegin at) t began bounded = tt
 within_by (Asked kernel purpose) t began bounded = tt
 within_by (Asleep paced ticks since) t began bounded = tt
+within_by (Queued object ask since body) t began bounded = tt
 within_by (GivingUp since) t began bounded = tt
 within_by (Awaits id since) t began bounded = tt
 within_by Over t began bounded = tt
@@ -251,6 +258,8 @@ module _ {was r : Runner} (sleepers : Sleeping) (s : IsSeeing was r) (none : Non
     unchanged = s.waking.unchanged;
     none_current = s.waking.none_current;
     next = s.waking.next;
+    none_left = s.waking.none_left;
+    none_later = s.waking.none_later;
     once = s.waking.once;
     someone = s.waking.someone;
   }
@@ -317,6 +326,8 @@ dozes_on world scope (ToBegin at) began unseen = tt
 dozes_on world scope (Asked kernel purpose) began unseen = tt
 dozes_on world scope (Asleep paced ticks since) began unseen = (let a : since < world.tick = began in omega (arith, a), inl unseen)
 dozes_on world scope (Waiting event since) began unseen = (let a : since < world.tick = began in omega (arith, a), inl unseen)
+dozes_on world scope (Queued object ask since body) began unseen =
+    (let a : since < world.tick = began in omega (arith, a), inl unseen)
 dozes_on world scope (GivingUp since) began unseen = tt
 dozes_on world scope (Awaits id since) began unseen = tt
 dozes_on world scope Over began unseen = tt
@@ -358,11 +369,13 @@ module _ {was r : Runner} (clock : Clock) (s : IsDue was r) (none : NoneDue r.cl
         let over = s.waking.none_current in
         rw over (All-nil (IsCalledEntry r.task_table r.world));
     next = s.waking.next;
+    none_later = s.waking.none_left;
+    later = (let none = s.waking.none_later in rw none (All-nil (IsCalledLater r.task_table r.world)));
     once = λ id other.
-        let all : times_shelved r.batch r.clock id ≡ running_times r.world.book (running_at r.task_table id) = s.waking.once id in
+        let all : times_shelved r.batch (later_calls r) r.clock id ≡ running_times r.world.book (running_at r.task_table id) = s.waking.once id in
         let same : timer_times (due_of clock id) ≡ timer_times (due_of r.clock id) = ap timer_times (none.unchanged.timers id) in
         omega (arith, all, same);
-    away = none_away (λ (x : ℕ). times_shelved r.batch clock x ≡ 0);
+    away = none_away (λ (x : ℕ). times_shelved r.batch (later_calls r) clock x ≡ 0);
   }
 
   none_timely : IsAnyNow r.task_table r.world r.clock → ⊥

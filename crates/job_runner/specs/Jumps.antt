@@ -123,10 +123,11 @@ pub record IsWaking (r : Runner) : Type 0 where
   pub unchanged : NoneChanged r.world
   pub none_current : r.batch.current ≡ []
   pub next : All (IsCalledAdded r.task_table r.world) r.batch.next
-  -- those that continue a round later do so in this moment
-  pub later : All (IsCalledAdded r.task_table r.world) (later_calls r)
+  -- those that continue a round later are among these
+  pub none_left : r.later.current ≡ []
+  pub none_later : later_calls r ≡ []
   pub once : (id : ℕ) → times_shelved r.batch (later_calls r) r.clock id ≡ running_times r.world.book (running_at r.task_table id)
-  pub someone : (r.batch.next ≢ []) ⊎ ((later_calls r ≢ []) ⊎ IsAnyNow r.task_table r.world r.clock)
+  pub someone : (r.batch.next ≢ []) ⊎ IsAnyNow r.task_table r.world r.clock
 
 -- no sleeper is left that sees a cancellation
 abbrev pub NoneSees : Runner → Type 0
@@ -134,6 +135,6 @@ NoneSees r =
     (id due : ℕ) → due_of r.clock id ≡ Some due → IsSomeAnd (running_at r.task_table id)
     (λ (x : Running). is_reached (sight_asleep r.world (scope_of x.task) x.task.task_state) r.world.tick ≡ false)
 
--- nothing but the timers, the sleepers, the tasks that wait for events, those that continue a round later and the next batch changed
+-- nothing but the timers, the sleepers, the tasks that wait for events and the next batch changed
 abbrev pub WakesOnly : Runner → Runner → Type 0
-WakesOnly old new = new ≡ record old { clock = new.clock; sleepers = new.sleepers; waiters = new.waiters; batch = new.batch; later = new.later }
+WakesOnly old new = new ≡ record old { clock = new.clock; sleepers = new.sleepers; waiters = new.waiters; batch = new.batch }
