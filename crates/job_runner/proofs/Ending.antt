@@ -185,6 +185,10 @@ module _ {r : Runner} {task_table : TaskTable} {id row : ℕ} {exc : Option held
       granted_left : (p : ℕ) → granted_of task_table (ready_calls r) p ≡ granted_of r.task_table (ready_calls r) p
       granted_left p = ap (λ (i : ℕ). granted_if i (ready_calls r) p (running_at task_table i)) (e.same.id p) ∙ by_id (cases_eq (id_of r.task_table p) id)
         where
+          if_absent : (q : ℕ) (o : Option Running) → granted_among id (ready_calls r) ≡ None → granted_if id (ready_calls r) q o ≡ None
+          if_absent q None none = refl
+          if_absent q (Some x) none = if_none (x.row == q) (granted_among id (ready_calls r)) none
+
           by_id : (id_of r.task_table p ≡ id) ⊎ (id_of r.task_table p ≢ id) →
               granted_if (id_of r.task_table p) (ready_calls r) p (running_at task_table (id_of r.task_table p))
               ≡ granted_of r.task_table (ready_calls r) p
@@ -193,10 +197,6 @@ module _ {r : Runner} {task_table : TaskTable} {id row : ℕ} {exc : Option held
               rw same (ap (granted_if id (ready_calls r) p) e.removed
               ∙ sym (if_absent p (running_at r.task_table id) (among_absent id (ready_calls r) (absent_ready r id (omega (arith, no))))))
           by_id (inr differs) = ap (granted_if (id_of r.task_table p) (ready_calls r) p) (e.others (id_of r.task_table p) differs)
-
-          if_absent : (q : ℕ) (o : Option Running) → granted_among id (ready_calls r) ≡ None → granted_if id (ready_calls r) q o ≡ None
-          if_absent q None none = refl
-          if_absent q (Some x) none = if_none (x.row == q) (granted_among id (ready_calls r)) none
 
   -- after its end is recorded, the run is one of the definitions, and no end is left to record
   pub interleaving_after : IsRefined (ended_runner r task_table book)

@@ -12,6 +12,7 @@ pub mod WokenWaiters
 pub mod Signalled
 pub mod AtOnce
 pub mod Stopped
+pub mod Asking
 pub mod Counting
 pub mod Waking
 pub mod Jumped
@@ -22,6 +23,7 @@ pub mod FewRequests
 pub mod Rounds
 pub mod Starting
 pub mod TakenActs
+pub mod ObjectTables
 pub mod Turning
 pub mod Turns
 pub mod Committing

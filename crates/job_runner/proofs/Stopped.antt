@@ -1,6 +1,6 @@
 -- A task that stopped is put where it belongs: in the next batch, among those with a timer, or nowhere while it waits.
 use Rattle.std.proofs.Common.{◌≡◌, ◌≢◌, ℕ, zero, suc, ◌+◌, ◌<◌, ◌≤◌, ◌^◌, Bool, true, false, inl, inr, List, Option, Some, None, [], ◌∷◌, ◌++◌, refl, ap, sym, ◌∙◌, subst, arith, if◌then◌else◌}
-use Rattle.std.specs.Prelude.{◌==◌, ◌⊎◌, nat_le, slice_get, IsSomeAnd, IsSome, is_some}
+use Rattle.std.specs.Prelude.{◌==◌, ◌⊎◌, All, nat_le, slice_get, IsSomeAnd, IsSome, is_some}
 use Rattle.std.specs.Option.{ForSome}
 use Rattle.std.proofs.lemmas.Bool.{cases_eq}
 use Rattle.std.proofs.lemmas.Bool.Decides.{eqb_tells}
@@ -45,7 +45,7 @@ use Rattle.task_table.specs.Rows.{times}
 use Rattle.task_table.proofs.Times.{one_if, times_cons}
 use Rattle.job_runner.specs.declared.runner.Runner.{Runner}
 use Rattle.job_runner.specs.Shared.{what_of, granted_among, later_calls, ready_calls, sharing_of, IsCallOf}
-use Rattle.job_runner.specs.Shelves.{GoesBy, IsCalled, moment_of, Stays, AllStay, sleeps_in, sleep_slot_of, if_unset, waits_in, wait_slot_of, AreKnown, AreShelved, timer_times, times_shelved, running_times, task_state_times, settled_times, IsConsistent, IsAddedOf, IsBetweenTurns}
+use Rattle.job_runner.specs.Shelves.{GoesBy, IsActOf, IsCalled, IsRefined, moment_of, Stays, AllStay, sleeps_in, sleep_slot_of, if_unset, waits_in, wait_slot_of, AreKnown, AreShelved, timer_times, times_shelved, running_times, task_state_times, settled_times, IsConsistent, IsAddedOf, IsBetweenTurns}
 use Rattle.job_runner.specs.Steps.{asked_in, state_after, IsReadied, IsStopping, SleepsIn, PutsToSleep}
 use Rattle.job_runner.specs.Turns.{at_once, call_at_once}
 use Rattle.job_runner.proofs.AtOnce.{wait_bounded}
@@ -76,6 +76,10 @@ left_refined {r} {id} {row} {stop} h alive none calls same k settled =
     (subst (Refines k r.job.now r.input.now r.world.tick (task_count r.task_table) (leaving_by stop row))
     (state_left r row stop calls none same) (h.interleaving k settled).is)
 
+left_here : {r : Runner} {id row : ℕ} {stop : Stop} → IsStopping id row stop r → leaving_by stop row ≡ None → asked_in r.world row stop ≡ [] →
+    IsRefined r
+left_here {r} h alive none = left_refined h alive none (ready_calls r) (λ key. refl)
+
 -- ---- it is in the next batch
 
 -- a task that is added to the next batch by a call that grants nothing: then the run is between two turns
@@ -98,7 +102,7 @@ added_going {r} {id} {row} {stop} h alive none b call grants_none of current nex
           later = h.lent.later;
         };
       };
-      unserved = h.unserved;
+      unserved = record { through = h.unserved.through; none_granted = h.unserved.none_granted };
     }
 
 -- a task that asks is put in the next batch with its request: then the run is between two turns
@@ -184,8 +188,8 @@ module _ {id row : ℕ} {stop : Stop} {r : Runner} (h : IsStopping id row stop r
   stopping_lives = ap is_some (stopped_task h).1
 
 -- It stays until this moment, for which it has a timer now.
-module _ {id row due : ℕ} {stop : Stop} {r : Runner} (h : IsStopping id row stop r) (alive : leaving_by stop row ≡ None)
-    (none_asked : asked_in r.world row stop ≡ []) (stays : Stays r.world due (stopped_task h).0.task) {clock : timers.Clock} (u : Updates r.clock clock id (Some due))
+module _ {id row due : ℕ} {stop : Stop} {r : Runner} (h : IsStopping id row stop r) (held : Runner)
+    (refined : IsRefined (record r { round = held.round })) (acts : All (IsActOf r.input.now) held.round.items) (stays : Stays r.world due (stopped_task h).0.task) {clock : timers.Clock} (u : Updates r.clock clock id (Some due))
     (time : SameTime r.clock clock)
   where
     x : (y : Running) × (running_at r.task_table id ≡ Some y) × (y.row ≡ row) × StopSays r.world y.task stop
@@ -221,7 +225,7 @@ module _ {id row due : ℕ} {stop : Stop} {r : Runner} (h : IsStopping id row st
 
     -- it is kept by its timer, where the sleepers know it, and those that wait for events do
     going_with : (sleepers : Sleeping) (waiters : List (Option ℕ)) → AreKnown r.task_table r.world clock sleepers waiters →
-        IsBetweenTurns (record r { clock = clock; sleepers = sleepers; waiters = waiters })
+        IsBetweenTurns (record r { clock = clock; sleepers = sleepers; waiters = waiters; round = held.round })
     going_with sleepers waiters known =
         record {
           going = record {
@@ -242,16 +246,16 @@ module _ {id row due : ℕ} {stop : Stop} {r : Runner} (h : IsStopping id row st
                       (h.shelved.away id refl) counted kept_once;
                   away = none_away (λ (key : ℕ). times_shelved r.batch (later_calls r) clock key ≡ 0);
                 };
-            interleaving = left_refined h alive none_asked (ready_calls r) (λ key. refl);
+            interleaving = refined;
             lent = record {
               objects = h.lent.objects;
-              round = h.lent.round;
+              round = acts;
               current = h.lent.current;
               next = h.lent.next;
               later = h.lent.later;
             };
           };
-          unserved = h.unserved;
+          unserved = record { through = h.unserved.through; none_granted = h.unserved.none_granted };
         }
       where
         counted : (other : ℕ) → times_shelved r.batch (later_calls r) clock other
@@ -297,7 +301,8 @@ module _ {id row due : ℕ} {stop : Stop} {r : Runner} (h : IsStopping id row st
 
     -- where it sleeps in no scope either, nothing more is known of it
     going_alone : sleeps_in (stopped_task h).0.task.task_state (scope_of (stopped_task h).0.task) ≡ None →
-        waits_in (event_at r.world) (stopped_task h).0.task.task_state ≡ None → IsBetweenTurns (record r { clock = clock })
+        waits_in (event_at r.world) (stopped_task h).0.task.task_state ≡ None →
+        IsBetweenTurns (record r { clock = clock; round = held.round })
     going_alone none unwaiting =
         going_with r.sleepers r.waiters (record {
           sleep_slots = slots_known None none r.sleepers (record { changed = not_sleeping h; others = λ other differs. refl });
@@ -312,7 +317,7 @@ pub gives_up_going : {id row due : ℕ} {r : Runner} (h : IsStopping id row (sto
     Updates r.clock clock id (Some due) → SameTime r.clock clock → IsBetweenTurns (record r { clock = clock })
 gives_up_going {due = due} {r = r} h u time =
     let x = stopped_task h in
-    going_alone h refl refl (gives_up_later r.world due x.0.task x.3) u time (ap (λ (s : TaskState). sleeps_in s (scope_of x.0.task)) x.3.task_state)
+    going_alone h r (left_here h refl refl) h.lent.round (gives_up_later r.world due x.0.task x.3) u time (ap (λ (s : TaskState). sleeps_in s (scope_of x.0.task)) x.3.task_state)
     (ap (waits_in (event_at r.world)) x.3.task_state)
 
 -- ---- it sleeps, or waits for an event
@@ -330,8 +335,8 @@ pub put_in_none : (old new : Runner) (id : ℕ) (scope o : Option ℕ) → scope
 put_in_none old new id scope o e is same = subst (SleepsIn old new id) (sym is ∙ e) same
 
 -- it has a timer, and the sleepers know it by the scope that encloses it
-module _ {id row due : ℕ} {stop : Stop} {r mid : Runner} (h : IsStopping id row stop r) (alive : leaving_by stop row ≡ None)
-    (none_asked : asked_in r.world row stop ≡ []) (stays : Stays r.world due (stopped_task h).0.task) (puts : PutsToSleep id due r mid)
+module _ {id row due : ℕ} {stop : Stop} {r mid : Runner} (h : IsStopping id row stop r) (held : Runner)
+    (refined : IsRefined (record r { round = held.round })) (acts : All (IsActOf r.input.now) held.round.items) (stays : Stays r.world due (stopped_task h).0.task) (puts : PutsToSleep id due (record r { round = held.round }) mid)
     (inside : sleeps_in (stopped_task h).0.task.task_state (scope_of (stopped_task h).0.task) ≡ scope_of (stopped_task h).0.task)
   where
     sleeps_so : SleepsIn r mid id (scope_of (stopped_task h).0.task)
@@ -343,7 +348,7 @@ module _ {id row due : ℕ} {stop : Stop} {r mid : Runner} (h : IsStopping id ro
     known_by None e same waiters waiting =
         record {
           sleep_slots =
-              slots_known h alive none_asked stays puts.timers puts.time None (inside ∙ e) mid.sleepers (record {
+              slots_known h held refined acts stays puts.timers puts.time None (inside ∙ e) mid.sleepers (record {
                 changed = ap (λ (s : Sleeping). scope_in s id) same ∙ not_sleeping h;
                 others = λ other differs. ap (λ (s : Sleeping). scope_in s other) same;
               });
@@ -354,7 +359,7 @@ module _ {id row due : ℕ} {stop : Stop} {r mid : Runner} (h : IsStopping id ro
         }
     known_by (Some key) e (moves, (sight_now, sees, tells)) waiters waiting =
         record {
-          sleep_slots = slots_known h alive none_asked stays puts.timers puts.time (Some key) (inside ∙ e) mid.sleepers moves;
+          sleep_slots = slots_known h held refined acts stays puts.timers puts.time (Some key) (inside ∙ e) mid.sleepers moves;
           sights = sights;
           waiting = waiting;
         }
@@ -388,17 +393,17 @@ module _ {id row due : ℕ} {stop : Stop} {r mid : Runner} (h : IsStopping id ro
     pub sleeps_going : waits_in (event_at r.world) (stopped_task h).0.task.task_state ≡ None → IsBetweenTurns mid
     sleeps_going none =
         subst IsBetweenTurns (sym puts.rest)
-        (going_with h alive none_asked stays puts.timers puts.time mid.sleepers r.waiters
-        (known_by (scope_of (stopped_task h).0.task) refl sleeps_so r.waiters (same_waiters h alive none_asked stays puts.timers puts.time none)))
+        (going_with h held refined acts stays puts.timers puts.time mid.sleepers r.waiters
+        (known_by (scope_of (stopped_task h).0.task) refl sleeps_so r.waiters (same_waiters h held refined acts stays puts.timers puts.time none)))
 
     -- where it waits for one that nothing has set, it is when that is known too
     pub waits_going : (event : ℕ) → waits_in (event_at r.world) (stopped_task h).0.task.task_state ≡ Some event →
         (waiters : List (Option ℕ)) → WaitsFor mid.waiters waiters id (Some event) → IsBetweenTurns (record mid { waiters = waiters })
     waits_going event is waiters waits =
         subst IsBetweenTurns (sym (ap (λ (x : Runner). record x { waiters = waiters }) puts.rest))
-        (going_with h alive none_asked stays puts.timers puts.time mid.sleepers waiters
+        (going_with h held refined acts stays puts.timers puts.time mid.sleepers waiters
         (known_by (scope_of (stopped_task h).0.task) refl sleeps_so waiters
-        (waits_known h alive none_asked stays puts.timers puts.time (Some event) is waiters
+        (waits_known h held refined acts stays puts.timers puts.time (Some event) is waiters
         (subst (λ (ws : List (Option ℕ)). WaitsFor ws waiters id (Some event)) (ap (λ (x : Runner). x.waiters) puts.rest) waits))))
 
 -- a task that fell asleep now has a timer: then the run is between two turns
@@ -406,7 +411,7 @@ pub asleep_going : {id row due : ℕ} {r mid : Runner} (h : IsStopping id row (s
     IsBetweenTurns mid
 asleep_going {due = due} {r = r} h puts =
     let x = stopped_task h in
-    sleeps_going h refl refl (falls_dozing r.world due x.0.task x.3) puts (ap (λ (s : TaskState). sleeps_in s (scope_of x.0.task)) x.3.task_state)
+    sleeps_going h r (left_here h refl refl) h.lent.round (falls_dozing r.world due x.0.task x.3) puts (ap (λ (s : TaskState). sleeps_in s (scope_of x.0.task)) x.3.task_state)
     (ap (waits_in (event_at r.world)) x.3.task_state)
 
 -- ---- it waits for an event
@@ -490,7 +495,7 @@ module _ {id row event : ℕ} {r : Runner} (h : IsStopping id row (stops.WaitFor
             by_set None e = absurd (let f : false ≡ true = sym (ap is_some e) ∙ some in cc)
             by_set (Some m) e =
                 let set : (stopped_task h).3.set ≡ Some m = sym (is ∙ ap set_of same_event_there) ∙ e in
-                sleeps_going h refl refl stays_waiting puts its_scope
+                sleeps_going h r (left_here h refl refl) h.lent.round stays_waiting puts its_scope
                 (its_event (Some (Some m)) ((stopped_task h).3.is_event ∙ ap (λ (t : Tick). Some t) set))
 
         -- nothing has set it
@@ -502,7 +507,7 @@ module _ {id row event : ℕ} {r : Runner} (h : IsStopping id row (stops.WaitFor
             by_set (Some m) e = absurd (let f : true ≡ false = sym (ap is_some e) ∙ none in cc)
             by_set None e =
                 let set : (stopped_task h).3.set ≡ None = sym (is ∙ ap set_of same_event_there) ∙ e in
-                waits_going h refl refl stays_waiting puts its_scope event
+                waits_going h r (left_here h refl refl) h.lent.round stays_waiting puts its_scope event
                 (its_event (Some None) ((stopped_task h).3.is_event ∙ ap (λ (t : Tick). Some t) set)) waiters waits
 
         -- it waited for none before
@@ -600,7 +605,7 @@ module _ {r : Runner} {id row nursery : ℕ} (h : IsStopping id row (stops.Wait 
           interleaving = left_refined h refl refl (ready_calls r) (λ key. refl);
           lent = h.lent;
         };
-        unserved = h.unserved;
+        unserved = record { through = h.unserved.through; none_granted = h.unserved.none_granted };
       }
 
   -- the nursery that a task stopped to wait for is in the book

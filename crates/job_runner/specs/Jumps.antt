@@ -1,5 +1,5 @@
 -- What a jump of the clock does: to which moment, and which tasks continue then.
-use Rattle.std.specs.Prelude.{◌≡◌, ◌≢◌, ◌⊎◌, ℕ, suc, ◌<◌, ◌≤◌, max, Bool, true, false, Option, Some, None, [], All, IsSomeAnd}
+use Rattle.std.specs.Prelude.{◌≡◌, ◌≢◌, ◌⊎◌, ℕ, suc, ◌<◌, ◌≤◌, max, Bool, true, false, Option, Some, None, List, [], All, IsSomeAnd}
 use Rattle.std.specs.Option.{option_map}
 use Rattle.clock.specs.Clock.{due_of}
 use Rattle.clock.specs.Clock as timers
@@ -22,8 +22,8 @@ use Rattle.job_runner.specs.declared.fault.RunFault.{RunFault}
 use Rattle.job_runner.specs.declared.fault.RunFault.TheVariants.{Limit, NoMemory}
 use Rattle.job_runner.specs.declared.runner.Runner.{Runner}
 use Rattle.job_runner.specs.Limits.{last_of}
-use Rattle.job_runner.specs.Shared.{later_calls}
-use Rattle.job_runner.specs.Shelves.{moment_of, AreKnown, IsCalledAdded, IsConsistent, NoneChanged, times_shelved, running_times}
+use Rattle.job_runner.specs.Shared.{granted_among, later_calls, ready_calls}
+use Rattle.job_runner.specs.Shelves.{moment_of, AreKnown, IsAddedOf, IsCalledAdded, IsConsistent, NoneChanged, times_shelved, running_times}
 
 abbrev pub seen_call_if : Bool → Call
 seen_call_if true = Due
@@ -138,3 +138,8 @@ NoneSees r =
 -- nothing but the timers, the sleepers, the tasks that wait for events and the next batch changed
 abbrev pub WakesOnly : Runner → Runner → Type 0
 WakesOnly old new = new ≡ record old { clock = new.clock; sleepers = new.sleepers; waiters = new.waiters; batch = new.batch }
+
+-- nothing is granted by the calls that were added
+pub record AddsUngranted (old new : Runner) : Type 0 where
+  pub granted : (id : ℕ) → granted_among id (ready_calls new) ≡ granted_among id (ready_calls old)
+  pub parts : (input : List ℕ) → All (IsAddedOf input) old.batch.next → All (IsAddedOf input) new.batch.next
