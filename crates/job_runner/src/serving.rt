@@ -61,9 +61,9 @@ impl<'a> Runner<'a> {
     pub(crate) fn keep_ask(
         &mut self,
         row: usize,
-        request: ObjectRequest<'a>,
+        request: &ObjectRequest<'a>,
     ) -> Result<(), AllocError>
-        ensures { OnOk result (KeepsAsk self.old self.new row request.entry) }
+        ensures { OnOk result (KeepsAsk self.old self.new row request.now) }
     {
         let Some(label) = self.world.label_of(request.object) else {
             return Ok(());

@@ -107,7 +107,7 @@ impl<'a> Runner<'a> {
         ensures comes { OnOk result (ComesOf id (Queue request.entry) self.old self.new) }
         ensures same { OnOk result (IsSameTurn self.old self.new) }
     {
-        self.keep_ask(row, request)?;
+        self.keep_ask(row, &request)?;
         let now = self.world.now();
         let clock = self.world.clock();
         let last = clock.wakes_at(FAR.saturating_sub(clock.tick_of(now)), now);
