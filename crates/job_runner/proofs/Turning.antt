@@ -69,7 +69,7 @@ use Rattle.task_table.proofs.PathLemmas.{path_step}
 use Rattle.task_table.proofs.Times.{all_others, place_of, times_none}
 use Rattle.job_runner.specs.declared.runner.Runner.{Runner}
 use Rattle.job_runner.specs.Shared.{what_of, call_by, granted_among, granted_of, later_calls, ready_calls, round_act_of, sharing_in, sharing_of}
-use Rattle.job_runner.specs.Shelves.{ContinuesBy, ContinuesLater, GoesBy, HoldsParts, IsCalled, IsCalledAdded, IsCalledEntry, IsCalledLater, IsConsistent, IsTurning, Stays, AllStay, AreKnown, timer_times, times_shelved, settled_times, task_state_times, running_times, AreShelved, state_turning}
+use Rattle.job_runner.specs.Shelves.{ContinuesBy, ContinuesLater, GoesBy, HoldsParts, IsActOf, IsCalled, IsCalledAdded, IsCalledEntry, IsCalledLater, IsConsistent, IsTurning, Stays, AllStay, AreKnown, timer_times, times_shelved, settled_times, task_state_times, running_times, AreShelved, state_turning}
 use Rattle.job_runner.specs.Limits.{last_tick, last_of}
 use Rattle.job_runner.specs.Steps.{asked_in, state_after, StartsAll, IsReadied, TakesStarted, TakesSet, TakesActs, IsStopping}
 use Rattle.job_runner.proofs.Known.{sleeper_in, sleeps_inside, slots_kept, waits_kept, waiter_in}
@@ -280,12 +280,17 @@ module _ {id : ℕ} {wake : Wake} {stop : Stop} {r after woke new : Runner} {ro 
         (subst (λ (x : World). Woken x.set.items (suc x.tick) after.clock woke.clock after.waiters woke.waiters) takes.world
         (record { woken = sets.wakes.woken; others = sets.wakes.others }))
 
+    same_round : woke.round ≡ r.round
+    same_round = ap (λ (x : Runner). x.round) sets.wakes.rest ∙ ap (λ (x : Runner). x.round) ready.rest
+
+    same_input : woke.input.now ≡ r.input.now
+    same_input = ap (λ (x : Runner). x.input.now) sets.wakes.rest ∙ ap (λ (x : Runner). x.input.now) ready.rest
+
     -- what was done was taken
     taken : map round_act_of new.round.items ≡ map round_act_of r.round.items ++ map (round_act s) w.acts.items
     taken =
         acts.kept
-        ∙ ap (λ (x : Runner). map round_act_of x.round.items ++ map (round_act s) woke.world.acts.items)
-        (ap (λ (x : Runner). record x { world = woke.world }) sets.wakes.rest ∙ ap (λ (x : Runner). record x { world = woke.world }) ready.rest)
+        ∙ ap (λ v. map round_act_of v.items ++ map (round_act s) woke.world.acts.items) same_round
         ∙ ap (λ (x : World). map round_act_of r.round.items ++ map (round_act s) x.acts.items)
         (sets.world ∙ ap (λ (x : World). record x { set = woke.world.set }) takes.world)
 
@@ -839,9 +844,6 @@ module _ {id : ℕ} {wake : Wake} {stop : Stop} {r after woke new : Runner} {ro 
               going.sound.starts state turn_taken wakes_so),
         )
 
-    same_round : woke.round ≡ r.round
-    same_round = ap (λ (x : Runner). x.round) sets.wakes.rest ∙ ap (λ (x : Runner). x.round) ready.rest
-
     -- the task has stopped, and those that it started, or that waited for an event which it set, continue a round later
     pub is_stopping : IsStopping id s stop new
     is_stopping =
@@ -854,7 +856,9 @@ module _ {id : ℕ} {wake : Wake} {stop : Stop} {r after woke new : Runner} {ro 
           interleaving = stopped_interleaving;
           lent = record {
             objects = going.lent.objects;
-            round = (let same = same_round in acts.lent (rw same going.lent.round));
+            round =
+                subst (λ (xs : List ℕ). All (IsActOf xs) new.round.items) same_input
+                (acts.lent (let same = same_round in let input = same_input in rw (same, input) going.lent.round));
             current = parts_ready.current;
             next = parts_ready.next;
             later = parts_ready.later;
