@@ -4,7 +4,7 @@ use Rattle.std.specs.Prelude.{All, IsSome, is_some, ◌==◌, map}
 use Rattle.std.proofs.lemmas.List.Elements.{All-head, All-tail, All-weaker}
 use Rattle.turn_semantics.specs.Lists.{IsAmong}
 use Rattle.task_table.specs.declared.entry.Call.{Call}
-use Rattle.task_table.specs.declared.entry.Call.TheVariants.{Begin, Due, Seen, Settled, Ask}
+use Rattle.task_table.specs.declared.entry.Call.TheVariants.{Begin, Due, Seen, Settled, Granted, Ask}
 use Rattle.task_table.specs.declared.entry.Entry.{Entry}
 use Rattle.task_table.specs.Entries.{requests_of}
 use Rattle.input_lines.specs.declared.answers.Answer.{Answer}
@@ -16,6 +16,7 @@ use Rattle.task_table.specs.declared.task_table.TaskTable.{TaskTable}
 use Rattle.task_table.specs.declared.task_table.Running.{Running}
 use Rattle.task_table.proofs.Times.{one_if, one_same, times_cons}
 use Rattle.job_runner.specs.declared.runner.Runner.{Runner}
+use Rattle.job_runner.specs.Shared.{later_calls}
 use Rattle.job_runner.specs.Shelves.{AreShelved, GoesBy, IsCalled, IsCalledEntry, IsUnderway, state_in, running_times, times_shelved}
 use Rattle.job_runner.proofs.Lived.{one_id, task_at}
 use Rattle.job_runner.proofs.Options.{some_is}
@@ -100,6 +101,7 @@ one_request task Begin answer es = omega arith
 one_request task Due answer es = omega arith
 one_request task Seen answer es = omega arith
 one_request task Settled answer es = omega arith
+one_request task (Granted grant) answer es = omega arith
 one_request task (Ask request) answer es = omega arith
 
 requests_fewer : (es : List Entry) → length (requests_of es) ≤ length es
@@ -130,6 +132,6 @@ few_requests r h =
 
     once : (id : ℕ) → times id (map (λ (e : Entry). e.task) r.batch.current) ≤ 1
     once id =
-        let all_times : times_shelved r.batch r.clock id ≡ running_times r.world.book (running_at r.task_table id) = shelved.once id tt in
+        let all_times : times_shelved r.batch (later_calls r) r.clock id ≡ running_times r.world.book (running_at r.task_table id) = shelved.once id tt in
         let most = running_most r.world.book (running_at r.task_table id) in
         omega (arith, all_times, most)

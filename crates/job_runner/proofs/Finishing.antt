@@ -13,9 +13,9 @@ use Rattle.job_meaning.specs.Log.{Result, Table}
 use Rattle.job_meaning.specs.Moments.{clock_of, tick_of}
 use Rattle.job_meaning.specs.declared.clock.Clock.{Clock}
 use Rattle.job_meaning.specs.declared.clock.Clock.TheVariants.{ByTicks as by_ticks, ByRounds as by_rounds}
-use Rattle.job_meaning.specs.Meaning.{From, meaning, meaning_end, meaning_table, root_log, records_of, all_entered, cancelled_from_by}
+use Rattle.job_meaning.specs.Meaning.{From, meaning, meaning_end, root_log, records_of, all_entered, cancelled_from_by}
 use Rattle.job_meaning.specs.Shown.{row_of}
-use Rattle.job_meaning.proofs.Settled.{table_is_settled, settled_is_meaning, one_table_is_settled}
+use Rattle.job_meaning.proofs.Settled.{settled_is_meaning, one_table_is_settled}
 use Rattle.task_machine.specs.declared.world.World.{World}
 use Rattle.task_table.specs.declared.record.Record.{Record}
 use Rattle.task_machine.specs.declared.entry.ScopeFrom.{ScopeFrom}
@@ -35,12 +35,14 @@ use Rattle.job_runner.specs.declared.runner.Phase.TheVariants as phases
 use Rattle.job_runner.specs.declared.runner.Runner.{Runner}
 use Rattle.job_runner.specs.Limits.{last_of}
 use Rattle.job_runner.specs.Phases.{phase_by, phase_of}
-use Rattle.task_table.specs.TaskTable.{children_by, run_state, ended_task_by, ended_task_from, ended_task_of, task_count, row_at, running_at, start_by, task_by, task_in, task_of, task_unless}
+use Rattle.turn_semantics.specs.Midway.{Tables}
+use Rattle.task_table.specs.TaskTable.{Sharing, children_by, run_state, ended_task_by, ended_task_from, ended_task_of, task_count, row_at, running_at, start_by, task_by, task_in, task_of, task_unless}
 use Rattle.task_table.specs.Rows.{AreShown, EndIsShown, IsShown, ShowRecords}
 use Rattle.job_runner.specs.Runs.{IsRun, FollowsEach, cancelled_from_in, name_of, records_in}
+use Rattle.job_runner.specs.Shared.{sharing_in}
 use Rattle.job_runner.specs.Shelves.{state_in, IsUnderway}
 use Rattle.task_table.proofs.Lists.{all_by_place}
-use Rattle.job_runner.proofs.States.{meaning_of, meaning_run}
+use Rattle.job_runner.proofs.States.{meaning_of, meaning_run, meaning_settled}
 
 -- ---- the root has ended
 
@@ -66,10 +68,10 @@ none_lives (Some end) x y e none = refl
 -- ---- what is kept shows the row
 
 -- what is kept of an end, as it is read
-end_shown : (input : List ℕ) (row : interleaving.Row) (end : Option Ended) (task_table : TaskTable) (world : World) (turns s : ℕ)
-    (h : ShowsRow input (run_state task_table world turns) s row) → option_map ended_task_from end ≡ Some h.ended_task → EndIsShown input row end
-end_shown input row None task_table world turns s h e = tt
-end_shown input row (Some end) task_table world turns s h e =
+end_shown : (input : List ℕ) (row : interleaving.Row) (end : Option Ended) (task_table : TaskTable) (world : World) (turns : ℕ) (shared : Sharing) (s : ℕ)
+    (h : ShowsRow input (run_state task_table world turns shared) s row) → option_map ended_task_from end ≡ Some h.ended_task → EndIsShown input row end
+end_shown input row None task_table world turns shared s h e = tt
+end_shown input row (Some end) task_table world turns shared s h e =
     let is : ended_task_from end ≡ h.ended_task = same_Some (ended_task_from end) h.ended_task e in
     record {
       label = ap (λ (g : EndedTask). g.label) is ∙ h.label;
@@ -80,13 +82,13 @@ end_shown input row (Some end) task_table world turns s h e =
       cancelled_from = ap (λ (g : EndedTask). map from_of g.cancelled_from) is ∙ h.cancelled_from;
     }
 
-row_shown : (input : List ℕ) (task_table : TaskTable) (world : World) (turns s : ℕ) (row : interleaving.Row) (held : TaskRow) →
-    row_at task_table s ≡ Some held → ShowsRow input (run_state task_table world turns) s row → IsShown input row held
-row_shown input task_table world turns s row held e h =
+row_shown : (input : List ℕ) (task_table : TaskTable) (world : World) (turns : ℕ) (shared : Sharing) (s : ℕ) (row : interleaving.Row) (held : TaskRow) →
+    row_at task_table s ≡ Some held → ShowsRow input (run_state task_table world turns shared) s row → IsShown input row held
+row_shown input task_table world turns shared s row held e h =
     record {
       start = sym (ap start_by e) ∙ h.start;
       children = sym (ap children_by e) ∙ h.children;
-      end = end_shown input row held.end task_table world turns s h (sym (ap ended_task_by e) ∙ h.is);
+      end = end_shown input row held.end task_table world turns shared s h (sym (ap ended_task_by e) ∙ h.is);
     }
 
 -- two tables that agree on every label have the same moments of cancellation
@@ -104,7 +106,7 @@ by_last by_rounds m n le = omega (arith, le)
 -- ---- a run that is over
 
 module _ {r : Runner} (w : IsUnderway r) (over : phase_of r ≡ phases.Over) where
-  abbrev k : Table
+  abbrev k : Tables
   k = meaning_of r
 
   state : Refines k r.job.now r.input.now r.world.tick (task_count r.task_table) None (state_in r)
@@ -134,7 +136,7 @@ module _ {r : Runner} (w : IsUnderway r) (over : phase_of r ≡ phases.Over) whe
 
   are_shown : AreShown r.input.now is_over.rows r.task_table.rows.items
   are_shown s held e =
-      row_shown r.input.now r.task_table r.world r.turns s (is_over.rows s) held e
+      row_shown r.input.now r.task_table r.world r.turns (sharing_in r) s (is_over.rows s) held e
       (is_over.shows s (slice_get_within r.task_table.rows.items s held e))
 
   -- the records and moments of cancellation of rows
@@ -154,20 +156,21 @@ module _ {r : Runner} (w : IsUnderway r) (over : phase_of r ≡ phases.Over) whe
           cancelled_from = ap (map from_of) fs ∙ shown.cancelled_from ∙ is_over.cancelled_from shown.taken shown.order;
         }
 
-    -- so it is the result of following each settled table
+    -- so it is the result of following each pair of settled tables
     pub follows_each : (run : Run) → IsRun r.job.now r.input.now run → FollowsEach r.job.now r.input.now run
-    follows_each run is table settled =
+    follows_each run is other settled =
         let job = r.job.now in
         let input = r.input.now in
         let names = w.going.sound.names in
-        let same : meaning job input ≡ follow table job input = sym (settled_is_meaning table job input names settled) in
+        let same : meaning job input ≡ follow other.cancelled_from other.granted job input =
+        sym (settled_is_meaning other.cancelled_from other.granted job input names w.going.sound.in_range w.going.sound.small settled) in
         record {
           rows = is.rows ∙ ap (λ (x : Result). map (row_of input) (records_of (clock_of job.format) (root_log job x))) same;
           cancelled_from =
               is.cancelled_from
-              ∙ cancelled_from_alike (meaning_table job input) table (one_table_is_settled (meaning_table job input) table job input names
-              (table_is_settled job input names) settled) (all_entered (root_log job (meaning job input)))
-              ∙ ap (λ (x : Result). cancelled_from_by table (all_entered (root_log job x))) same;
+              ∙ cancelled_from_alike k.cancelled_from other.cancelled_from (one_table_is_settled k.cancelled_from other.cancelled_from
+              k.granted other.granted job input names (meaning_settled r w.going.sound) settled).0 (all_entered (root_log job (meaning job input)))
+              ∙ ap (λ (x : Result). cancelled_from_by other.cancelled_from (all_entered (root_log job x))) same;
         }
 
     -- and by its meaning the job ends within the limit

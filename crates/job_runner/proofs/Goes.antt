@@ -1,5 +1,5 @@
 -- A task that is ready by a call may continue by the wake of that call.
-use Rattle.std.proofs.Common.{◌≡◌, ◌⊎◌, inl, inr, ℕ, suc, ◌<◌, ◌≤◌, max, ◌&&◌, Bool, true, false, Option, Some, None, refl, ap, sym, ◌∙◌, arith, if◌then◌else◌}
+use Rattle.std.proofs.Common.{◌≡◌, ◌⊎◌, inl, inr, ℕ, suc, ◌<◌, ◌≤◌, max, ◌&&◌, Bool, true, false, Option, Some, None, refl, ap, sym, ◌∙◌, subst, arith, if◌then◌else◌}
 use Rattle.std.specs.Prelude.{IsSomeAnd, nat_le, nat_lt}
 use Rattle.std.proofs.lemmas.Bool.{cases_lt, leb-true, leb-false}
 use Rattle.std.proofs.lemmas.Option.{none-some, same_Some}
@@ -17,7 +17,7 @@ use Rattle.job_meaning.specs.declared.clock.Clock.TheVariants.{ByTicks as by_tic
 use Rattle.nursery_book.specs.Nursery.{Nursery, is_settled}
 use Rattle.nursery_book.specs.Book.{nursery_at, HasNursery}
 use Rattle.task_machine.specs.declared.stop.TaskState.{TaskState}
-use Rattle.task_machine.specs.declared.stop.TaskState.TheVariants.{ToBegin, Asked, Asleep, Waiting, GivingUp, Awaits, Over}
+use Rattle.task_machine.specs.declared.stop.TaskState.TheVariants.{ToBegin, Asked, Asleep, Waiting, Queued, GivingUp, Awaits, Over}
 use Rattle.task_machine.specs.declared.stop.Wake.{Wake}
 use Rattle.task_machine.specs.declared.stop.Wake.TheVariants as wakes
 use Rattle.task_machine.specs.declared.task.Task.{Task}
@@ -29,34 +29,38 @@ use Rattle.task_machine.specs.Worlds.{event_at}
 use Rattle.run_refinement.specs.Ready.{MayGo, IsTimely}
 use Rattle.run_refinement.specs.Step.{Asks}
 use Rattle.job_runner.specs.Jumps.{seen_call_if, seen_call, sight_asleep, BeganBefore, Stayed}
-use Rattle.job_runner.specs.Shelves.{left_in, moment_of, IsRight, GoesBy}
+use Rattle.job_meaning.specs.Walk.{last_grant}
+use Rattle.objects.specs.Held.{what_in}
+use Rattle.objects.specs.Whats.{What}
+use Rattle.job_runner.specs.Shared.{what_of}
+use Rattle.job_runner.specs.Shelves.{left_in, moment_of, ContinuesBy, ContinuesLater, IsRight, GoesBy}
 use Rattle.job_runner.specs.Turns.{at_once, call_at_once}
 
 -- a task may continue by a wake that fits its blocked state
-goes_with : (world : World) (task : Task) (task_state : TaskState) (wake went : Wake) → task.task_state ≡ task_state →
-    WakesFrom task_state (lent_of task) world.book wake → IsTimely world (scope_of task) task_state wake → Some wake ≡ Some went →
-    MayGo world task went
-goes_with world task task_state wake went is fits timely same =
+goes_with : (world : World) (what : Option What) (task : Task) (task_state : TaskState) (wake went : Wake) → task.task_state ≡ task_state →
+    WakesFrom task_state (lent_of task) world.book wake → IsTimely world what (scope_of task) task_state wake → Some wake ≡ Some went →
+    MayGo world what task went
+goes_with world what task task_state wake went is fits timely same =
     let e = same_Some wake went same in
     rw (← e) (record { fits = rw is fits; timely = rw is timely })
 
 -- one that has to begin, in this moment
 pub begin_goes : (world : World) (task : Task) (at : ℕ) → task.task_state ≡ ToBegin at → at ≡ world.tick → GoesBy world task calls.Begin
-begin_goes world task at is now answer wake right e = goes_with world task (ToBegin at) wakes.Begin wake is tt now e
+begin_goes world task at is now answer wake right e = goes_with world None task (ToBegin at) wakes.Begin wake is tt now e
 
 -- one that asked, with a right answer
 pub answered_goes : (world : World) (task : Task) (request : Request) → Asks task request → (answer : Option Answer) (wake : Wake) →
-    IsRight (calls.Ask request) answer → wake_of (calls.Ask request) answer ≡ Some wake → MayGo world task wake
+    IsRight (calls.Ask request) answer → wake_of (calls.Ask request) answer ≡ Some wake → MayGo world None task wake
 answered_goes world task request asks None wake right e = absurd (none-some wake e)
 answered_goes world task request asks (Some answer) wake right e =
-    goes_with world task (Asked request.kernel asks.purpose) (wakes.Answer answer) wake asks.task_state (rw (asks.buffer, asks.range) at right) tt e
+    goes_with world None task (Asked request.kernel asks.purpose) (wakes.Answer answer) wake asks.task_state (rw (asks.buffer, asks.range) at right) tt e
 
 -- one that waits for a nursery which is settled, and is left in this moment or before
 pub settled_goes : (world : World) (task : Task) (id since : ℕ) → task.task_state ≡ Awaits id since →
     HasNursery world.book id (λ n. is_settled n ≡ true) → HasNursery world.book id (λ n. a_round_after world.clock n.last ≤ world.tick) →
     GoesBy world task calls.Settled
 settled_goes world task id since is settled left answer wake right e =
-    goes_with world task (Awaits id since) wakes.Settled wake is settled left e
+    goes_with world None task (Awaits id since) wakes.Settled wake is settled left e
 
 -- a nursery that has a moment in which it is left is settled, and the moment is that one
 pub left_is : (clock : Clock) (o : Option Nursery) (due : ℕ) → left_in clock o ≡ Some due →
@@ -136,31 +140,40 @@ ends_waiting clock since set t saw is unseen =
 -- a task that sees a cancellation while it sleeps, or waits for an event
 pub seen_goes : (world : World) (due : ℕ) (task : Task) → Stayed world due task →
     is_reached (sight_asleep world (scope_of task) task.task_state) world.tick ≡ true → GoesBy world task (seen_call world task)
-seen_goes world due task h saw answer wake right e = by_task_state task.task_state refl h.due_is h.began saw e
+seen_goes world due task h saw answer wake right e =
+    subst (λ (what : Option What). MayGo world what task wake)
+    (sym (seen_grants_none (is_wait_over world.clock (event_at world) task.task_state world.tick)))
+    (by_task_state task.task_state refl h.due_is h.began saw e)
   where
+    seen_grants_none : (over : Bool) → what_of (seen_call_if over) ≡ None
+    seen_grants_none true = refl
+    seen_grants_none false = refl
+
     by_over : (event since : ℕ) → task.task_state ≡ Waiting event since → wait_ends world.clock (event_at world event) since ≡ due →
         since < world.tick → seen (outer_of world.scopes (scope_of task)) world.tick ≡ true → (over : Bool) →
         is_over_by (a_round_after world.clock since) (set_by world.clock (event_at world event) since) world.tick ≡ over →
-        wake_of (seen_call_if over) answer ≡ Some wake → MayGo world task wake
+        wake_of (seen_call_if over) answer ≡ Some wake → MayGo world None task wake
     by_over event since is ends began f true over g =
         let left : world.tick ≤ due = h.not_over in
-        goes_with world task (Waiting event since) wakes.Due wake is tt
+        goes_with world None task (Waiting event since) wakes.Due wake is tt
         (goes_waiting world.clock since (set_by world.clock (event_at world event) since) world.tick
         (seen (outer_of world.scopes (scope_of task)) world.tick) (omega (arith, left, ends)) over) g
     by_over event since is ends began f false over g =
         let left : world.tick ≤ due = h.not_over in
-        goes_with world task (Waiting event since) wakes.Seen wake is tt
+        goes_with world None task (Waiting event since) wakes.Seen wake is tt
         (sees_waiting world.clock since (set_by world.clock (event_at world event) since) world.tick began (omega (arith, left, ends)) over, f) g
 
     by_task_state : (task_state : TaskState) → task.task_state ≡ task_state →
         moment_of world.clock (event_at world) world.book task_state ≡ Some due → BeganBefore world.tick task_state →
         is_reached (sight_asleep world (scope_of task) task_state) world.tick ≡ true →
-        wake_of (seen_call_if (is_wait_over world.clock (event_at world) task_state world.tick)) answer ≡ Some wake → MayGo world task wake
+        wake_of (seen_call_if (is_wait_over world.clock (event_at world) task_state world.tick)) answer ≡ Some wake → MayGo world None task wake
     by_task_state (Asleep paced ticks since) is due_is began f g =
-        goes_with world task (Asleep paced ticks since) wakes.Seen wake is tt (began, f) g
+        goes_with world None task (Asleep paced ticks since) wakes.Seen wake is tt (began, f) g
     by_task_state (Waiting event since) is due_is began f g =
         by_over event since is (same_Some (wait_ends world.clock (event_at world event) since) due due_is) began f
         (is_wait_over world.clock (event_at world) (Waiting event since) world.tick) refl g
+    by_task_state (Queued object ask since body) is due_is began f g =
+        goes_with world None task (Queued object ask since body) wakes.Seen wake is tt (refl, began, f) g
     by_task_state (ToBegin at) is due_is began f g = absurd (let k : false ≡ true = f in cc)
     by_task_state (Asked kernel purpose) is due_is began f g = absurd (let k : false ≡ true = f in cc)
     by_task_state (GivingUp since) is due_is began f g = absurd (let k : false ≡ true = f in cc)
@@ -170,37 +183,40 @@ seen_goes world due task h saw answer wake right e = by_task_state task.task_sta
 -- a task whose moment has come, and which sees no cancellation if it sleeps or waits for an event
 pub due_goes : (world : World) (due : ℕ) (task : Task) → Stayed world due task → due ≤ world.tick →
     is_reached (sight_asleep world (scope_of task) task.task_state) world.tick ≡ false → GoesBy world task calls.Due
-due_goes world due task h come unseen answer wake right e = by_task_state task.task_state refl h.due_is unseen
+due_goes world due task h come unseen answer wake right e = by_task_state task.task_state refl h.due_is h.began unseen
   where
     now : due ≡ world.tick
     now = let left = h.not_over in omega (arith, left, come)
 
     by_task_state : (task_state : TaskState) → task.task_state ≡ task_state →
-        moment_of world.clock (event_at world) world.book task_state ≡ Some due →
-        is_reached (sight_asleep world (scope_of task) task_state) world.tick ≡ false → MayGo world task wake
-    by_task_state (ToBegin at) is due_is f =
-        goes_with world task (ToBegin at) wakes.Due wake is tt (same_Some at due due_is ∙ now) e
-    by_task_state (Asked kernel purpose) is due_is f = absurd (none-some due due_is)
-    by_task_state (Asleep paced ticks since) is due_is f =
-        goes_with world task (Asleep paced ticks since) wakes.Due wake is tt
+        moment_of world.clock (event_at world) world.book task_state ≡ Some due → BeganBefore world.tick task_state →
+        is_reached (sight_asleep world (scope_of task) task_state) world.tick ≡ false → MayGo world None task wake
+    by_task_state (ToBegin at) is due_is began f =
+        goes_with world None task (ToBegin at) wakes.Due wake is tt (same_Some at due due_is ∙ now) e
+    by_task_state (Asked kernel purpose) is due_is began f = absurd (none-some due due_is)
+    by_task_state (Asleep paced ticks since) is due_is began f =
+        goes_with world None task (Asleep paced ticks since) wakes.Due wake is tt
         (same_Some (wakes_at world.clock ticks since) due due_is ∙ now, f) e
-    by_task_state (Waiting event since) is due_is f =
-        goes_with world task (Waiting event since) wakes.Due wake is tt
+    by_task_state (Waiting event since) is due_is began f =
+        goes_with world None task (Waiting event since) wakes.Due wake is tt
         (ends_waiting world.clock since (set_by world.clock (event_at world event) since) world.tick
         (seen (outer_of world.scopes (scope_of task)) world.tick)
         (same_Some (wait_ends world.clock (event_at world event) since) due due_is ∙ now) f) e
-    by_task_state (GivingUp since) is due_is f =
-        goes_with world task (GivingUp since) wakes.Due wake is tt (same_Some (suc since) due due_is ∙ now) e
-    by_task_state (Awaits id since) is due_is f =
-        goes_with world task (Awaits id since) wakes.Due wake is (left_settled world.clock (nursery_at world.book id) due due_is)
+    by_task_state (Queued object ask since body) is due_is began f =
+        goes_with world None task (Queued object ask since body) wakes.Due wake is tt
+        (refl, began, same_Some (last_grant world.clock since) due due_is ∙ now, f) e
+    by_task_state (GivingUp since) is due_is began f =
+        goes_with world None task (GivingUp since) wakes.Due wake is tt (same_Some (suc since) due due_is ∙ now) e
+    by_task_state (Awaits id since) is due_is began f =
+        goes_with world None task (Awaits id since) wakes.Due wake is (left_settled world.clock (nursery_at world.book id) due due_is)
         (left_by world.clock (nursery_at world.book id) due world.tick due_is come) e
-    by_task_state Over is due_is f = absurd (none-some due due_is)
+    by_task_state Over is due_is began f = absurd (none-some due due_is)
 
 -- A task that waits for an event since this moment continues at once, where a moment is a tick: it sees a cancellation, or the event is
 -- set.
 pub at_once_goes : (world : World) (event : ℕ) (task : Task) (call : Call) → task.task_state ≡ Waiting event world.tick →
     call_at_once world (scope_of task) (wait_ends world.clock (event_at world event) world.tick) ≡ Some call → GoesBy world task call
-at_once_goes world event task call is e answer wake right g = by_clock world.clock refl e
+at_once_goes world event task call is e = by_clock world.clock refl e
   where
     round : ℕ
     round = a_round_after world.clock world.tick
@@ -220,18 +236,22 @@ at_once_goes world event task call is e answer wake right g = by_clock world.clo
       ],
     )
 
-    by_tests : round ≡ world.tick → (saw due : Bool) → sees ≡ saw → nat_le (max round set) world.tick ≡ due →
-        at_once by_ticks saw due ≡ Some call → MayGo world task wake
-    by_tests same true due f d h =
-        goes_with world task (Waiting event world.tick) wakes.Seen wake is tt (may_see same, f)
-        (ap (λ (x : Call). wake_of x answer) (same_Some calls.Seen call h) ∙ g)
-    by_tests same false true f d h =
+    seen_now : round ≡ world.tick → sees ≡ true → GoesBy world task calls.Seen
+    seen_now same f answer wake right g =
+        goes_with world None task (Waiting event world.tick) wakes.Seen wake is tt (may_see same, f) g
+
+    due_now : round ≡ world.tick → sees ≡ false → nat_le (max round set) world.tick ≡ true → GoesBy world task calls.Due
+    due_now same f d answer wake right g =
         let come : max round set ≤ world.tick = leb-true (max round set) world.tick d in
-        goes_with world task (Waiting event world.tick) wakes.Due wake is tt (inl (omega (arith, come, same), same, f))
-        (ap (λ (x : Call). wake_of x answer) (same_Some calls.Due call h) ∙ g)
+        goes_with world None task (Waiting event world.tick) wakes.Due wake is tt (inl (omega (arith, come, same), same, f)) g
+
+    by_tests : round ≡ world.tick → (saw due : Bool) → sees ≡ saw → nat_le (max round set) world.tick ≡ due →
+        at_once by_ticks saw due ≡ Some call → GoesBy world task call
+    by_tests same true due f d h = subst (GoesBy world task) (same_Some calls.Seen call h) (seen_now same f)
+    by_tests same false true f d h = subst (GoesBy world task) (same_Some calls.Due call h) (due_now same f d)
     by_tests same false false f d h = absurd (none-some call h)
 
-    by_clock : (c : Clock) → world.clock ≡ c → at_once c sees (nat_le (max round set) world.tick) ≡ Some call → MayGo world task wake
+    by_clock : (c : Clock) → world.clock ≡ c → at_once c sees (nat_le (max round set) world.tick) ≡ Some call → GoesBy world task call
     by_clock by_rounds c h = absurd (none-some call h)
     by_clock by_ticks c h =
         by_tests (ap (λ (x : Clock). a_round_after x world.tick) c) sees (nat_le (max round set) world.tick) refl refl h
@@ -255,3 +275,27 @@ waits_on_later world scope due e round = by_clock world.clock refl e round
         (world.tick < due) × ((sees ≡ false) ⊎ ((world.clock ≡ by_rounds) × (world.tick ≡ world.tick)))
     by_clock by_rounds c h le = (omega (arith, le), inr (c, refl))
     by_clock by_ticks c h le = by_tests sees (nat_le due world.tick) refl refl h
+
+-- ---- the next moment
+
+-- a task that continues in the next moment may do so then
+pub later_goes : (world : World) (task : Task) (call : Call) → ContinuesLater world task call →
+    GoesBy (record world { tick = suc world.tick }) task call
+later_goes world task call h answer wake right e = by_task_state task.task_state call refl h.stays.due_is h.by e
+  where
+    next : World
+    next = record world { tick = suc world.tick }
+
+    by_task_state : (task_state : TaskState) (c : Call) → task.task_state ≡ task_state →
+        moment_of world.clock (event_at world) world.book task_state ≡ Some h.due →
+        ContinuesBy (lent_of task) (suc world.tick) h.due task_state c → wake_of c answer ≡ Some wake → MayGo next (what_of c) task wake
+    by_task_state (ToBegin at) calls.Begin is due_is by g =
+        goes_with next None task (ToBegin at) wakes.Begin wake is tt (same_Some at h.due due_is ∙ by) g
+    by_task_state (Awaits id since) calls.Settled is due_is by g =
+        let come : h.due ≡ suc world.tick = by in
+        goes_with next None task (Awaits id since) wakes.Settled wake is
+        (left_settled world.clock (nursery_at world.book id) h.due due_is)
+        (left_by world.clock (nursery_at world.book id) h.due (suc world.tick) due_is (omega (arith, come))) g
+    by_task_state (Queued object ask since body) (calls.Granted grant) is due_is by g =
+        goes_with next (Some (what_in grant)) task (Queued object ask since body) (wakes.Granted grant) wake is by refl g
+    by_task_state _ _ is due_is by g = absurd by

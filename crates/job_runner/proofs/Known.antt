@@ -9,7 +9,7 @@ use Rattle.clock.specs.Clock.{Clock, due_of, Updates}
 use Rattle.cancel_scopes.specs.Sight.{Tick, sight}
 use Rattle.cancel_scopes.specs.Tree.{Stack, Tree, is_changed, outer_of}
 use Rattle.task_machine.specs.declared.stop.TaskState.{TaskState}
-use Rattle.task_machine.specs.declared.stop.TaskState.TheVariants.{ToBegin, Asked, Asleep, Waiting, GivingUp, Awaits, Over}
+use Rattle.task_machine.specs.declared.stop.TaskState.TheVariants.{ToBegin, Asked, Asleep, Waiting, Queued, GivingUp, Awaits, Over}
 use Rattle.task_machine.specs.declared.world.World.{World}
 use Rattle.task_machine.specs.Labels.{Events}
 use Rattle.task_machine.specs.Tasks.{scope_of}
@@ -39,6 +39,7 @@ sleeps_inside (ToBegin at) scope key e = absurd (none-some key e)
 sleeps_inside (Asked kernel purpose) scope key e = absurd (none-some key e)
 sleeps_inside (Asleep paced ticks since) scope key e = e
 sleeps_inside (Waiting event since) scope key e = e
+sleeps_inside (Queued object ask since body) scope key e = e
 sleeps_inside (GivingUp since) scope key e = absurd (none-some key e)
 sleeps_inside (Awaits id since) scope key e = absurd (none-some key e)
 sleeps_inside Over scope key e = absurd (none-some key e)
@@ -92,6 +93,7 @@ module _ {task_table : TaskTable} {world : World} {clock : Clock} {sleepers : Sl
         by_task_state (Asked kernel purpose) h = refl
         by_task_state (Asleep paced ticks since) h = by_scope (scope_of x.task) h
         by_task_state (Waiting event since) h = by_scope (scope_of x.task) h
+        by_task_state (Queued object ask since body) h = by_scope (scope_of x.task) h
         by_task_state (GivingUp since) h = refl
         by_task_state (Awaits nursery since) h = refl
         by_task_state Over h = refl
@@ -164,6 +166,7 @@ waiting_for events (Waiting key since) event e = by_event (events key) refl e
         let same : key ≡ event = same_Some key event g in
         (since, ap (λ (n : ℕ). Waiting n since) same, ap events (sym same) ∙ f)
     by_event (Some (Some from)) f g = absurd (none-some event g)
+waiting_for events (Queued object ask since body) event e = absurd (none-some event e)
 waiting_for events (GivingUp since) event e = absurd (none-some event e)
 waiting_for events (Awaits id since) event e = absurd (none-some event e)
 waiting_for events Over event e = absurd (none-some event e)

@@ -5,11 +5,14 @@ pub mod States
 pub mod Lived
 pub mod Known
 pub mod Shelving
+pub mod Granted
+pub mod GrantedRows
 pub mod Readied
 pub mod WokenWaiters
 pub mod Signalled
 pub mod AtOnce
 pub mod Stopped
+pub mod Asking
 pub mod Counting
 pub mod Waking
 pub mod Jumped
@@ -19,6 +22,8 @@ pub mod Waiters
 pub mod FewRequests
 pub mod Rounds
 pub mod Starting
+pub mod TakenActs
+pub mod ObjectTables
 pub mod Turning
 pub mod Turns
 pub mod Committing

@@ -1,17 +1,17 @@
 -- A run that begins: the root alone, which is called to begin.
-use Rattle.std.proofs.Common.{◌≡◌, inl, inr, ℕ, zero, suc, ◌+◌, ◌≤◌, Option, Some, None, List, [], ◌∷◌, ◌++◌, map, length, ap, sym, ◌∙◌, arith}
+use Rattle.std.proofs.Common.{◌≡◌, inl, inr, ℕ, zero, suc, ◌+◌, ◌≤◌, Option, Some, None, List, [], ◌∷◌, ◌++◌, map, length, refl, ap, sym, ◌∙◌, arith}
 use Rattle.std.specs.Prelude.{All, ◌==◌}
 use Rattle.std.proofs.lemmas.Bool.Decides.{eqb_tells}
-use Rattle.std.proofs.lemmas.List.Elements.{All-cons, All-nil}
+use Rattle.std.proofs.lemmas.List.Elements.{All-append, All-cons, All-nil}
 use Rattle.std.proofs.lemmas.Option.{same_Some, none-some}
 use Rattle.clock.specs.Clock.{due_of, limit_of, now_of}
 use Rattle.task_table.specs.declared.entry.Call.TheVariants.{Begin}
 use Rattle.task_table.specs.declared.entry.Entry.{Entry}
-use Rattle.task_table.specs.Entries.{Added, NonePlaced, without_answer}
-use Rattle.job_meaning.specs.Log.{Table}
+use Rattle.task_table.specs.Entries.{Added, NonePlaced, added_of, without_answer}
+use Rattle.exceptions.specs.Exceptions.{Label}
+use Rattle.turn_semantics.specs.Midway.{Tables}
 use Rattle.job_meaning.specs.Moments.{clock_of}
 use Rattle.job_meaning.specs.declared.clock.Clock.{Clock}
-use Rattle.job_meaning.specs.declared.limits.TheConstants.{MAX_INPUT}
 use Rattle.task_machine.specs.declared.task.Task.{Task}
 use Rattle.task_machine.specs.Worlds.{event_at}
 use Rattle.run_refinement.specs.Begun.{IsNewWorld, IsRootTask}
@@ -22,29 +22,33 @@ use Rattle.clock.specs.Sleeping.{scope_in}
 use Rattle.clock.specs.Waiting.{event_in}
 use Rattle.task_table.specs.declared.task_table.Running.{Running}
 use Rattle.job_runner.specs.declared.runner.Runner.{Runner}
-use Rattle.task_table.specs.TaskTable.{parent_of, running_at, task_of, HasRoot, IsTaskTable}
+use Rattle.task_table.specs.TaskTable.{Sharing, parent_of, running_at, run_state, task_of, HasRoot, IsTaskTable}
 use Rattle.job_runner.specs.Limits.{last_tick, last_of}
-use Rattle.job_runner.specs.Shelves.{state_in, task_state_times, running_times, timer_times, times_shelved, AreKnown, IsRefined, sleep_slot_of, wait_slot_of, GoesBy, IsCalledAdded, IsCalledEntry, IsConsistent, IsSoundJob, IsUnderway, NoneChanged}
+use Rattle.job_runner.specs.Shelves.{state_in, task_state_times, running_times, timer_times, times_shelved, AreKnown, IsRefined, sleep_slot_of, wait_slot_of, GoesBy, IsCalledAdded, IsCalledEntry, IsCalledLater, IsActOf, IsAddedOf, IsEntryOf, IsConsistent, IsServedIf, IsSoundJob, IsUnderway, NoneChanged, NoneGranted}
+use Rattle.job_runner.specs.Shared.{what_of, later_calls, object_at, ready_calls, round_act_of}
+use Rattle.job_runner.proofs.Granted.{granted_none}
 use Rattle.task_table.proofs.Times.{one_if, times_cons}
 use Rattle.job_runner.proofs.Goes.{begin_goes}
 use Rattle.job_runner.proofs.Options.{some_has}
 use Rattle.job_runner.proofs.Shelving.{none_away, times_next, times_now}
 use Rattle.job_runner.proofs.States.{run_in}
 
-module _ (r : Runner) {root : Task} {id : ℕ} (sound : IsSoundJob r.job.now) (small : length r.input.now ≤ MAX_INPUT)
+module _ (r : Runner) {root : Task} {id : ℕ} (sound : IsSoundJob r.job.now r.input.now)
     (world : IsNewWorld r.job.now r.world) (is_root : IsRootTask r.job.now r.input.now root)
-    (has : HasRoot r.task_table root id) (turns : r.turns ≡ 0) where
-  begun : (k : Table) → Refines k r.job.now r.input.now 0 1 None (state_in r)
-  begun k =
-      state_begun k r.job.now r.input.now (state_in r) root sound.in_range sound.starts sound.names small world is_root has.task
+    (has : HasRoot r.task_table root id) (turns : r.turns ≡ 0) (through : r.through ≡ 0)
+    (unopened : (label : Label) → object_at r.objects label ≡ None) (idle : r.round.items ≡ [])
+  where
+  begun : NoneGranted (ready_calls r) → (k : Tables) → Refines k r.job.now r.input.now 0 1 None (state_in r)
+  begun none k =
+      state_begun k r.job.now r.input.now (state_in r) root sound.in_range sound.starts sound.names sound.small world is_root has.task
       (λ p. let more : p + 1 ≡ suc p = omega arith in rw more at (has.none p)) has.ended_task has.start
-      has.children turns
+      has.children turns refl through unopened (ap (map round_act_of) idle) (granted_none r.task_table (ready_calls r) none)
 
-  is_refined : IsRefined r
-  is_refined k settled = run_in (sym world.tick) (sym has.many) (begun k)
+  is_refined : NoneGranted (ready_calls r) → IsRefined r
+  is_refined none k settled = run_in (sym world.tick) (sym has.many) (begun none k)
 
-  homeless : AreHomesOf (state_in r) (parent_of r.task_table)
-  homeless s task home lives is = absurd (by_serial s lives)
+  homeless : (shared : Sharing) → AreHomesOf (run_state r.task_table r.world r.turns shared) (parent_of r.task_table)
+  homeless shared s task home lives is = absurd (by_serial s lives)
     where
       by_serial : (n : ℕ) → task_of r.task_table n ≡ Some task → ⊥
       by_serial zero e =
@@ -58,7 +62,7 @@ module _ (r : Runner) {root : Task} {id : ℕ} (sound : IsSoundJob r.job.now) (s
       (bounded : r.limit ≤ last_tick (clock_of r.job.now.format))
       (timers : (task : ℕ) → due_of r.clock task ≡ None)
       (asleep : (task : ℕ) → scope_in r.sleepers task ≡ None) (unwaiting : (task : ℕ) → event_in r.waiters task ≡ None) (unchanged : NoneChanged r.world) (before added : List Added)
-      (none_before : before ≡ []) (was_added : added ≡ before ++ (id, Begin) ∷ []) (current : r.batch.current ≡ map without_answer added)
+      (none_later : r.later.current ≡ []) (no_later : later_calls r ≡ []) (none_before : before ≡ []) (was_added : added ≡ before ++ (id, Begin) ∷ []) (current : r.batch.current ≡ map without_answer added)
       (next : r.batch.next ≡ []) (fresh : NonePlaced r.batch.current) where
     abbrev its_entry : Entry
     its_entry = without_answer (id, Begin)
@@ -76,14 +80,15 @@ module _ (r : Runner) {root : Task} {id : ℕ} (sound : IsSoundJob r.job.now) (s
           | inr else_ ↦ ap one_if else_.0 ∙ sym (ap (running_times r.world.book) (has.others other (λ e. else_.1 (sym e))))
         ]
 
-    stands_once : (other : ℕ) → times_shelved r.batch r.clock other ≡ running_times r.world.book (running_at r.task_table other)
+    stands_once : (other : ℕ) → times_shelved r.batch (later_calls r) r.clock other ≡ running_times r.world.book (running_at r.task_table other)
     stands_once other =
         let a : times_now other r.batch.current ≡ times_now other (its_entry ∷ []) = ap (times_now other) one_entry in
         let b : times_now other (its_entry ∷ []) ≡ one_if (id == other) + 0 = times_cons other id [] in
         let c : times_next other r.batch.next ≡ 0 = ap (times_next other) next in
+        let f : times_next other (later_calls r) ≡ 0 = ap (times_next other) no_later in
         let d : timer_times (due_of r.clock other) ≡ 0 = ap timer_times (timers other) in
         let e = kept_once other in
-        omega (arith, a, b, c, d, e)
+        omega (arith, a, b, c, d, e, f)
 
     consistent : IsConsistent r.task_table r.world r.clock r.limit r.turns
     consistent = record {
@@ -95,6 +100,7 @@ module _ (r : Runner) {root : Task} {id : ℕ} (sound : IsSoundJob r.job.now) (s
       bounded = (let same : last_tick r.world.clock ≡ last_tick (clock_of r.job.now.format) = ap last_tick world.clock in omega (arith, bounded, same));
       none_started = world.started;
       none_set = world.set;
+      none_done = world.acts;
     }
 
     none_known : AreKnown r.task_table r.world r.clock r.sleepers r.waiters
@@ -112,6 +118,12 @@ module _ (r : Runner) {root : Task} {id : ℕ} (sound : IsSoundJob r.job.now) (s
         (begin_goes r.world root 0 is_root.task_state (sym world.tick)))
         (All-nil (IsCalledEntry r.task_table r.world)))
 
+    none_granted : NoneGranted (ready_calls r)
+    none_granted =
+        All-append (λ (a : Added). what_of a.1 ≡ None) (map added_of r.batch.current) (r.batch.next ++ later_calls r)
+        (rw one_entry (All-cons (λ (a : Added). what_of a.1 ≡ None) (id, Begin) [] refl (All-nil (λ (a : Added). what_of a.1 ≡ None))))
+        (rw (next, no_later) (All-nil (λ (a : Added). what_of a.1 ≡ None)))
+
     -- a run that was just opened is underway, with the root in its first batch, ready to begin
     pub opened : IsUnderway r
     opened =
@@ -127,12 +139,31 @@ module _ (r : Runner) {root : Task} {id : ℕ} (sound : IsSoundJob r.job.now) (s
                       known = none_known;
                       current = root_called;
                       next = rw next (All-nil (IsCalledAdded r.task_table r.world));
+                      none_later = none_later;
+                      later = rw no_later (All-nil (IsCalledLater r.task_table r.world));
                       once = λ other h. stands_once other;
-                      away = none_away (λ (x : ℕ). times_shelved r.batch r.clock x ≡ 0);
+                      away = none_away (λ (x : ℕ). times_shelved r.batch (later_calls r) r.clock x ≡ 0);
                     };
-                interleaving = is_refined;
+                interleaving = is_refined none_granted;
+                lent =
+                    record {
+                      objects = λ l object e. absurd (none-some object (sym (unopened l) ∙ e));
+                      round = rw idle (All-nil (IsActOf r.input.now));
+                      current = rw one_entry (All-cons (IsEntryOf r.input.now) its_entry [] tt (All-nil (IsEntryOf r.input.now)));
+                      next = rw next (All-nil (IsAddedOf r.input.now));
+                      later = rw no_later (All-nil (IsAddedOf r.input.now));
+                    };
               };
           unchanged = unchanged;
           unplaced = fresh;
           nothing_added = next;
+          served = unserved r.batch.current one_entry;
         }
+      where
+        unserved : (es : List Entry) → es ≡ its_entry ∷ [] → IsServedIf es r
+        unserved [] e = absurd (let f : 1 ≡ 0 = ap length (sym e) in omega (arith, f))
+        unserved (x ∷ es) e = record {
+          through = through ∙ sym world.tick;
+          none_granted = rw no_later (All-nil (λ (a : Added). what_of a.1 ≡ None));
+        }
+

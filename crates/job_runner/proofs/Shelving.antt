@@ -15,6 +15,7 @@ use Rattle.job_runner.specs.declared.runner.Runner.{Runner}
 use Rattle.task_table.specs.Rows.{times}
 use Rattle.task_table.specs.TaskTable.{running_at}
 use Rattle.task_table.proofs.Times.{one_if, times_push}
+use Rattle.job_runner.specs.Shared.{later_calls}
 use Rattle.job_runner.specs.Shelves.{IsCalled, IsCalledAdded, timer_times, times_shelved, running_times, IsElse, AreShelved}
 
 -- ---- how often an id occurs
@@ -33,9 +34,10 @@ next_more id added key call = ap (times id) (map-append (λ (a : Added). a.0) ad
     ∙ times_push id (map (λ (a : Added). a.0) added) key
 
 -- and where tasks are kept, with that one more
-pub shelved_more : (old new : Batches) (clock : Clock) (id : ℕ) (call : Call) → new.current ≡ old.current →
-    new.next ≡ old.next ++ (id, call) ∷ [] → (other : ℕ) → times_shelved new clock other ≡ times_shelved old clock other + one_if (id == other)
-shelved_more old new clock id call current next other =
+pub shelved_more : (old new : Batches) (later : List Added) (clock : Clock) (id : ℕ) (call : Call) → new.current ≡ old.current →
+    new.next ≡ old.next ++ (id, call) ∷ [] → (other : ℕ) →
+    times_shelved new later clock other ≡ times_shelved old later clock other + one_if (id == other)
+shelved_more old new later clock id call current next other =
     let a : times_now other new.current ≡ times_now other old.current = ap (times_now other) current in
     let b : times_next other new.next ≡ times_next other old.next + one_if (id == other) =
     ap (times_next other) next ∙ next_more other old.next id call in
@@ -84,7 +86,7 @@ no_timer (Some due) e = absurd (let f : 1 ≡ 0 = e in omega (arith, f))
 -- a task that has a timer is another task
 pub timer_else : {r : Runner} {id : ℕ} → AreShelved (Some id) r → (key due : ℕ) → due_of r.clock key ≡ Some due → key ≢ id
 timer_else {r} {id} s key due f same =
-    let none : times_shelved r.batch r.clock id ≡ 0 = s.away id refl in
+    let none : times_shelved r.batch (later_calls r) r.clock id ≡ 0 = s.away id refl in
     none-some due (sym (no_timer (due_of r.clock id) (omega (arith, none))) ∙ (ap (due_of r.clock) (sym same) ∙ f))
 
 -- ---- the shelves
@@ -100,11 +102,13 @@ shelved_next {r} {id} b call s current next called one =
       known = s.known;
       current = rw current s.current;
       next = rw next (All-push (IsCalledAdded r.task_table r.world) r.batch.next (id, call) s.next called);
+      none_later = s.none_later;
+      later = s.later;
       once =
-          once_again id (times_shelved r.batch r.clock) (times_shelved b r.clock)
+          once_again id (times_shelved r.batch (later_calls r) r.clock) (times_shelved b (later_calls r) r.clock)
           (λ (x : ℕ). running_times r.world.book (running_at r.task_table x)) s.once (s.away id refl)
-          (shelved_more r.batch b r.clock id call current next) one;
-      away = none_away (λ (x : ℕ). times_shelved b r.clock x ≡ 0);
+          (shelved_more r.batch b (later_calls r) r.clock id call current next) one;
+      away = none_away (λ (x : ℕ). times_shelved b (later_calls r) r.clock x ≡ 0);
     }
 
 -- it waits
@@ -117,7 +121,9 @@ shelved_waiting {r} {id} s none =
       known = s.known;
       current = s.current;
       next = s.next;
-      once = once_waiting id (times_shelved r.batch r.clock) (λ (x : ℕ). running_times r.world.book (running_at r.task_table x)) s.once
+      none_later = s.none_later;
+      later = s.later;
+      once = once_waiting id (times_shelved r.batch (later_calls r) r.clock) (λ (x : ℕ). running_times r.world.book (running_at r.task_table x)) s.once
           (s.away id refl) none;
-      away = none_away (λ (x : ℕ). times_shelved r.batch r.clock x ≡ 0);
+      away = none_away (λ (x : ℕ). times_shelved r.batch (later_calls r) r.clock x ≡ 0);
     }

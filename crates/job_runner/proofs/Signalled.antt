@@ -16,7 +16,7 @@ use Rattle.run_refinement.specs.Sights.{Shows, IsOneOf, StaysOrIsSet}
 use Rattle.clock.specs.Sleeping.{Sleeping, sight_of}
 use Rattle.clock.specs.Waiting.{event_in}
 use Rattle.task_machine.specs.declared.stop.TaskState.{TaskState}
-use Rattle.task_machine.specs.declared.stop.TaskState.TheVariants.{ToBegin, Asked, Asleep, Waiting, GivingUp, Awaits, Over}
+use Rattle.task_machine.specs.declared.stop.TaskState.TheVariants.{ToBegin, Asked, Asleep, Waiting, Queued, GivingUp, Awaits, Over}
 use Rattle.task_machine.specs.declared.world.World.{World}
 use Rattle.task_machine.specs.Events.{wait_ends}
 use Rattle.task_machine.specs.Labels.{Events}
@@ -82,6 +82,7 @@ waits_same old new (Waiting event since) same = ap (if_unset event) (sym same)
 waits_same old new (ToBegin at) same = refl
 waits_same old new (Asked kernel purpose) same = refl
 waits_same old new (Asleep paced ticks since) same = refl
+waits_same old new (Queued object ask since body) same = refl
 waits_same old new (GivingUp since) same = refl
 waits_same old new (Awaits id since) same = refl
 waits_same old new Over same = refl
@@ -215,6 +216,7 @@ module _ {task_table : TaskTable} {before after : timers.Clock} {sleepers : Slee
         by_task_state (ToBegin at) e' = tt
         by_task_state (Asked kernel purpose) e' = tt
         by_task_state (Asleep paced ticks since) e' = tt
+        by_task_state (Queued object ask since body) e' = tt
         by_task_state (GivingUp since) e' = tt
         by_task_state (Awaits nursery since) e' = tt
         by_task_state Over e' = tt

@@ -17,11 +17,10 @@ use Rattle.task_table.specs.declared.task_table.Running.{Running}
 use Rattle.task_table.specs.Rows.{times}
 use Rattle.task_table.specs.TaskTable.{running_at, task_of, task_by, start_of, children_of, parent_of, task_count, IsTaskTable, Starts}
 use Rattle.task_table.proofs.Lists.{Changes, changes_push, value_at}
-use Rattle.task_table.proofs.Times.{one_else, one_if, one_same, times_none, times_push, times_there}
+use Rattle.task_table.proofs.Times.{one_if, one_same, times_none, times_push, times_there}
 use Rattle.job_runner.specs.declared.runner.Runner.{Runner}
 use Rattle.job_runner.specs.Steps.{StartsAll, IsReadied, TakesStarted}
-use Rattle.job_runner.proofs.Readied.{readied_none, readied_more, readied_there, readied_else}
-use Rattle.job_runner.proofs.Stopped.{once_alone}
+use Rattle.job_runner.proofs.Readied.{readied_none, readied_more, readied_there, readied_timer}
 
 -- one more serial number after the given number of consecutive ones
 pub serials_more : (m n : ℕ) → serials_from m n ++ (m + n) ∷ [] ≡ serials_from m (n + 1)
@@ -241,7 +240,7 @@ row_there t lt = let more = t.starts.more in omega (arith, lt, more)
 
 -- the clock still shows the moment, which is the world's
 pub taking_now : {old now : Runner} {parent : ℕ} → Taking old now parent → now_of old.clock ≡ old.world.tick → now_of now.clock ≡ old.world.tick
-taking_now t now = t.ready.time.now ∙ now
+taking_now t now = ap (λ (r : Runner). now_of r.clock) t.ready.rest ∙ now
 
 pub taking_tick : {old now : Runner} {parent : ℕ} → Taking old now parent → now.world.tick ≡ old.world.tick
 taking_tick t = ap (λ (w : World). w.tick) t.world
@@ -276,7 +275,7 @@ taking_more {old} {mid} {now} {parent} t there one = record {
       ∙ ap (λ (x : World). record old.world { started = x.started }) (sym world_is);
   ready =
       readied_more (record old { task_table = mid.task_table; world = mid.world }) mid now.task_table now.world
-      (ap (λ (x : World). x.clock) same) (ap (λ (x : World). x.tick) same) t.ready
+      (ap (λ (x : World). x.clock) same) t.ready
       (readied_there mid one.task_table one.left one.ready);
   timers = timers;
 }
@@ -303,8 +302,7 @@ taking_more {old} {mid} {now} {parent} t there one = record {
               absurd (none-some _ (sym none ∙ lives))
           | inr differs ↦
               let removed : running_at one.task_table id ≡ None = sym (ap (λ (r : TaskTable). running_at r id) table_is) ∙ none in
-              readied_else one.ready id (once_alone one.id id ∙ one_else one.id id (λ f. differs (sym f)))
-              (t.timers id (sym (one.starts.others id differs) ∙ removed))
+              readied_timer one.ready id ∙ t.timers id (sym (one.starts.others id differs) ∙ removed)
         ]
 
 -- once no task waits in the world, all that were started are taken
@@ -322,9 +320,9 @@ taking_all {old} {now} {parent} w t none left world = record {
       subst (λ (x : World). IsReadied t.ids Begin (record old { task_table = now.task_table; world = x }) (record now { world = x })) (sym world)
       (record {
         next = t.ready.next;
-        timers = t.ready.timers;
-        time = t.ready.time;
+        later = t.ready.later;
         current = t.ready.current;
+        later_current = t.ready.later_current;
         rest = ap (λ (r : Runner). record r { world = record now.world { started = w.started } }) t.ready.rest;
       });
 }

@@ -1,25 +1,27 @@
 -- A task that stays until its moment: how often it has to be kept, and that it stays as well in another world.
-use Rattle.std.proofs.Common.{◌≡◌, inl, inr, ℕ, Bool, false, Option, Some, None, refl, ap, sym, ◌∙◌, arith, if◌then◌else◌}
+use Rattle.std.proofs.Common.{◌≡◌, inl, inr, ℕ, suc, Bool, false, Option, Some, None, refl, ap, sym, ◌∙◌, subst, arith, if◌then◌else◌}
 use Rattle.std.specs.Prelude.{◌⊎◌, true}
 use Rattle.std.proofs.lemmas.Option.{none-some}
 use Rattle.cancel_scopes.specs.Sight.{Tick, seen}
 use Rattle.cancel_scopes.specs.Tree.{outer_of}
 use Rattle.job_meaning.specs.Moments.{wakes_at}
+use Rattle.job_meaning.specs.Walk.{last_grant}
 use Rattle.job_meaning.specs.declared.clock.Clock.{Clock}
 use Rattle.job_meaning.specs.declared.clock.Clock.TheVariants.{ByRounds as by_rounds}
 use Rattle.nursery_book.specs.Nursery.{Nursery, is_settled}
 use Rattle.nursery_book.specs.Book.{nursery_at, HasNursery}
 use Rattle.nursery_book.specs.declared.book.NurseryBook.{NurseryBook}
 use Rattle.task_machine.specs.declared.stop.TaskState.{TaskState}
-use Rattle.task_machine.specs.declared.stop.TaskState.TheVariants.{ToBegin, Asked, Asleep, Waiting, GivingUp, Awaits, Over}
+use Rattle.task_machine.specs.declared.stop.TaskState.TheVariants.{ToBegin, Asked, Asleep, Waiting, Queued, GivingUp, Awaits, Over}
 use Rattle.task_machine.specs.declared.task.Task.{Task}
 use Rattle.task_machine.specs.declared.world.World.{World}
 use Rattle.task_machine.specs.Events.{wait_ends}
 use Rattle.task_machine.specs.Fitting.{waits_of}
 use Rattle.task_machine.specs.Labels.{Events}
-use Rattle.task_machine.specs.Tasks.{scope_of}
+use Rattle.task_machine.specs.Tasks.{scope_of, lent_of}
 use Rattle.task_machine.specs.Worlds.{event_at}
-use Rattle.job_runner.specs.Shelves.{left_in, moment_of, IsAsleepIn, DozesIn, Stays, settled_times, task_state_times}
+use Rattle.task_table.specs.declared.entry.Call.{Call}
+use Rattle.job_runner.specs.Shelves.{left_in, moment_of, IsAsleepIn, DozesIn, Stays, ContinuesBy, ContinuesLater, settled_times, task_state_times}
 use Rattle.job_runner.proofs.Goes.{left_is, left_settled}
 
 -- ---- how often a task is kept that has a moment
@@ -35,6 +37,7 @@ stays_once clock events book (ToBegin at) due e = refl
 stays_once clock events book (Asked kernel purpose) due e = refl
 stays_once clock events book (Asleep paced ticks since) due e = refl
 stays_once clock events book (Waiting event since) due e = refl
+stays_once clock events book (Queued object ask since body) due e = refl
 stays_once clock events book (GivingUp since) due e = refl
 stays_once clock events book (Awaits id since) due e = left_once clock (nursery_at book id) due e
 stays_once clock events book Over due e = absurd (none-some due e)
@@ -52,6 +55,7 @@ same_event old new (Waiting event since) e = ap (λ (z : Events). z event) e
 same_event old new (ToBegin at) e = tt
 same_event old new (Asked kernel purpose) e = tt
 same_event old new (Asleep paced ticks since) e = tt
+same_event old new (Queued object ask since body) e = tt
 same_event old new (GivingUp since) e = tt
 same_event old new (Awaits id since) e = tt
 same_event old new Over e = tt
@@ -67,6 +71,8 @@ moment_still old new events more book other (Asleep paced ticks since) due same 
     ap (λ (c : Clock). Some (wakes_at c ticks since)) same ∙ e
 moment_still old new events more book other (Waiting event since) due same set kept e =
     ap (λ (c : Clock). Some (wait_ends c (more event) since)) same ∙ (ap (λ (o : Option Tick). Some (wait_ends old o since)) set ∙ e)
+moment_still old new events more book other (Queued object ask since body) due same set kept e =
+    ap (λ (c : Clock). Some (last_grant c since)) same ∙ e
 moment_still old new events more book other (GivingUp since) due same set kept e = e
 moment_still old new events more book other (Awaits id since) due same set kept e =
     ap (λ (c : Clock). left_in c (nursery_at other id)) same
@@ -90,6 +96,7 @@ dozes_still old new scope (ToBegin at) clock tick same h = tt
 dozes_still old new scope (Asked kernel purpose) clock tick same h = tt
 dozes_still old new scope (Asleep paced ticks since) clock tick same h = asleep_still old new scope since clock tick same h
 dozes_still old new scope (Waiting event since) clock tick same h = asleep_still old new scope since clock tick same h
+dozes_still old new scope (Queued object ask since body) clock tick same h = asleep_still old new scope since clock tick same h
 dozes_still old new scope (GivingUp since) clock tick same h = tt
 dozes_still old new scope (Awaits id since) clock tick same h = tt
 dozes_still old new scope Over clock tick same h = tt
@@ -107,3 +114,13 @@ stays_still old new task due clock tick same set kept h =
       later = (let a = h.later in omega (arith, a, tick));
       dozes = dozes_still old new (scope_of task) task.task_state clock tick same h.dozes;
     }
+
+-- and one that continues in the next moment, which is the same, does so by the same call
+pub continues_still : (old new : World) (task : Task) (call : Call) → new.tick ≡ old.tick →
+    ((due : ℕ) → Stays old due task → Stays new due task) → ContinuesLater old task call → ContinuesLater new task call
+continues_still old new task call tick stays h =
+    record { due = h.due; stays = stays h.due h.stays; by = by_next task.task_state call h.by }
+  where
+    by_next : (task_state : TaskState) (c : Call) → ContinuesBy (lent_of task) (suc old.tick) h.due task_state c →
+        ContinuesBy (lent_of task) (suc new.tick) h.due task_state c
+    by_next task_state c = subst (λ (t : ℕ). ContinuesBy (lent_of task) (suc t) h.due task_state c) (sym tick)

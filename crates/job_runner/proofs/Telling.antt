@@ -9,7 +9,7 @@ use Rattle.cancel_scopes.specs.Tree.{Tree, stack_of, is_changed, IsOpen, SameMar
 use Rattle.std.proofs.lemmas.Bool.{cases_eq}
 use Rattle.std.proofs.lemmas.List.Elements.{All-weaker}
 use Rattle.task_machine.specs.declared.stop.TaskState.{TaskState}
-use Rattle.task_machine.specs.declared.stop.TaskState.TheVariants.{ToBegin, Asleep, Waiting, GivingUp, Awaits}
+use Rattle.task_machine.specs.declared.stop.TaskState.TheVariants.{ToBegin, Asleep, Waiting, Queued, GivingUp, Awaits}
 use Rattle.task_machine.specs.declared.stop.Wake.{Wake}
 use Rattle.task_machine.specs.declared.stop.Wake.TheVariants as wakes
 use Rattle.task_machine.specs.declared.task.Task.{Task}
@@ -21,14 +21,17 @@ use Rattle.run_refinement.specs.Sights.{Shows}
 use Rattle.run_refinement.proofs.Jumped.{state_takes}
 use Rattle.clock.specs.Sleeping.{Sleeping, scope_in, sight_of, SameScopes, Sees}
 use Rattle.task_table.specs.declared.task_table.TaskTable.{TaskTable}
+use Rattle.objects.specs.Whats.{What}
+use Rattle.task_table.specs.Entries.{Added}
 use Rattle.task_table.specs.declared.task_table.Running.{Running}
 use Rattle.task_table.specs.TaskTable.{running_at, task_count}
 use Rattle.job_runner.specs.declared.runner.Runner.{Runner}
-use Rattle.job_runner.specs.Shelves.{GoesBy, IsCalled, IsCalledAdded, IsCalledEntry, IsConsistent, Stays, AllStay, AreKnown, NoneChanged, state_in, IsRefined, IsGoing}
+use Rattle.job_runner.specs.Shared.{what_of, later_calls}
+use Rattle.job_runner.specs.Shelves.{GoesBy, IsCalled, IsCalledAdded, IsCalledEntry, IsCalledLater, ContinuesLater, IsConsistent, Stays, AllStay, AreKnown, NoneChanged, state_in, IsRefined, IsGoing}
 use Rattle.job_runner.specs.Steps.{SeesOnly}
 use Rattle.job_runner.proofs.Counting.{count_below, fewer_below, found_within}
 use Rattle.job_runner.proofs.Options.{some_kept}
-use Rattle.job_runner.proofs.Staying.{same_event, stays_still}
+use Rattle.job_runner.proofs.Staying.{same_event, stays_still, continues_still}
 
 -- a world with other scopes marked
 abbrev pub marked : World → List Bool → World
@@ -36,21 +39,24 @@ marked world changed = record world { scopes = record (world.scopes) { changed =
 
 -- ---- a task that may continue may still do so
 
-timely_marked : (w : World) (changed : List Bool) (scope : Option ℕ) (task_state : TaskState) (wake : Wake) → IsTimely w scope task_state wake →
-    IsTimely (marked w changed) scope task_state wake
-timely_marked w changed scope (ToBegin at) wake h = h
-timely_marked w changed scope (Asleep paced ticks since) wakes.Due h = h
-timely_marked w changed scope (Asleep paced ticks since) wakes.Seen h = h
-timely_marked w changed scope (Waiting event since) wakes.Due h = h
-timely_marked w changed scope (Waiting event since) wakes.Seen h = h
-timely_marked w changed scope (GivingUp since) wake h = h
-timely_marked w changed scope (Awaits id since) wake h = h
-timely_marked w changed scope _ _ h = h
+timely_marked : (w : World) (changed : List Bool) (what : Option What) (scope : Option ℕ) (task_state : TaskState) (wake : Wake) →
+    IsTimely w what scope task_state wake → IsTimely (marked w changed) what scope task_state wake
+timely_marked w changed what scope (ToBegin at) wake h = h
+timely_marked w changed what scope (Asleep paced ticks since) wakes.Due h = h
+timely_marked w changed what scope (Asleep paced ticks since) wakes.Seen h = h
+timely_marked w changed what scope (Waiting event since) wakes.Due h = h
+timely_marked w changed what scope (Waiting event since) wakes.Seen h = h
+timely_marked w changed what scope (Queued object ask since body) (wakes.Granted grant) h = h
+timely_marked w changed what scope (Queued object ask since body) wakes.Seen h = h
+timely_marked w changed what scope (Queued object ask since body) wakes.Due h = h
+timely_marked w changed what scope (GivingUp since) wake h = h
+timely_marked w changed what scope (Awaits id since) wake h = h
+timely_marked w changed what scope _ _ h = h
 
 goes_marked : (w : World) (changed : List Bool) (task : Task) (call : Call) → GoesBy w task call → GoesBy (marked w changed) task call
 goes_marked w changed task call h answer wake right e =
     let may = h answer wake right e in
-    record { fits = may.fits; timely = timely_marked w changed (scope_of task) task.task_state wake may.timely }
+    record { fits = may.fits; timely = timely_marked w changed (what_of call) (scope_of task) task.task_state wake may.timely }
 
 called_marked : (r : TaskTable) (w : World) (changed : List Bool) (id : ℕ) (call : Call) → IsCalled r w id call →
     IsCalled r (marked w changed) id call
@@ -62,12 +68,12 @@ called_marked r w changed id call =
 
 -- what holds while scopes are handed out
 pub record IsTelling (was r : Runner) : Type 0 where
-  pub going : IsGoing None r
+  pub going : IsGoing r
   pub only : SeesOnly was r
   pub fewer : (key : ℕ) → is_changed r.world.scopes key ≡ true → is_changed was.world.scopes key ≡ true
 
 -- before the first scope is handed out, what holds while they are is true
-pub telling_first : (r : Runner) → IsGoing None r → IsTelling r r
+pub telling_first : (r : Runner) → IsGoing r → IsTelling r r
 telling_first r going = record { going = going; only = refl; fewer = λ key e. e }
 
 -- a scope that shows an effective deadline, or is marked, does so if its mark stays
@@ -82,7 +88,7 @@ shows_marked w changed scope was now kept mark h = record { stack = h.stack; ope
     by_known (inr f) = inr (mark ∙ f)
 
 -- a run with other marks, of which the sleepers know
-module _ {r : Runner} (going : IsGoing None r) (changed : List Bool) (sleepers : Sleeping)
+module _ {r : Runner} (going : IsGoing r) (changed : List Bool) (sleepers : Sleeping)
     (known : AreKnown r.task_table (marked r.world changed) r.clock sleepers r.waiters) where
   abbrev informed : Runner
   informed = record r { world = marked r.world changed; sleepers = sleepers }
@@ -90,13 +96,14 @@ module _ {r : Runner} (going : IsGoing None r) (changed : List Bool) (sleepers :
   interleaving_informed : IsRefined informed
   interleaving_informed k settled =
       (state_takes k r.job.now r.input.now r.world.tick (task_count r.task_table) None (state_in r) (state_in informed)
-      (record { turns = refl; task = λ p. refl; ended_task = λ p. refl; start = λ p. refl; children = λ p. refl }) refl
+      (record { turns = refl; task = λ p. refl; ended_task = λ p. refl; start = λ p. refl; children = λ p. refl; path = λ p. refl })
+      (record { through = refl; object = λ l. refl; round = refl; granted = λ p. refl }) refl
       (going.interleaving k settled)).0
 
   consistent_informed : IsConsistent r.task_table (marked r.world changed) r.clock r.limit r.turns
   consistent_informed = record {
     agree = going.shelved.consistent.agree;
-    homes = λ p task home lives at. (let k = going.shelved.consistent.homes p task home lives at in
+    homes = λ shared p task home lives at. (let k = going.shelved.consistent.homes shared p task home lives at in
         record { task = k.task; lives = k.lives; owned = k.owned });
     now = going.shelved.consistent.now;
     limit = going.shelved.consistent.limit;
@@ -104,16 +111,27 @@ module _ {r : Runner} (going : IsGoing None r) (changed : List Bool) (sleepers :
     bounded = going.shelved.consistent.bounded;
     none_started = going.shelved.consistent.none_started;
     none_set = going.shelved.consistent.none_set;
+    none_done = going.shelved.consistent.none_done;
   }
+
+  stays_informed : (due : ℕ) (x : Task) → Stays r.world due x → Stays (marked r.world changed) due x
+  stays_informed due x =
+      stays_still r.world (marked r.world changed) x due refl refl refl
+      (same_event (event_at r.world) (event_at r.world) x.task_state refl) (λ id waits over. refl)
 
   stay_informed : AllStay r.task_table (marked r.world changed) r.clock
   stay_informed key due e =
       some_kept (running_at r.task_table key) (running_at r.task_table key) (λ (y : Running). Stays r.world due y.task)
       (λ (y : Running). Stays (marked r.world changed) due y.task) (λ x is. is)
-      (λ x is d. stays_still r.world (marked r.world changed) x.task due refl refl refl
-      (same_event (event_at r.world) (event_at r.world) x.task.task_state refl) (λ id waits over. refl) d) (going.shelved.stay key due e)
+      (λ x is. stays_informed due x.task) (going.shelved.stay key due e)
 
-  going_marked : IsGoing None informed
+  later_informed : (a : Added) → IsCalledLater r.task_table r.world a → IsCalledLater r.task_table (marked r.world changed) a
+  later_informed a =
+      some_kept (running_at r.task_table a.0) (running_at r.task_table a.0) (λ (x : Running). ContinuesLater r.world x.task a.1)
+      (λ (x : Running). ContinuesLater (marked r.world changed) x.task a.1) (λ x is. is)
+      (λ x is. continues_still r.world (marked r.world changed) x.task a.1 refl (λ due. stays_informed due x.task))
+
+  going_marked : IsGoing informed
   going_marked =
       record {
         sound = going.sound;
@@ -129,14 +147,25 @@ module _ {r : Runner} (going : IsGoing None r) (changed : List Bool) (sleepers :
               next =
                   All-weaker (IsCalledAdded r.task_table r.world) (IsCalledAdded r.task_table (marked r.world changed))
                   (λ a. called_marked r.task_table r.world changed a.0 a.1) r.batch.next going.shelved.next;
+              none_later = going.shelved.none_later;
+              later =
+                  All-weaker (IsCalledLater r.task_table r.world) (IsCalledLater r.task_table (marked r.world changed)) later_informed
+                  (later_calls r) going.shelved.later;
               once = going.shelved.once;
               away = going.shelved.away;
             };
         interleaving = interleaving_informed;
+        lent = record {
+          objects = going.lent.objects;
+          round = going.lent.round;
+          current = going.lent.current;
+          next = going.lent.next;
+          later = going.lent.later;
+        };
       }
 
 -- one scope is known anew
-module _ {r : Runner} (going : IsGoing None r) {id : ℕ} (changed : List Bool) (seen : Tick) {sleepers : Sleeping}
+module _ {r : Runner} (going : IsGoing r) {id : ℕ} (changed : List Bool) (seen : Tick) {sleepers : Sleeping}
     (others : OtherMarksKeep r.world.scopes (marked r.world changed).scopes id)
     (sees : ForSome (stack_of r.world.scopes id) (λ stack. seen ≡ sight stack)) (same : SameScopes r.sleepers sleepers)
     (tells : Sees r.sleepers sleepers id seen) where
@@ -158,7 +187,7 @@ module _ {r : Runner} (going : IsGoing None r) {id : ℕ} (changed : List Bool) 
       ]
 
   -- after the sleepers know the scope's effective deadline, and its mark is removed, the run is consistent as before
-  pub informed_going : IsGoing None (record r { world = marked r.world changed; sleepers = sleepers })
+  pub informed_going : IsGoing (record r { world = marked r.world changed; sleepers = sleepers })
   informed_going =
       going_marked going changed sleepers
       (record {
@@ -168,9 +197,9 @@ module _ {r : Runner} (going : IsGoing None r) {id : ℕ} (changed : List Bool) 
       })
 
 -- where no mark changes, nothing does
-still_going : {r : Runner} → IsGoing None r → (changed : List Bool) →
+still_going : {r : Runner} → IsGoing r → (changed : List Bool) →
     ((key : ℕ) → is_changed (marked r.world changed).scopes key ≡ is_changed r.world.scopes key) →
-    IsGoing None (record r { world = marked r.world changed; sleepers = r.sleepers })
+    IsGoing (record r { world = marked r.world changed; sleepers = r.sleepers })
 still_going {r} going changed marks =
     going_marked going changed r.sleepers
     (record {
@@ -213,7 +242,7 @@ module _ {was r new : Runner} {id : ℕ} (s : IsTelling was r) (one : TellsOne r
   pub telling_next : IsTelling was new
   telling_next = record {
     going =
-        subst (IsGoing None) (sym is_informed)
+        subst IsGoing (sym is_informed)
         (informed_going s.going new.world.scopes.changed one.seen others_kept
         (λ st e. one.sees st (ap (λ (t : Tree). stack_of t id) one.stacks ∙ e)) one.same one.tells);
     only =
@@ -239,9 +268,9 @@ module _ {was r : Runner} (tree : Tree) (s : IsTelling was r) (stacks : tree ≡
   is_last = ap (λ (t : Tree). record r { world = record r.world { scopes = t } }) stacks
 
   -- then the run fits together
-  pub informed_still : IsGoing None all_informed
+  pub informed_still : IsGoing all_informed
   informed_still =
-      subst (IsGoing None) (sym is_last)
+      subst IsGoing (sym is_last)
       (still_going s.going tree.changed (λ key. ap (λ (t : Tree). is_changed t key) (sym stacks) ∙ same key))
 
   -- no scope is marked

@@ -1,10 +1,11 @@
 -- A turn of a task of a runner: afterwards it keeps the tasks of the program, of which that one stopped, and the others
 -- are kept as before.
-use Rattle.std.proofs.Common.{◌≡◌, ◌≢◌, ℕ, suc, ◌+◌, ◌<◌, ◌≤◌, ◌^◌, inl, inr, Option, Some, None, List, [], ◌++◌, length, refl, ap, sym, ◌∙◌, subst, arith}
+use Rattle.std.proofs.Common.{◌≡◌, ◌≢◌, ℕ, suc, ◌+◌, ◌<◌, ◌≤◌, ◌^◌, inl, inr, Option, Some, None, List, [], ◌∷◌, ◌++◌, map, length, refl, ap, sym, ◌∙◌, subst, arith}
 use Rattle.std.specs.Prelude.{All, IsSome, is_some, IsSomeAnd, ◌⊎◌, slice_get}
 use Rattle.std.proofs.lemmas.Bool.{cases_eq, cases_lt}
+use Rattle.std.proofs.lemmas.List.{append_assoc}
 use Rattle.std.proofs.lemmas.Option.{none-some, same_Some, slice_get_within}
-use Rattle.clock.specs.Clock.{now_of, due_of}
+use Rattle.clock.specs.Clock.{now_of, limit_of, due_of}
 use Rattle.task_table.specs.declared.entry.Call.{Call}
 use Rattle.task_table.specs.declared.entry.Call.TheVariants as calls
 use Rattle.task_table.specs.declared.entry.Entry.{Entry}
@@ -15,14 +16,15 @@ use Rattle.job_tree.specs.Tree.{Tree as Job}
 use Rattle.job_tree.specs.Formats.{most_steps}
 use Rattle.job_tree.specs.Names.{size_of}
 use Rattle.job_tree.proofs.Sizes.{few_steps}
-use Rattle.job_meaning.specs.Follow.{IsSettled}
-use Rattle.job_meaning.specs.Log.{Table}
+use Rattle.interleavings.specs.Laws.{IsSettledBy}
+use Rattle.interleavings.specs.Runs.{keeping}
+use Rattle.turn_semantics.specs.Midway.{Tables}
 use Rattle.job_meaning.specs.Moments.{tick_of, a_round_after}
 use Rattle.job_meaning.specs.declared.clock.Clock.{Clock}
 use Rattle.task_machine.specs.declared.stop.TaskState.{TaskState}
-use Rattle.task_machine.specs.declared.stop.TaskState.TheVariants.{ToBegin, Asked, Asleep, Waiting, GivingUp, Awaits, Over}
+use Rattle.task_machine.specs.declared.stop.TaskState.TheVariants.{ToBegin, Asked, Asleep, Waiting, Queued, GivingUp, Awaits, Over}
 use Rattle.task_machine.specs.declared.stop.Stop.{Stop}
-use Rattle.task_machine.specs.declared.stop.Stop.TheVariants.{Ask, Sleep, WaitFor, GiveUp, Wait, Ended}
+use Rattle.task_machine.specs.declared.stop.Stop.TheVariants.{Ask, Sleep, WaitFor, Queue, GiveUp, Wait, Ended}
 use Rattle.task_machine.specs.declared.stop.Wake.{Wake}
 use Rattle.task_machine.specs.declared.stop.Wake.TheVariants as wakes
 use Rattle.task_machine.specs.declared.task.Task.{Task}
@@ -31,13 +33,17 @@ use Rattle.task_machine.specs.Fitting.{blocks_of, waits_of}
 use Rattle.task_machine.specs.Standing.{now_for}
 use Rattle.task_machine.specs.Stacked.{AreAt}
 use Rattle.task_machine.specs.States.{state_of}
-use Rattle.task_machine.specs.Tasks.{scope_of}
+use Rattle.task_machine.specs.Frames.{Lent}
+use Rattle.task_machine.specs.Labels.{Events}
+use Rattle.task_machine.specs.Tasks.{scope_of, lent_of}
 use Rattle.task_machine.specs.Waking.{wake_in}
 use Rattle.task_machine.specs.Worlds.{label_at, event_at}
 use Rattle.interleavings.specs.Interleaving.{Started}
 use Rattle.interleavings.specs.Woken.{MayWake}
 use Rattle.run_refinement.specs.RunState.{RunState, Follows, Refines}
-use Rattle.run_refinement.specs.Moved.{SameTasks}
+use Rattle.objects.specs.Whats.{What}
+use Rattle.run_refinement.specs.Moved.{SameTasks, SameObjects}
+use Rattle.run_refinement.specs.Sharing.{RoundAct, round_act, asked_by}
 use Rattle.run_refinement.specs.Ready.{IsTimely, MayGo, AreHomesOf}
 use Rattle.run_refinement.specs.Sights.{Shows, StaysOrIsSet}
 use Rattle.run_refinement.specs.Step.{TakesTurn as StateTakesTurn, StopSays, EndsAs, StoppedIn}
@@ -57,41 +63,49 @@ use Rattle.clock.specs.Waiting.{event_in}
 use Rattle.task_table.specs.declared.task_table.TaskTable.{TaskTable}
 use Rattle.task_table.specs.declared.task_table.Running.{Running}
 use Rattle.task_table.specs.Rows.{times}
-use Rattle.task_table.specs.TaskTable.{running_at, task_of, ended_task_of, start_of, children_of, parent_of, task_count, run_state, MayTurn, HasTurn}
+use Rattle.task_table.specs.TaskTable.{Sharing, running_at, task_of, ended_task_of, start_of, children_of, parent_of, path_of, task_count, run_state, MayTurn, HasTurn}
 use Rattle.task_table.proofs.Lists.{value_at}
+use Rattle.task_table.proofs.PathLemmas.{path_step}
 use Rattle.task_table.proofs.Times.{all_others, place_of, times_none}
 use Rattle.job_runner.specs.declared.runner.Runner.{Runner}
-use Rattle.job_runner.specs.Shelves.{GoesBy, IsCalled, IsCalledAdded, IsCalledEntry, IsConsistent, Stays, AllStay, AreKnown, timer_times, times_shelved, settled_times, task_state_times, running_times, AreShelved, state_in, IsGoing}
+use Rattle.job_runner.specs.Shared.{what_of, call_by, granted_among, granted_of, later_calls, ready_calls, round_act_of, sharing_in, sharing_of}
+use Rattle.job_runner.specs.Shelves.{ContinuesBy, ContinuesLater, GoesBy, HoldsParts, IsActOf, IsCalled, IsCalledAdded, IsCalledEntry, IsCalledLater, IsConsistent, IsTurning, Stays, AllStay, AreKnown, timer_times, times_shelved, settled_times, task_state_times, running_times, AreShelved, state_turning}
 use Rattle.job_runner.specs.Limits.{last_tick, last_of}
-use Rattle.job_runner.specs.Steps.{StartsAll, IsReadied, TakesStarted, TakesSet, IsStopping}
+use Rattle.job_runner.specs.Steps.{asked_in, state_after, StartsAll, IsReadied, TakesStarted, TakesSet, TakesActs, IsStopping}
 use Rattle.job_runner.proofs.Known.{sleeper_in, sleeps_inside, slots_kept, waits_kept, waiter_in}
 use Rattle.job_runner.proofs.Lived.{task_at, row_below, rows_apart}
+use Rattle.job_runner.proofs.Granted.{among_absent, absent_ready}
+use Rattle.job_runner.proofs.GrantedRows.{HasRowNow, has_row_now, granted_row, granted_nobody, among_own, among_else, path_as}
 use Rattle.job_runner.proofs.Options.{some_has, some_is, some_kept, some_of}
-use Rattle.job_runner.proofs.Readied.{Continues, begin_continues, stay_ready, known_ready, called_ready, times_ready, readied_else, readied_timed}
+use Rattle.job_runner.proofs.Readied.{Continues, begin_continues, called_ready, later_ready, times_ready, granted_ready, none_granted_ready, holds_ready, readied_timer}
 use Rattle.job_runner.proofs.Shelving.{no_timer, timer_else}
 use Rattle.job_runner.proofs.Signalled.{Woken, stay_set, known_set, timers_set}
-use Rattle.job_runner.proofs.Staying.{same_event, stays_still}
-use Rattle.job_runner.proofs.States.{meaning_of, meaning_run, meaning_settled, moment_bounded, turns_bounded}
+use Rattle.job_runner.proofs.Staying.{SameEvent, same_event, stays_still}
+use Rattle.job_runner.proofs.States.{meaning_of, meaning_settled, moment_bounded, turning_run, turning_bounded}
 
--- ---- a world from which the started tasks and the events that were set were taken
+-- ---- a world from which the started tasks, the events that were set and what was done to limiters and channels were taken
 
 -- another world has these
 abbrev left_of : World → World → World
-left_of w x = record w { started = x.started; set = x.set }
+left_of w x = record w { started = x.started; set = x.set; acts = x.acts }
 
-timely_on : (w : World) (x : World) (scope : Option ℕ) (task_state : TaskState) (wake : Wake) → IsTimely w scope task_state wake →
-    IsTimely (left_of w x) scope task_state wake
-timely_on w x scope (ToBegin at) wake h = h
-timely_on w x scope (Asleep paced ticks since) wakes.Due h = h
-timely_on w x scope (Asleep paced ticks since) wakes.Seen h = h
-timely_on w x scope (Waiting event since) wakes.Due h = h
-timely_on w x scope (Waiting event since) wakes.Seen h = h
-timely_on w x scope (GivingUp since) wake h = h
-timely_on w x scope (Awaits id since) wake h = h
-timely_on w x scope _ _ h = h
+timely_on : (w : World) (x : World) (what : Option What) (scope : Option ℕ) (task_state : TaskState) (wake : Wake) →
+    IsTimely w what scope task_state wake → IsTimely (left_of w x) what scope task_state wake
+timely_on w x what scope (ToBegin at) wake h = h
+timely_on w x what scope (Asleep paced ticks since) wakes.Due h = h
+timely_on w x what scope (Asleep paced ticks since) wakes.Seen h = h
+timely_on w x what scope (Waiting event since) wakes.Due h = h
+timely_on w x what scope (Waiting event since) wakes.Seen h = h
+timely_on w x what scope (Queued object ask since body) (wakes.Granted grant) h = h
+timely_on w x what scope (Queued object ask since body) wakes.Seen h = h
+timely_on w x what scope (Queued object ask since body) wakes.Due h = h
+timely_on w x what scope (GivingUp since) wake h = h
+timely_on w x what scope (Awaits id since) wake h = h
+timely_on w x what scope _ _ h = h
 
-goes_on : (w : World) (x : World) (task : Task) (wake : Wake) → MayGo w task wake → MayGo (left_of w x) task wake
-goes_on w x task wake h = record { fits = h.fits; timely = timely_on w x (scope_of task) task.task_state wake h.timely }
+goes_on : (w : World) (x : World) (what : Option What) (task : Task) (wake : Wake) → MayGo w what task wake → MayGo (left_of w x) what task wake
+goes_on w x what task wake h =
+    record { fits = h.fits; timely = timely_on w x what (scope_of task) task.task_state wake h.timely }
 
 says_on : (w : World) (x : World) (task : Task) (stop : Stop) → StopSays w task stop → StopSays (left_of w x) task stop
 says_on w x task (Ask request) h = h
@@ -106,45 +120,86 @@ says_on w x task (Sleep due) h =
       unseen = h.unseen;
     }
 says_on w x task (WaitFor event) h = record { task_state = h.task_state; set = h.set; is_event = h.is_event }
-says_on w x task (GiveUp due) h = record { task_state = h.task_state; due_is = h.due_is }
+says_on w x task (Queue request) h =
+    record {
+      body = h.body;
+      task_state = h.task_state;
+      label = h.label;
+      labelled = h.labelled;
+      buffer = h.buffer;
+      range = h.range;
+    }
+says_on w x task (GiveUp due) h = record { since = h.since; since_is = h.since_is; task_state = h.task_state; due_is = h.due_is }
 says_on w x task (Wait id) h = record { task_state = h.task_state; last = h.last }
 says_on w x task (Ended exc) h = tt
+
+-- what a task asks that stopped so
+asked_same : (w : World) (s : ℕ) (task : Task) (stop : Stop) → asked_in w s stop ≡ asked_by s task (label_at w) stop
+asked_same w s task (Ask request) = refl
+asked_same w s task (Sleep due) = refl
+asked_same w s task (WaitFor event) = refl
+asked_same w s task (Queue request) = refl
+asked_same w s task (GiveUp due) = refl
+asked_same w s task (Wait id) = refl
+asked_same w s task (Ended exc) = refl
+
+asked_on : (w : World) (x : World) (s : ℕ) (stop : Stop) → asked_in (left_of w x) s stop ≡ asked_in w s stop
+asked_on w x s (Ask request) = refl
+asked_on w x s (Sleep due) = refl
+asked_on w x s (WaitFor event) = refl
+asked_on w x s (Queue request) = refl
+asked_on w x s (GiveUp due) = refl
+asked_on w x s (Wait id) = refl
+asked_on w x s (Ended exc) = refl
+
+-- a task that continues in the next moment waits for no event
+continues_event : (old new : Events) (lent : Lent) (next due : ℕ) (task_state : TaskState) (call : Call) →
+    ContinuesBy lent next due task_state call → SameEvent old new task_state
+continues_event old new lent next due (Waiting event since) call h = absurd h
+continues_event old new lent next due (ToBegin at) call h = tt
+continues_event old new lent next due (Asked kernel purpose) call h = tt
+continues_event old new lent next due (Asleep paced ticks since) call h = tt
+continues_event old new lent next due (Queued object ask since body) call h = tt
+continues_event old new lent next due (GivingUp since) call h = tt
+continues_event old new lent next due (Awaits id since) call h = tt
+continues_event old new lent next due Over call h = tt
 
 -- ---- before the turn
 
 -- a task that has its turn now and may continue may have its turn
-pub may_turn : {id : ℕ} {r : Runner} (wake : Wake) → IsGoing (Some id) r →
-    IsSomeAnd (running_at r.task_table id) (λ (x : Running). MayGo r.world x.task wake) → IsSound r.world.scopes →
+pub may_turn : {id : ℕ} {r : Runner} (wake : Wake) → IsTurning id wake r → IsSound r.world.scopes →
     (x : Running) → running_at r.task_table id ≡ Some x → MayTurn r.world x.task wake
-may_turn {id} {r} wake going goes sound x lives =
-    let may = some_of (running_at r.task_table id) (λ (y : Running). MayGo r.world y.task wake) x lives goes in
-    let c = meaning_run r going in
+may_turn {id} {r} wake going sound x lives =
+    let may = some_of (running_at r.task_table id) (λ (y : Running). MayGo r.world (what_of (call_by wake)) y.task wake) x lives going.goes in
+    let c = turning_run r going in
     let at = task_at r.task_table going.shelved.consistent.agree id x lives in
     record {
-      fits = state_fits (meaning_of r) r.job.now r.input.now r.world.tick (task_count r.task_table) None (state_in r) c sound x.row x.task at;
+      fits =
+          state_fits (meaning_of r) r.job.now r.input.now r.world.tick (task_count r.task_table) None (state_turning id wake r) c sound x.row
+          x.task at;
       in_range = (c.follows x.row x.task at).in_range;
       wake = may.fits;
     }
 
 -- a run had at most 2,000,001 turns
-pub turns_few : {away : Option ℕ} (r : Runner) → IsGoing away r → r.turns ≤ 2000001
+pub turns_few : {id : ℕ} {wake : Wake} (r : Runner) → IsTurning id wake r → r.turns ≤ 2000001
 turns_few r going =
-    let few = turns_bounded r going in
+    let few = turning_bounded r going in
     let size : size_of r.job.now.steps ≤ most_steps r.job.now.format = going.sound.in_range.size in
     let most : most_steps r.job.now.format ≤ 1000000 = few_steps r.job.now.format in
     omega (arith, few, size, most)
 
 -- the moment and the number of tasks may be said otherwise
-stopped_in : {k : Table} {job : Job} {input : List ℕ} {t u m n s : ℕ} {stop : Stop} {state : RunState} → t ≡ u → m ≡ n →
+stopped_in : {k : Tables} {job : Job} {input : List ℕ} {t u m n s : ℕ} {stop : Stop} {state : RunState} → t ≡ u → m ≡ n →
     StoppedIn k job input t m s stop state → StoppedIn k job input u n s stop state
 stopped_in e f h = rw (← e, ← f) h
 
 -- ---- the turn
 
-module _ {id : ℕ} {wake : Wake} {stop : Stop} {r after new : Runner} {ro : TaskTable} {w : World} (going : IsGoing (Some id) r)
-    (goes : IsSomeAnd (running_at r.task_table id) (λ (x : Running). MayGo r.world x.task wake))
+module _ {id : ℕ} {wake : Wake} {stop : Stop} {r after woke new : Runner} {ro : TaskTable} {w : World} (going : IsTurning id wake r)
     (turn : HasTurn r.task_table ro r.world w id wake stop) (sound : IsSound r.world.scopes) (sound_after : IsSound w.scopes)
-    (takes : TakesStarted (record r { world = w; task_table = ro; turns = r.turns + 1 }) after turn.row) (sets : TakesSet after new)
+    (takes : TakesStarted (record r { world = w; task_table = ro; turns = r.turns + 1 }) after turn.row) (sets : TakesSet after woke)
+    (acts : TakesActs woke new turn.row)
   where
     abbrev t : ℕ
     t = r.world.tick
@@ -155,47 +210,57 @@ module _ {id : ℕ} {wake : Wake} {stop : Stop} {r after new : Runner} {ro : Tas
     abbrev s : ℕ
     s = turn.row
 
-    -- the tasks of the program right after the turn, and those of the runner after the started tasks were taken
-    abbrev that : RunState
-    that = run_state after.task_table w (r.turns + 1)
-
-    -- where those tasks do not continue yet
+    -- where the tasks that were started do not continue yet
     abbrev mid : Runner
     mid = record r { world = record w { started = after.world.started }; task_table = after.task_table; turns = r.turns + 1 }
 
-    -- the world from which the events that were set were taken too
+    -- the world from which the events that were set and what was done were taken too
     abbrev last : World
-    last = record w { started = after.world.started; set = new.world.set }
+    last = record w { started = after.world.started; set = woke.world.set; acts = new.world.acts }
 
     -- the same with the events as they were before the turn
     abbrev unset : World
     unset = record w { started = after.world.started; events = r.world.events }
 
     abbrev left : Runner
-    left = record mid { world = last; batch = after.batch; clock = new.clock; waiters = new.waiters }
+    left = record mid {
+      world = last;
+      batch = after.batch;
+      later = after.later;
+      clock = woke.clock;
+      waiters = woke.waiters;
+      round = new.round;
+    }
+
+    -- the tasks of the program before the turn, and right after it
+    abbrev before : RunState
+    before = state_turning id wake r
+
+    abbrev shared : Sharing
+    shared = record (sharing_in left) { round = map round_act_of new.round.items ++ asked_in last s stop }
+
+    abbrev that : RunState
+    that = run_state after.task_table w (r.turns + 1) shared
 
     ready : IsReadied takes.ids calls.Begin mid after
     ready =
         subst (λ (x : World). IsReadied takes.ids calls.Begin (record r { world = x; task_table = after.task_table; turns = r.turns + 1 }) after)
         takes.world takes.ready
 
-    -- the same of a world with the events as they were
-    abbrev were : Runner
-    were = record mid { world = unset }
-
-    abbrev there : Runner
-    there = record were { batch = after.batch; clock = after.clock }
-
-    ready_unset : IsReadied takes.ids calls.Begin were there
-    ready_unset = record { next = ready.next; timers = ready.timers; time = ready.time; current = ready.current; rest = refl }
+    same_clock : after.clock ≡ r.clock
+    same_clock = ap (λ (x : Runner). x.clock) ready.rest
 
     last_is : new.world ≡ last
-    last_is = sets.world ∙ ap (λ (x : World). record x { set = new.world.set }) takes.world
+    last_is =
+        acts.world ∙ ap (λ (x : World). record x { acts = new.world.acts }) sets.world
+        ∙ ap (λ (x : World). record x { set = woke.world.set; acts = new.world.acts }) takes.world
 
     new_is : new ≡ left
     new_is =
-        ap (λ (x : Runner). record x { world = new.world }) sets.wakes.rest
-        ∙ ap (λ (x : Runner). record x { world = new.world; clock = new.clock; waiters = new.waiters }) ready.rest
+        acts.rest
+        ∙ ap (λ (x : Runner). record x { world = new.world; round = new.round })
+        (ap (λ (x : Runner). record x { world = woke.world }) sets.wakes.rest)
+        ∙ ap (λ (x : Runner). record x { world = new.world; clock = woke.clock; waiters = woke.waiters; round = new.round }) ready.rest
         ∙ ap (λ (x : World). record left { world = x }) last_is
 
     tick : w.tick ≡ t
@@ -208,12 +273,26 @@ module _ {id : ℕ} {wake : Wake} {stop : Stop} {r after new : Runner} {ro : Tas
     none_set = going.shelved.consistent.none_set
 
     -- tasks that waited for the events were woken
-    woken : Woken w.set.items (suc w.tick) after.clock new.clock r.waiters new.waiters
+    woken : Woken w.set.items (suc w.tick) after.clock woke.clock r.waiters woke.waiters
     woken =
-        subst (λ (ws : List (Option ℕ)). Woken w.set.items (suc w.tick) after.clock new.clock ws new.waiters)
+        subst (λ (ws : List (Option ℕ)). Woken w.set.items (suc w.tick) after.clock woke.clock ws woke.waiters)
         (ap (λ (x : Runner). x.waiters) ready.rest)
-        (subst (λ (x : World). Woken x.set.items (suc x.tick) after.clock new.clock after.waiters new.waiters) takes.world
+        (subst (λ (x : World). Woken x.set.items (suc x.tick) after.clock woke.clock after.waiters woke.waiters) takes.world
         (record { woken = sets.wakes.woken; others = sets.wakes.others }))
+
+    same_round : woke.round ≡ r.round
+    same_round = ap (λ (x : Runner). x.round) sets.wakes.rest ∙ ap (λ (x : Runner). x.round) ready.rest
+
+    same_input : woke.input.now ≡ r.input.now
+    same_input = ap (λ (x : Runner). x.input.now) sets.wakes.rest ∙ ap (λ (x : Runner). x.input.now) ready.rest
+
+    -- what was done was taken
+    taken : map round_act_of new.round.items ≡ map round_act_of r.round.items ++ map (round_act s) w.acts.items
+    taken =
+        acts.kept
+        ∙ ap (λ v. map round_act_of v.items ++ map (round_act s) woke.world.acts.items) same_round
+        ∙ ap (λ (x : World). map round_act_of r.round.items ++ map (round_act s) x.acts.items)
+        (sets.world ∙ ap (λ (x : World). record x { set = woke.world.set }) takes.world)
 
     same_many : task_count ro ≡ m
     same_many = turn.same.many
@@ -231,8 +310,8 @@ module _ {id : ℕ} {wake : Wake} {stop : Stop} {r after new : Runner} {ro : Tas
     below : (p : ℕ) → p < m → p < task_count ro
     below p lt = omega (arith, lt, same_many)
 
-    may : MayGo r.world turn.before wake
-    may = some_of (running_at r.task_table id) (λ (y : Running). MayGo r.world y.task wake) its turn.lived goes
+    may : MayGo r.world (what_of (call_by wake)) turn.before wake
+    may = some_of (running_at r.task_table id) (λ (y : Running). MayGo r.world (what_of (call_by wake)) y.task wake) its turn.lived going.goes
 
     ended_task_same : (p : ℕ) → ended_task_of after.task_table p ≡ ended_task_of r.task_table p
     ended_task_same p =
@@ -242,90 +321,10 @@ module _ {id : ℕ} {wake : Wake} {stop : Stop} {r after new : Runner} {ro : Tas
         ] in
         started_at.same_ended_task p ∙ here
 
-    turn_taken : StateTakesTurn t m s (state_in r) that turn.before turn.after wake stop
-    turn_taken = record {
-      task = task_at r.task_table going.shelved.consistent.agree id its turn.lived;
-      goes = may;
-      stays = turn.keeps.task;
-      world = turn.keeps.world;
-      sound = sound;
-      sound_after = sound_after;
-      none_left = going.shelved.consistent.none_started;
-      none_set = none_set;
-      fits_after = turn.fits;
-      in_range = turn.keeps.in_range;
-      turn = turn.turn;
-      turns = refl;
-      task_after = started_at.same_task s row_there ∙ turn.task;
-      child_after = λ i. ap (λ (n : ℕ). task_of after.task_table (n + i)) (sym same_many) ∙ started_at.task i;
-      other_after = λ p lt differs. started_at.same_task p (below p lt) ∙ turn.same.task p differs;
-      ended_task_after = ended_task_same;
-      start_after = λ p lt. started_at.same_start p (below p lt) ∙ turn.same.start p;
-      start_child = λ i lt.
-          ap (λ (n : ℕ). start_of after.task_table (n + i)) (sym same_many) ∙ started_at.start i lt
-          ∙ ap (λ (x : World). tick_of x.clock (a_round_after x.clock x.tick)) turn.keeps.world;
-      more_children =
-          started_at.child ∙ ap (λ (xs : List ℕ). xs ++ serials_from (task_count ro) (length w.started.items)) (turn.same.children s)
-          ∙ ap (λ (n : ℕ). children_of r.task_table s ++ serials_from n (length w.started.items)) same_many;
-      children_after = λ p lt differs. started_at.same_children p (below p lt) differs ∙ turn.same.children p;
-      no_children = λ i lt. ap (λ (n : ℕ). children_of after.task_table (n + i)) (sym same_many) ∙ started_at.childless i lt;
-    }
-
-    same_tasks : SameTasks that (state_in left)
-    same_tasks = record { turns = refl; task = λ p. refl; ended_task = λ p. refl; start = λ p. refl; children = λ p. refl }
-
     count : m + length w.started.items ≡ task_count after.task_table
     count = let more : task_count after.task_table ≡ task_count ro + length w.started.items = started_at.more in omega (arith, more, same_many)
 
-    -- for each settled table
-    module _ (k : Table) (settled : IsSettled k r.job.now r.input.now) where
-      c : Refines k r.job.now r.input.now t m None (state_in r)
-      c = going.interleaving k settled
-
-      stopped_there : StoppedIn k r.job.now r.input.now t (m + length w.started.items) s stop that
-      stopped_there =
-          stepped k r.job.now r.input.now t m s (state_in r) that turn.before turn.after wake stop settled going.sound.names
-          going.sound.starts
-          c turn_taken
-          (may_wake k r.job.now r.input.now t m (state_in r) settled going.sound.names going.sound.starts c s turn.before turn_taken.task
-          wake
-          may)
-
-      stopped_left : StoppedIn k r.job.now r.input.now t (m + length w.started.items) s stop (state_in left)
-      stopped_left =
-          let x =
-          state_takes k r.job.now r.input.now t (m + length w.started.items) (leaving_by stop s) that (state_in left) same_tasks
-          (ap (λ (v : ℕ). record w { tick = v; started = after.world.started; set = new.world.set }) tick) stopped_there.is in
-          record { is = x.0; ended = subst (λ (at : ℕ → Started). EndsAs stop t (at s)) (sym x.1) stopped_there.ended }
-
-      -- what the turn leaves is a run of the definitions by that table, in which this task stopped so
-      pub stopped_interleaving : StoppedIn k r.job.now r.input.now w.tick (task_count after.task_table) s stop (state_in left)
-      stopped_interleaving = stopped_in (sym tick) count stopped_left
-
-    -- ---- the other tasks
-
-    abbrev table : Table
-    table = meaning_of r
-
-    settled : IsSettled table r.job.now r.input.now
-    settled = meaning_settled r going.sound
-
-    state : Refines table r.job.now r.input.now t m None (state_in r)
-    state = meaning_run r going
-
-    wakes_so : MayWake state.interleaving.cancelled_from state.interleaving.tasks
-        (record { at = t; own = (now_for wake (state_of turn.before r.world)).own }) (state.interleaving.at s)
-        (wake_in r.world.book turn.before.task_state wake) (state.interleaving.at s).rest.stopped
-    wakes_so = may_wake table r.job.now r.input.now t m (state_in r) settled going.sound.names going.sound.starts state s turn.before
-        turn_taken.task wake may
-
-    turned_so : (T : Turning table r.job.now r.input.now t m s (state_in r) that state.numbers turn.before turn.after stop state.interleaving)
-        × (length T.move.begun ≡ length w.started.items)
-    turned_so = turning_of table r.job.now r.input.now t m s (state_in r) that turn.before turn.after wake stop settled going.sound.names
-        going.sound.starts state turn_taken wakes_so
-
-    abbrev T : Turning table r.job.now r.input.now t m s (state_in r) that state.numbers turn.before turn.after stop state.interleaving
-    T = turned_so.0
+    -- ---- who lives on
 
     -- each id is that of a started task
     id_within : (i other : ℕ) → slice_get takes.ids i ≡ Some other → i < length w.started.items
@@ -346,6 +345,195 @@ module _ {id : ℕ} {wake : Wake} {stop : Stop} {r after new : Runner} {ro : Tas
     none_new : (other : ℕ) (y : Running) → other ≢ id → running_at r.task_table other ≡ Some y → times other takes.ids ≡ 0
     none_new other y differs lives = not_new other y (turn.others other differs ∙ lives)
 
+    -- it lives on itself
+    its_later : Running
+    its_later = record { task = turn.after; row = s }
+
+    lives_later : running_at after.task_table id ≡ Some its_later
+    lives_later = started_at.others id (not_new id its_later turn.lives) ∙ turn.lives
+
+    -- ---- what is granted
+
+    none_here : times_shelved r.batch (later_calls r) r.clock id ≡ 0
+    none_here = going.shelved.away id refl
+
+    none_among : (key : ℕ) → times_shelved r.batch (later_calls r) r.clock key ≡ 0 → granted_among key (ready_calls r) ≡ None
+    none_among key none = among_absent key (ready_calls r) (absent_ready r key (omega (arith, none)))
+
+    -- what its wake says is granted to the task
+    granted_here : before.granted s ≡ what_of (call_by wake)
+    granted_here =
+        granted_row r.task_table going.shelved.consistent.agree ((id, call_by wake) ∷ ready_calls r) s id its turn.lived refl
+        ∙ among_own id (call_by wake) (ready_calls r) (none_among id none_here)
+
+    -- afterwards the same calls grant anything
+    among_after : (key : ℕ) → granted_among key (ready_calls left) ≡ granted_among key (ready_calls r)
+    among_after key = granted_ready ready refl key
+
+    none_after : granted_of after.task_table (ready_calls left) s ≡ None
+    none_after =
+        granted_row after.task_table takes.agree (ready_calls left) s id its_later lives_later refl ∙ among_after id ∙ none_among id none_here
+
+    -- and to each other row the same is granted
+    granted_else : (p : ℕ) → p ≢ s → granted_of after.task_table (ready_calls left) p ≡ before.granted p
+    granted_else p differs = by_both (has_row_now r.task_table going.shelved.consistent.agree p) (has_row_now after.task_table takes.agree p)
+      where
+        Same : Type 0
+        Same = granted_of after.task_table (ready_calls left) p ≡ before.granted p
+
+        -- a task that has not ended, and does not have its turn, has no row of its
+        apart : (key : ℕ) (y : Running) → running_at r.task_table key ≡ Some y → y.row ≡ p → key ≢ id
+        apart key y lives at same =
+            let e : y ≡ its = same_Some y its (sym lives ∙ (ap (running_at r.task_table) same ∙ turn.lived)) in
+            differs (sym at ∙ ap (λ (x : Running). x.row) e)
+
+        -- one that was started has no call that grants anything
+        fresh : (key : ℕ) (z : Running) → running_at after.task_table key ≡ Some z → z.row ≡ p → (HasRowNow r.task_table p → ⊥) →
+            (o : Option Running) → running_at r.task_table key ≡ o → granted_among key (ready_calls r) ≡ None
+        fresh key z lives at nobody None e = none_among key (going.shelved.once key else_ ∙ ap (running_times r.world.book) e)
+          where
+            else_ : key ≢ id
+            else_ same = none-some its (sym e ∙ (ap (running_at r.task_table) same ∙ turn.lived))
+        fresh key z lives at nobody (Some y) e = absurd (by_id (cases_eq key id))
+          where
+            by_id : (key ≡ id) ⊎ (key ≢ id) → ⊥
+            by_id (inl same) =
+                let f : z ≡ its_later = same_Some z its_later (sym lives ∙ (ap (running_at after.task_table) same ∙ lives_later)) in
+                differs (sym at ∙ ap (λ (x : Running). x.row) f)
+            by_id (inr other) =
+                let f : z ≡ y = same_Some z y (sym lives ∙ lived_still key y other e) in
+                nobody (key, y, e, sym (ap (λ (x : Running). x.row) f) ∙ at)
+
+        by_both : HasRowNow r.task_table p ⊎ (HasRowNow r.task_table p → ⊥) →
+            HasRowNow after.task_table p ⊎ (HasRowNow after.task_table p → ⊥) → Same
+        by_both (inl (key, y, lives, at)) now =
+            granted_row after.task_table takes.agree (ready_calls left) p key y (lived_still key y (apart key y lives at) lives) at
+            ∙ among_after key ∙ sym (among_else id key (call_by wake) (ready_calls r) (apart key y lives at))
+            ∙ sym (granted_row r.task_table going.shelved.consistent.agree ((id, call_by wake) ∷ ready_calls r) p key y lives at)
+        by_both (inr nobody) (inl (key, z, lives, at)) =
+            granted_row after.task_table takes.agree (ready_calls left) p key z lives at
+            ∙ among_after key ∙ fresh key z lives at nobody (running_at r.task_table key) refl
+            ∙ sym (granted_nobody r.task_table ((id, call_by wake) ∷ ready_calls r) p nobody)
+        by_both (inr nobody) (inr none) =
+            granted_nobody after.task_table (ready_calls left) p none
+            ∙ sym (granted_nobody r.task_table ((id, call_by wake) ∷ ready_calls r) p nobody)
+
+    -- ---- the turn of the tasks of the program
+
+    parent_still : (p : ℕ) → p < m → parent_of after.task_table p ≡ parent_of r.task_table p
+    parent_still p lt = started_at.same_parent p (below p lt) ∙ turn.same.parent p
+
+    path_still : (p : ℕ) → p < m → path_of after.task_table p ≡ path_of r.task_table p
+    path_still p lt =
+        path_as p p m (parent_of r.task_table) (parent_of after.task_table) parent_still going.shelved.consistent.agree.earlier lt
+
+    path_new : (i : ℕ) → i < length w.started.items → path_of after.task_table (m + i) ≡ path_of r.task_table s ++ (m + i) ∷ []
+    path_new i lt =
+        let here : s < m = row_below r.task_table going.shelved.consistent.agree id its turn.lived in
+        path_step after.task_table (m + i) takes.agree (omega (arith, here)) (let c = count in omega (arith, lt, c))
+        ∙ ap (λ (p : ℕ). path_of after.task_table p ++ (m + i) ∷ [])
+        (ap (λ (n : ℕ). parent_of after.task_table (n + i)) (sym same_many) ∙ started_at.parent_is i lt)
+        ∙ ap (λ (xs : List ℕ). xs ++ (m + i) ∷ []) (path_still s here)
+
+    turn_taken : StateTakesTurn t m s before that turn.before turn.after wake stop
+    turn_taken = record {
+      task = task_at r.task_table going.shelved.consistent.agree id its turn.lived;
+      goes = subst (λ (o : Option What). MayGo r.world o turn.before wake) (sym granted_here) may;
+      stays = turn.keeps.task;
+      world = turn.keeps.world;
+      sound = sound;
+      sound_after = sound_after;
+      none_left = going.shelved.consistent.none_started;
+      none_set = none_set;
+      none_done = going.shelved.consistent.none_done;
+      fits_after = turn.fits;
+      in_range = turn.keeps.in_range;
+      turn = turn.turn;
+      turns = refl;
+      task_after = started_at.same_task s row_there ∙ turn.task;
+      child_after = λ i. ap (λ (n : ℕ). task_of after.task_table (n + i)) (sym same_many) ∙ started_at.task i;
+      other_after = λ p lt differs. started_at.same_task p (below p lt) ∙ turn.same.task p differs;
+      ended_task_after = ended_task_same;
+      start_after = λ p lt. started_at.same_start p (below p lt) ∙ turn.same.start p;
+      start_child = λ i lt.
+          ap (λ (n : ℕ). start_of after.task_table (n + i)) (sym same_many) ∙ started_at.start i lt
+          ∙ ap (λ (x : World). tick_of x.clock (a_round_after x.clock x.tick)) turn.keeps.world;
+      more_children =
+          started_at.child ∙ ap (λ (xs : List ℕ). xs ++ serials_from (task_count ro) (length w.started.items)) (turn.same.children s)
+          ∙ ap (λ (n : ℕ). children_of r.task_table s ++ serials_from n (length w.started.items)) same_many;
+      children_after = λ p lt differs. started_at.same_children p (below p lt) differs ∙ turn.same.children p;
+      no_children = λ i lt. ap (λ (n : ℕ). children_of after.task_table (n + i)) (sym same_many) ∙ started_at.childless i lt;
+      path_after = path_still;
+      path_child = path_new;
+      unserved = going.unserved.through;
+      through_after = refl;
+      object_after = λ l. refl;
+      round_after =
+          ap (λ (xs : List RoundAct). xs ++ asked_in last s stop) taken
+          ∙ append_assoc (map round_act_of r.round.items) (map (round_act s) w.acts.items) (asked_in last s stop)
+          ∙ ap (λ (xs : List RoundAct). map round_act_of r.round.items ++ (map (round_act s) w.acts.items ++ xs))
+          (asked_on w last s stop ∙ asked_same w s turn.after stop);
+      granted_after = granted_else;
+      granted_task = none_after;
+    }
+
+    same_tasks : SameTasks that (state_after s stop left)
+    same_tasks = record { turns = refl; task = λ p. refl; ended_task = λ p. refl; start = λ p. refl; children = λ p. refl; path = λ p. refl }
+
+    same_objects : SameObjects that (state_after s stop left)
+    same_objects = record { through = refl; object = λ l. refl; round = refl; granted = λ p. refl }
+
+    -- for each pair of settled tables
+    module _ (k : Tables) (settled : IsSettledBy k r.job.now r.input.now) where
+      c : Refines k r.job.now r.input.now t m None before
+      c = going.interleaving k settled
+
+      stopped_there : StoppedIn k r.job.now r.input.now t (m + length w.started.items) s stop that
+      stopped_there =
+          stepped k r.job.now r.input.now t m s before that turn.before turn.after wake stop settled going.sound.names
+          going.sound.starts
+          c turn_taken
+          (may_wake k r.job.now r.input.now t m before settled going.sound.names going.sound.starts c going.unserved.through s turn.before
+          turn_taken.task wake turn_taken.goes)
+
+      stopped_left : StoppedIn k r.job.now r.input.now t (m + length w.started.items) s stop (state_after s stop left)
+      stopped_left =
+          let x =
+          state_takes k r.job.now r.input.now t (m + length w.started.items) (leaving_by stop s) that (state_after s stop left) same_tasks
+          same_objects
+          (ap (λ (v : ℕ). record w { tick = v; started = after.world.started; set = woke.world.set; acts = new.world.acts }) tick)
+          stopped_there.is in
+          record { is = x.0; ended = subst (λ (at : ℕ → Started). EndsAs stop t (at s)) (sym x.1) stopped_there.ended }
+
+      -- what the turn leaves is a run of the definitions by that table, in which this task stopped so
+      pub stopped_interleaving : StoppedIn k r.job.now r.input.now w.tick (task_count after.task_table) s stop (state_after s stop left)
+      stopped_interleaving = stopped_in (sym tick) count stopped_left
+
+    -- ---- the other tasks
+
+    abbrev table : Tables
+    table = meaning_of r
+
+    settled : IsSettledBy table r.job.now r.input.now
+    settled = meaning_settled r going.sound
+
+    state : Refines table r.job.now r.input.now t m None before
+    state = turning_run r going
+
+    wakes_so : MayWake (keeping state.interleaving.cancelled_from table) state.interleaving.tasks
+        (record { at = t; own = (now_for wake (state_of turn.before r.world)).own }) (state.interleaving.at s)
+        (wake_in r.world.book turn.before.task_state wake) (state.interleaving.at s).rest.stopped
+    wakes_so = may_wake table r.job.now r.input.now t m before settled going.sound.names going.sound.starts state going.unserved.through s
+        turn.before turn_taken.task wake turn_taken.goes
+
+    turned_so : (T : Turning table r.job.now r.input.now t m s before that state.numbers turn.before turn.after stop state.interleaving)
+        × (length T.move.begun ≡ length w.started.items)
+    turned_so = turning_of table r.job.now r.input.now t m s before that turn.before turn.after wake stop settled going.sound.names
+        going.sound.starts state turn_taken wakes_so
+
+    abbrev T : Turning table r.job.now r.input.now t m s before that state.numbers turn.before turn.after stop state.interleaving
+    T = turned_so.0
+
     module _ (other : ℕ) (y : Running) (differs : other ≢ id) (lives : running_at r.task_table other ≡ Some y) where
       y_below : y.row < m
       y_below = row_below r.task_table going.shelved.consistent.agree other y lives
@@ -360,13 +548,13 @@ module _ {id : ℕ} {wake : Wake} {stop : Stop} {r after new : Runner} {ro : Tas
           (leaving_by stop s) y.row
           y.task
       y_follows =
-          other_follows table r.job.now r.input.now t m s (state_in r) that turn.before turn.after stop settled going.sound.names
+          other_follows table r.job.now r.input.now t m s before that turn.before turn.after stop settled going.sound.names
           going.sound.starts state T y.row y_below y_else y.task y_task
 
-      goes_still : (v : Wake) → MayGo r.world y.task v → MayGo last y.task v
-      goes_still v h =
-          goes_on w last y.task v (still_goes settled going.sound.names going.sound.starts state T y.row y_below y_else y.task y_task
-          y_follows v h)
+      goes_still : (what : Option What) (v : Wake) → MayGo r.world what y.task v → MayGo last what y.task v
+      goes_still what v h =
+          goes_on w last what y.task v
+          (still_goes settled going.sound.names going.sound.starts state T y.row y_below y_else y.task y_task y_follows what v h)
 
       -- it stays until then, where no event was set
       its_stays : (due : ℕ) → Stays r.world due y.task → Stays unset due y.task
@@ -376,6 +564,21 @@ module _ {id : ℕ} {wake : Wake} {stop : Stop} {r after new : Runner} {ro : Tas
           ∙ seen_still settled going.sound.names going.sound.starts state T y.row y_below y_else y.task y_task y_follows)
           (same_event (event_at r.world) (event_at unset) y.task.task_state refl)
           (λ nursery waits over. nursery_same state T y.row y.task y_else y_task nursery (inr waits)) h
+
+      -- if it continues in the next moment, it does so still
+      its_continues : (call : Call) → ContinuesLater r.world y.task call → ContinuesLater last y.task call
+      its_continues call h =
+          record {
+            due = h.due;
+            stays =
+                stays_still r.world last y.task h.due clock tick
+                (ap (λ (v : ℕ). seen (outer_of w.scopes (scope_of y.task)) v) tick
+                ∙ seen_still settled going.sound.names going.sound.starts state T y.row y_below y_else y.task y_task y_follows)
+                (continues_event (event_at r.world) (event_at last) (lent_of y.task) (suc r.world.tick) h.due y.task.task_state call h.by)
+                (λ nursery waits over. nursery_same state T y.row y.task y_else y_task nursery (inr waits)) h.stays;
+            by =
+                subst (λ (n : ℕ). ContinuesBy (lent_of y.task) (suc n) h.due y.task.task_state call) (sym tick) h.by;
+          }
 
       -- the event for which it waits is as it was, or was set in the turn
       its_event : (key since : ℕ) → y.task.task_state ≡ Waiting key since →
@@ -393,6 +596,7 @@ module _ {id : ℕ} {wake : Wake} {stop : Stop} {r after new : Runner} {ro : Tas
       by_task_state (Asked kernel purpose) e = refl
       by_task_state (Asleep paced ticks since) e = refl
       by_task_state (Waiting event since) e = refl
+      by_task_state (Queued object ask since body) e = refl
       by_task_state (GivingUp since) e = refl
       by_task_state (Awaits nursery since) e =
           ap settled_times
@@ -407,14 +611,11 @@ module _ {id : ℕ} {wake : Wake} {stop : Stop} {r after new : Runner} {ro : Tas
 
     -- ---- the shelves
 
-    none_here : times_shelved r.batch r.clock id ≡ 0
-    none_here = going.shelved.away id refl
-
     called_still : (key : ℕ) (call : Call) → key ≢ id → IsCalled r.task_table r.world key call → IsCalled after.task_table last key call
     called_still key call differs =
         some_kept (running_at r.task_table key) (running_at after.task_table key) (λ (x : Running). GoesBy r.world x.task call)
         (λ (x : Running). GoesBy last x.task call) (λ y lives. lived_still key y differs lives)
-        (λ y lives h answer v right e. goes_still key y differs lives v (h answer v right e))
+        (λ y lives h answer v right e. goes_still key y differs lives (what_of call) v (h answer v right e))
 
     -- where no event was set, each task that had a timer stays until then
     stay_still : AllStay after.task_table unset r.clock
@@ -477,33 +678,17 @@ module _ {id : ℕ} {wake : Wake} {stop : Stop} {r after new : Runner} {ro : Tas
         (begin_continues v x.0 (a_round_after r.world.clock t) x.2
         (sym (same ∙ ap (λ (z : World). a_round_after z.clock z.tick) turn.keeps.world)))
 
-    -- a task that has a timer lives
-    timed_lives : (key due : ℕ) → due_of r.clock key ≡ Some due → running_at ro key ≡ None → ⊥
-    timed_lives key due f none =
-        let y = some_is (running_at r.task_table key) (λ (z : Running). Stays r.world due z.task) (going.shelved.stay key due f) in
-        none-some y.0 (sym none ∙ (turn.others key (timer_else going.shelved key due f) ∙ y.1))
-
-    -- so no task that was started has one
-    new_awake : (key : ℕ) → 0 < times key takes.ids → due_of r.clock key ≡ None
-    new_awake key some =
-        let at = place_of key takes.ids some in
-        by_due (due_of r.clock key) refl (new_task at.0 key at.1).3
-      where
-        by_due : (o : Option ℕ) → due_of r.clock key ≡ o → running_at ro key ≡ None → o ≡ None
-        by_due None f none = refl
-        by_due (Some due) f none = absurd (timed_lives key due f none)
-
     -- how often each task is kept
     once_of : (other : ℕ) → other ≢ id → (o : Option Running) → running_at r.task_table other ≡ o →
-        times_shelved r.batch r.clock other + times other takes.ids ≡ running_times last.book (running_at after.task_table other)
+        times_shelved r.batch (later_calls r) r.clock other + times other takes.ids ≡ running_times last.book (running_at after.task_table other)
     once_of other differs (Some y) e =
         let b : times other takes.ids ≡ 0 = none_new other y differs e in
-        let c : times_shelved r.batch r.clock other ≡ running_times r.world.book (running_at r.task_table other) =
+        let c : times_shelved r.batch (later_calls r) r.clock other ≡ running_times r.world.book (running_at r.task_table other) =
         going.shelved.once other differs in
         let d = same_times other y differs e in
         omega (arith, b, c, d)
     once_of other differs None e =
-        let b : times_shelved r.batch r.clock other ≡ 0 = going.shelved.once other differs ∙ ap (running_times r.world.book) e in
+        let b : times_shelved r.batch (later_calls r) r.clock other ≡ 0 = going.shelved.once other differs ∙ ap (running_times r.world.book) e in
         elim (cases_lt 0 (times other takes.ids)) [
           | inl some ↦
               let g = place_of other takes.ids (omega (arith, some)) in
@@ -556,33 +741,34 @@ module _ {id : ℕ} {wake : Wake} {stop : Stop} {r after new : Runner} {ro : Tas
         by_id : (key ≡ id) ⊎ (key ≢ id) → Set
         by_id (inr differs) = by_task differs (running_at r.task_table key) refl
         by_id (inl e) =
-            let here : times id takes.ids ≡ 0 = not_new id (record { task = turn.after; row = s }) turn.lives in
             let awake : due_of r.clock id ≡ None =
             no_timer (due_of r.clock id) (let none = none_here in omega (arith, none)) in
-            absurd (none-some due (sym (ap (due_of after.clock) e ∙ readied_else ready id here awake) ∙ timer))
+            absurd (none-some due (sym (ap (due_of after.clock) e ∙ readied_timer ready id ∙ awake) ∙ timer))
 
     soon : (key from : ℕ) → event_at unset key ≡ Some (Some from) → from ≤ suc unset.tick
     soon key from e = let le : from ≤ suc t = state.soon key from e in omega (arith, le, tick)
 
     stay_unset : AllStay after.task_table unset after.clock
-    stay_unset = stay_ready ready_unset (each_begins unset refl) stay_still
+    stay_unset = let same = same_clock in rw same stay_still
 
     known_unset : AreKnown after.task_table unset after.clock r.sleepers r.waiters
-    known_unset = known_ready ready_unset new_awake (each_begins unset refl) known_still
+    known_unset = let same = same_clock in rw same known_still
 
     homes_there : AreHomesOf that (parent_of after.task_table)
     homes_there =
         homes_kept state T (parent_of r.task_table) (parent_of after.task_table) (λ p lt. started_at.same_parent p (below p lt) ∙ turn.same.parent p)
         (λ i lt. ap (λ (n : ℕ). parent_of after.task_table (n + i)) (sym same_many)
-        ∙ started_at.parent_is i (let e = turned_so.1 in omega (arith, lt, e))) going.shelved.consistent.homes
+        ∙ started_at.parent_is i (let e = turned_so.1 in omega (arith, lt, e)))
+        (going.shelved.consistent.homes (sharing_of r ((id, call_by wake) ∷ ready_calls r)))
 
-    consistent_left : IsConsistent after.task_table last new.clock r.limit (r.turns + 1)
+    consistent_left : IsConsistent after.task_table last woke.clock r.limit (r.turns + 1)
     consistent_left = record {
       agree = takes.agree;
-      homes = λ p task home lives at. (let h = homes_there p task home lives at in
+      homes = λ other p task home lives at. (let h = homes_there p task home lives at in
           record { task = h.task; lives = h.lives; owned = h.owned });
-      now = sets.wakes.time.now ∙ (ready.time.now ∙ (going.shelved.consistent.now ∙ sym tick));
-      limit = sets.wakes.time.limit ∙ (ready.time.limit ∙ going.shelved.consistent.limit) ∙ ap (λ (x : Clock). last_of x r.limit) (sym clock);
+      now = sets.wakes.time.now ∙ (ap now_of same_clock ∙ (going.shelved.consistent.now ∙ sym tick));
+      limit = sets.wakes.time.limit ∙ (ap limit_of same_clock ∙ going.shelved.consistent.limit)
+          ∙ ap (λ (x : Clock). last_of x r.limit) (sym clock);
       within =
           (let a = going.shelved.consistent.within in
           let b = tick in
@@ -594,6 +780,7 @@ module _ {id : ℕ} {wake : Wake} {stop : Stop} {r after new : Runner} {ro : Tas
           omega (arith, a, same));
       none_started = takes.none_left;
       none_set = sets.none_left;
+      none_done = acts.none_left;
     }
 
     entries_still : All (IsCalledEntry after.task_table last) r.batch.current
@@ -608,12 +795,22 @@ module _ {id : ℕ} {wake : Wake} {stop : Stop} {r after new : Runner} {ro : Tas
         all_others (λ (a : Added). a.0) id r.batch.next (omega (arith, none)) (IsCalledAdded r.task_table r.world)
         (IsCalledAdded after.task_table last) going.shelved.next (λ a. called_still a.0 a.1)
 
+    later_still : All (IsCalledLater after.task_table last) (later_calls r)
+    later_still =
+        let none = none_here in
+        all_others (λ (a : Added). a.0) id (later_calls r) (omega (arith, none)) (IsCalledLater r.task_table r.world)
+        (IsCalledLater after.task_table last) going.shelved.later (λ a differs.
+        some_kept (running_at r.task_table a.0) (running_at after.task_table a.0) (λ (x : Running). ContinuesLater r.world x.task a.1)
+        (λ (x : Running). ContinuesLater last x.task a.1) (λ y lives. lived_still a.0 y differs lives)
+        (λ y lives. its_continues a.0 y differs lives a.1))
+
     -- how often each task is kept
-    kept_times : (other : ℕ) → times_shelved after.batch new.clock other ≡ times_shelved r.batch r.clock other + times other takes.ids
+    kept_times : (other : ℕ) → times_shelved after.batch (later_calls after) woke.clock other
+        ≡ times_shelved r.batch (later_calls r) r.clock other + times other takes.ids
     kept_times other =
-        let a : times_shelved after.batch after.clock other ≡ times_shelved r.batch r.clock other + times other takes.ids =
-        times_ready ready started_at.once new_awake (each_begins mid.world refl) other in
-        let b : timer_times (due_of new.clock other) ≡ timer_times (due_of after.clock other) =
+        let a : times_shelved after.batch (later_calls after) after.clock other
+        ≡ times_shelved r.batch (later_calls r) r.clock other + times other takes.ids = times_ready ready other in
+        let b : timer_times (due_of woke.clock other) ≡ timer_times (due_of after.clock other) =
         timers_set {old = unset} {new = last} woken refl stay_unset known_unset soon its_event_there other in
         omega (arith, a, b)
 
@@ -624,11 +821,13 @@ module _ {id : ℕ} {wake : Wake} {stop : Stop} {r after new : Runner} {ro : Tas
       known = known_set {old = unset} {new = last} woken refl stay_unset known_unset soon its_event_there;
       current = (let same = ready.current in rw same entries_still);
       next = called_ready ready last (each_begins last refl) added_still;
+      none_later = ready.later_current ∙ going.shelved.none_later;
+      later = later_ready ready last (each_begins last refl) later_still;
       once = λ other differs. kept_times other ∙ once_of other differs (running_at r.task_table other) refl;
       away = λ key e.
-          let none : times_shelved r.batch r.clock key ≡ 0 = going.shelved.away key e in
+          let none : times_shelved r.batch (later_calls r) r.clock key ≡ 0 = going.shelved.away key e in
           let same : id ≡ key = same_Some id key e in
-          let here : times id takes.ids ≡ 0 = not_new id (record { task = turn.after; row = s }) turn.lives in
+          let here : times id takes.ids ≡ 0 = not_new id its_later turn.lives in
           let there_too : times key takes.ids ≡ times id takes.ids = ap (λ (n : ℕ). times n takes.ids) (sym same) in
           let all = kept_times key in
           omega (arith, none, here, there_too, all);
@@ -638,10 +837,10 @@ module _ {id : ℕ} {wake : Wake} {stop : Stop} {r after new : Runner} {ro : Tas
     lives_left =
         some_has (running_at after.task_table id) (λ (x : Running). (x.row ≡ s) × StopSays last x.task stop)
         (record { task = turn.after; row = s })
-        (started_at.others id (not_new id (record { task = turn.after; row = s }) turn.lives) ∙ turn.lives) (
+        lives_later (
           refl,
           says_on w last turn.after stop
-              (stop_says table r.job.now r.input.now t m s (state_in r) that turn.before turn.after wake stop settled going.sound.names
+              (stop_says table r.job.now r.input.now t m s before that turn.before turn.after wake stop settled going.sound.names
               going.sound.starts state turn_taken wakes_so),
         )
 
@@ -655,7 +854,32 @@ module _ {id : ℕ} {wake : Wake} {stop : Stop} {r after new : Runner} {ro : Tas
           shelved = shelved_left;
           lives = lives_left;
           interleaving = stopped_interleaving;
+          lent = record {
+            objects = going.lent.objects;
+            round =
+                subst (λ (xs : List ℕ). All (IsActOf xs) new.round.items) same_input
+                (acts.lent (let same = same_round in let input = same_input in rw (same, input) going.lent.round));
+            current = parts_ready.current;
+            next = parts_ready.next;
+            later = parts_ready.later;
+          };
+          unserved = record {
+            through = going.unserved.through ∙ sym tick;
+            none_granted = none_granted_ready ready refl going.unserved.none_granted;
+          };
         })
+      where
+        parts_mid : HoldsParts mid
+        parts_mid = record {
+          objects = going.lent.objects;
+          round = going.lent.round;
+          current = going.lent.current;
+          next = going.lent.next;
+          later = going.lent.later;
+        }
+
+        parts_ready : HoldsParts (record mid { batch = after.batch; later = after.later })
+        parts_ready = holds_ready ready tt parts_mid
 
 -- ---- for the code
 
@@ -667,7 +891,7 @@ row_is {id} r row is turn =
     some_of (running_at r.task_table id) (λ (x : Running). x.row ≡ row) (record { task = turn.before; row = turn.row }) turn.lived is
 
 -- the row of a task that had its turn is one of the table's
-pub row_within : {id : ℕ} {r : Runner} {ro : TaskTable} {w : World} {wake : Wake} {stop : Stop} (row : ℕ) → IsGoing (Some id) r →
+pub row_within : {id : ℕ} {r : Runner} {ro : TaskTable} {w : World} {wake : Wake} {stop : Stop} (row : ℕ) → IsTurning id wake r →
     IsSomeAnd (running_at r.task_table id) (λ (x : Running). x.row ≡ row) →
     HasTurn r.task_table ro r.world w id wake stop → row < task_count ro
 row_within {id} {r} {ro} row going is turn =
@@ -678,18 +902,18 @@ row_within {id} {r} {ro} row going is turn =
     omega (arith, e, lt, same)
 
 -- after a turn each task that has a timer lives
-pub timers_live : {id : ℕ} {r : Runner} {ro : TaskTable} {w : World} {wake : Wake} {stop : Stop} → IsGoing (Some id) r →
+pub timers_live : {id : ℕ} {r : Runner} {ro : TaskTable} {w : World} {wake : Wake} {stop : Stop} → IsTurning id wake r →
     HasTurn r.task_table ro r.world w id wake stop → (key due : ℕ) → due_of r.clock key ≡ Some due → IsSome (running_at ro key)
 timers_live {r = r} going turn key due e =
     let y = some_is (running_at r.task_table key) (λ (z : Running). Stays r.world due z.task) (going.shelved.stay key due e) in
     ap is_some (turn.others key (timer_else going.shelved key due e) ∙ y.1)
 
 -- and the clock shows the world's moment, which is not too late
-pub turn_now : {id : ℕ} {r : Runner} {ro : TaskTable} {w : World} {wake : Wake} {stop : Stop} → IsGoing (Some id) r →
+pub turn_now : {id : ℕ} {r : Runner} {ro : TaskTable} {w : World} {wake : Wake} {stop : Stop} → IsTurning id wake r →
     HasTurn r.task_table ro r.world w id wake stop → now_of r.clock ≡ w.tick
 turn_now going turn = going.shelved.consistent.now ∙ sym (ap (λ (x : World). x.tick) turn.keeps.world)
 
-pub turn_bounded : {id : ℕ} {r : Runner} {ro : TaskTable} {w : World} {wake : Wake} {stop : Stop} → IsGoing (Some id) r →
+pub turn_bounded : {id : ℕ} {r : Runner} {ro : TaskTable} {w : World} {wake : Wake} {stop : Stop} → IsTurning id wake r →
     HasTurn r.task_table ro r.world w id wake stop → w.tick ≤ 2 ^ 62
 turn_bounded going turn =
     let same = ap (λ (x : World). x.tick) turn.keeps.world in
@@ -699,7 +923,7 @@ turn_bounded going turn =
 pub started_now : (r : Runner) {after : Runner} {ro : TaskTable} {w : World} {turns row : ℕ} →
     TakesStarted (record r { world = w; task_table = ro; turns = turns }) after row → now_of r.clock ≡ w.tick →
     now_of after.clock ≡ after.world.tick
-started_now r takes now = takes.ready.time.now ∙ now ∙ sym (ap (λ (x : World). x.tick) takes.world)
+started_now r takes now = ap (λ (x : Runner). now_of x.clock) takes.ready.rest ∙ now ∙ sym (ap (λ (x : World). x.tick) takes.world)
 
 -- which is not too late
 pub started_bounded : (r : Runner) {after : Runner} {ro : TaskTable} {w : World} {turns row : ℕ} →
@@ -707,22 +931,22 @@ pub started_bounded : (r : Runner) {after : Runner} {ro : TaskTable} {w : World}
 started_bounded r takes bounded = let same = ap (λ (x : World). x.tick) takes.world in rw same bounded
 
 -- and each task that waits for an event has a timer
-pub started_timed : {away : Option ℕ} {r after : Runner} {ro : TaskTable} {w : World} {turns row : ℕ} → IsGoing away r →
-    TakesStarted (record r { world = w; task_table = ro; turns = turns }) after row → (id event : ℕ) →
-    event_in after.waiters id ≡ Some event → IsSome (due_of after.clock id)
-started_timed going takes id event e =
-    let z = waiter_in going.shelved.known id event (ap (λ (x : Runner). event_in x.waiters id) (sym takes.ready.rest) ∙ e) in
-    readied_timed takes.ready id (ap is_some z.timer)
+pub started_timed : {id : ℕ} {wake : Wake} {r after : Runner} {ro : TaskTable} {w : World} {turns row : ℕ} → IsTurning id wake r →
+    TakesStarted (record r { world = w; task_table = ro; turns = turns }) after row → (key event : ℕ) →
+    event_in after.waiters key ≡ Some event → IsSome (due_of after.clock key)
+started_timed going takes key event e =
+    let z = waiter_in going.shelved.known key event (ap (λ (x : Runner). event_in x.waiters key) (sym takes.ready.rest) ∙ e) in
+    ap is_some (readied_timer takes.ready key ∙ z.timer)
 
--- after a turn whose started tasks and events that were set were taken, its task is one that stopped so
-pub goes_stopping : {id : ℕ} {r after new : Runner} {ro : TaskTable} {w : World} {wake : Wake} {stop : Stop} (row : ℕ) → IsGoing (Some id) r →
-    IsSomeAnd (running_at r.task_table id) (λ (x : Running). MayGo r.world x.task wake) →
-    IsSomeAnd (running_at r.task_table id) (λ (x : Running). x.row ≡ row) →
+-- after a turn whose started tasks, events that were set and acts on limiters and channels were taken, its task is one that stopped so
+pub goes_stopping : {id : ℕ} {r after woke new : Runner} {ro : TaskTable} {w : World} {wake : Wake} {stop : Stop} (row : ℕ) →
+    IsTurning id wake r → IsSomeAnd (running_at r.task_table id) (λ (x : Running). x.row ≡ row) →
     (turn : HasTurn r.task_table ro r.world w id wake stop) → IsSound r.world.scopes → IsSound w.scopes →
-    TakesStarted (record r { world = w; task_table = ro; turns = r.turns + 1 }) after row → TakesSet after new → IsStopping id row stop new
-goes_stopping {r = r} row going goes is turn sound sound_after takes sets =
+    TakesStarted (record r { world = w; task_table = ro; turns = r.turns + 1 }) after row → TakesSet after woke → TakesActs woke new row →
+    IsStopping id row stop new
+goes_stopping {r = r} row going is turn sound sound_after takes sets acts =
     let e = row_is r row is turn in
-    rw (← e) (is_stopping going goes turn sound sound_after (rw e takes) sets)
+    rw (← e) (is_stopping going turn sound sound_after (rw e takes) sets (rw e acts))
 
 -- a tree is sound if its stacks are chains that begin with their own scopes, each once
 pub scopes_sound : {tree other : Tree} → tree ≡ other → IsOwn tree → IsChain tree → IsApart tree → IsSound other

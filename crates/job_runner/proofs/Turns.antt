@@ -6,24 +6,25 @@ use Rattle.task_table.specs.declared.entry.Entry.{Entry}
 use Rattle.task_table.specs.Entries.{Added, answers_placed, without_answer}
 use Rattle.input_lines.specs.declared.answers.Answer.{Answer}
 use Rattle.task_machine.specs.declared.stop.Stop.{Stop}
-use Rattle.task_machine.specs.declared.stop.Stop.TheVariants.{Ask, Sleep, WaitFor, GiveUp, Wait, Ended}
+use Rattle.task_machine.specs.declared.stop.Stop.TheVariants.{Ask, Sleep, WaitFor, Queue, GiveUp, Wait, Ended}
 use Rattle.task_machine.specs.declared.stop.Wake.{Wake}
 use Rattle.task_machine.specs.declared.world.World.{World}
 use Rattle.task_table.specs.declared.task_table.TaskTable.{TaskTable}
 use Rattle.task_table.specs.declared.task_table.Running.{Running}
 use Rattle.task_table.specs.TaskTable.{running_at, HasTurn}
 use Rattle.job_runner.specs.declared.runner.Runner.{Runner}
-use Rattle.job_runner.specs.Steps.{TakesStarted, TakesSet, SeesOnly}
+use Rattle.job_runner.specs.Steps.{TakesStarted, TakesSet, TakesActs, SeesOnly}
 use Rattle.job_runner.specs.Turns.{GoesOn, ComesOf, TakesTurn, TakesTurns, no_turn, and_turn, with_answers, Commits}
 use Rattle.job_runner.proofs.Turning.{row_is}
 
--- a task that had its turn, whose started tasks and events that were set were taken, continued
-pub goes_on : {id : ℕ} {r new : Runner} {ro : TaskTable} {w : World} {wake : Wake} {stop : Stop} (row : ℕ) (after : Runner) →
+-- a task that had its turn, and whose started tasks, events that were set and acts were taken, continued
+pub goes_on : {id : ℕ} {r woken new : Runner} {ro : TaskTable} {w : World} {wake : Wake} {stop : Stop} (row : ℕ) (after : Runner) →
     IsSomeAnd (running_at r.task_table id) (λ (x : Running). x.row ≡ row) → HasTurn r.task_table ro r.world w id wake stop →
-    TakesStarted (record r { world = w; task_table = ro; turns = r.turns + 1 }) after row → TakesSet after new → GoesOn id wake stop r new
-goes_on {r = r} {ro = ro} {w = w} row after at turn takes sets =
+    TakesStarted (record r { world = w; task_table = ro; turns = r.turns + 1 }) after row → TakesSet after woken → TakesActs woken new row →
+    GoesOn id wake stop r new
+goes_on {r = r} {woken} {ro = ro} {w = w} row after at turn takes sets acts =
     let same = row_is r row at turn in
-    record { task_table = ro; world = w; turn = turn; after = after; started = rw same takes; set = sets }
+    record { task_table = ro; world = w; turn = turn; after = after; started = rw same takes; woken = woken; set = sets; acts = rw same acts }
 
 -- ---- the moment stays
 
@@ -32,13 +33,14 @@ comes_tick : (id : ℕ) (stop : Stop) (old new : Runner) → ComesOf id stop old
 comes_tick id (Ask request) old new h = ap (λ (w : World). w.tick) h.1
 comes_tick id (Sleep due) old new h = ap (λ (w : World). w.tick) h.1
 comes_tick id (WaitFor event) old new h = ap (λ (w : World). w.tick) h.1
+comes_tick id (Queue request) old new h = ap (λ (w : World). w.tick) h.1
 comes_tick id (GiveUp due) old new h = ap (λ (w : World). w.tick) h.1
 comes_tick id (Wait nursery) old new h = ap (λ (w : World). w.tick) h.1
 comes_tick id (Ended exc) old new h = ap (λ (w : World). w.tick) h.1
 
 turn_tick : (id : ℕ) (wake : Wake) (old new : Runner) → TakesTurn id wake old new → new.world.tick ≡ old.world.tick
 turn_tick id wake old new h =
-    comes_tick id h.stop h.went new h.stopped ∙ ap (λ (w : World). w.tick) h.goes.set.world
+    comes_tick id h.stop h.went new h.stopped ∙ ap (λ (w : World). w.tick) h.goes.acts.world ∙ ap (λ (w : World). w.tick) h.goes.set.world
     ∙ ap (λ (w : World). w.tick) h.goes.started.world ∙ ap (λ (w : World). w.tick) h.goes.turn.keeps.world
 
 turns_tick : {P : Type 0} (picks : P → ℕ → ℕ → P → Type 0) (old new : Runner) (before after : P) → TakesTurns picks old before new after →

@@ -17,13 +17,14 @@ use Rattle.nursery_book.specs.Nursery.{End, Nursery, is_settled, with_child}
 use Rattle.nursery_book.specs.Book.{nursery_at, HasNursery, Updates}
 use Rattle.nursery_book.specs.declared.book.NurseryBook.{NurseryBook}
 use Rattle.task_machine.specs.declared.stop.TaskState.{TaskState}
-use Rattle.task_machine.specs.declared.stop.TaskState.TheVariants.{ToBegin, Asked, Asleep, Waiting, GivingUp, Awaits, Over}
+use Rattle.task_machine.specs.declared.stop.TaskState.TheVariants.{ToBegin, Asked, Asleep, Waiting, Queued, GivingUp, Awaits, Over}
 use Rattle.task_machine.specs.declared.stop.Stop.TheVariants as stops
 use Rattle.task_machine.specs.declared.task.Home.{Home}
 use Rattle.task_machine.specs.declared.task.Task.{Task}
 use Rattle.task_machine.specs.declared.world.World.{World}
 use Rattle.task_machine.specs.Fitting.{waits_of}
 use Rattle.run_refinement.specs.Leaving.{EndIsRecorded}
+use Rattle.run_refinement.specs.RunState.{Refines}
 use Rattle.run_refinement.proofs.Found.{finds, gives, puts}
 use Rattle.run_refinement.proofs.Going.{ended_waits}
 use Rattle.run_refinement.proofs.Recorded.{same_owner}
@@ -31,17 +32,19 @@ use Rattle.task_table.specs.declared.task_table.TaskTable.{TaskTable}
 use Rattle.task_table.specs.declared.task_table.Running.{Running}
 use Rattle.task_table.specs.Rows.{times}
 use Rattle.task_table.specs.TaskTable.{running_at, parent_of, id_of, task_count, IsTaskTable, Ends}
-use Rattle.task_table.proofs.Times.{one_if, place_of}
+use Rattle.task_table.proofs.Times.{one_if}
 use Rattle.job_runner.specs.declared.runner.Runner.{Runner}
-use Rattle.job_runner.specs.Shelves.{AreShelved, times_shelved, running_times, task_state_times, settled_times, state_in, IsGoing}
-use Rattle.job_runner.specs.Steps.{IsReadied, IsStopping, TellsEnd, waiter_if}
-use Rattle.job_runner.proofs.Ending.{HasWaiter, home_is, its_row, state_before, waiter_of, ended_runner, interleaving_after, consistent_after, stay_after, known_after, added_after, entries_after, once_after}
+use Rattle.job_runner.specs.Shelves.{AreShelved, HoldsParts, times_shelved, running_times, task_state_times, settled_times, IsBetweenTurns}
+use Rattle.job_runner.specs.Shared.{later_calls, ready_calls}
+use Rattle.job_runner.specs.Steps.{state_after, IsReadied, IsStopping, TellsEnd, waiter_if}
+use Rattle.job_runner.proofs.Ending.{HasWaiter, home_is, its_row, state_before, waiter_of, ended_runner, interleaving_after, consistent_after, stay_after, known_after, added_after, later_after, entries_after, once_after}
+use Rattle.job_runner.proofs.Granted.{state_as}
 use Rattle.job_runner.proofs.Lived.{task_at, id_at}
 use Rattle.job_runner.proofs.Options.{some_has}
-use Rattle.job_runner.proofs.Readied.{Continues, settled_continues, shelved_ready}
+use Rattle.job_runner.proofs.Readied.{Continues, settled_continues, granted_ready, none_granted_ready, holds_ready, shelved_ready}
 use Rattle.job_runner.proofs.Shelving.{no_timer, none_away}
 use Rattle.job_runner.proofs.States.{meaning_of}
-use Rattle.job_runner.proofs.Stopped.{at_most_one, once_alone, only_one}
+use Rattle.job_runner.proofs.Stopped.{once_alone, only_one}
 
 -- ---- how often a task has to be kept
 
@@ -53,6 +56,7 @@ task_state_due old new (ToBegin at) same = refl
 task_state_due old new (Asked kernel purpose) same = refl
 task_state_due old new (Asleep paced ticks since) same = refl
 task_state_due old new (Waiting event since) same = refl
+task_state_due old new (Queued object ask since body) same = refl
 task_state_due old new (GivingUp since) same = refl
 task_state_due old new (Awaits id since) same = same id refl
 task_state_due old new Over same = refl
@@ -70,6 +74,7 @@ awaits (ToBegin at) key e = absurd (none-some key e)
 awaits (Asked kernel purpose) key e = absurd (none-some key e)
 awaits (Asleep paced ticks since) key e = absurd (none-some key e)
 awaits (Waiting event since) key e = absurd (none-some key e)
+awaits (Queued object ask since body) key e = absurd (none-some key e)
 awaits (GivingUp since) key e = absurd (none-some key e)
 awaits (Awaits id since) key e = (since, ap (λ (n : ℕ). Awaits n since) (same_Some id key e))
 awaits Over key e = absurd (none-some key e)
@@ -102,6 +107,11 @@ due_one n e = ap (λ (b : Bool). if b then 1 else 0) e
 due_none : (n : Nursery) → is_settled n ≡ false → settled_times (Some n) ≡ 0
 due_none n e = ap (λ (b : Bool). if b then 1 else 0) e
 
+-- what limiters and channels hold stays
+ended_parts : (r : Runner) (task_table : TaskTable) (book : NurseryBook) → HoldsParts r → HoldsParts (ended_runner r task_table book)
+ended_parts r task_table book h =
+    record { objects = h.objects; round = h.round; current = h.current; next = h.next; later = h.later }
+
 -- ---- a root that ended
 
 module _ {r : Runner} {task_table : TaskTable} {id row : ℕ} {exc : Option held.Exc} (h : IsStopping id row (stops.Ended exc) r)
@@ -110,30 +120,36 @@ module _ {r : Runner} {task_table : TaskTable} {id row : ℕ} {exc : Option held
   root_recorded : EndIsRecorded r.world.tick r.world.book r.world.book e.task.home (option_map exc_of exc)
   root_recorded = rw rootless refl
 
-  root_once : (other : ℕ) → times_shelved r.batch r.clock other ≡ running_times r.world.book (running_at task_table other)
+  root_once : (other : ℕ) → times_shelved r.batch (later_calls r) r.clock other ≡ running_times r.world.book (running_at task_table other)
   root_once other =
       let kept = once_after h e agree r.world.book root_recorded (λ (key : ℕ). 0) refl
-      (λ key differs. (let a : times_shelved r.batch r.clock key ≡ running_times r.world.book (running_at r.task_table key) =
+      (λ key differs. (let a : times_shelved r.batch (later_calls r) r.clock key ≡ running_times r.world.book (running_at r.task_table key) =
       h.shelved.once key differs in omega (arith, a))) other in
       omega (arith, kept)
 
   -- no end is recorded in a nursery
-  pub root_going : IsGoing None (ended_runner r task_table r.world.book)
+  pub root_going : IsBetweenTurns (ended_runner r task_table r.world.book)
   root_going =
       record {
-        sound = h.sound;
-        counts = h.counts;
-        shelved =
-            record {
-              consistent = consistent_after h e agree r.world.book root_recorded;
-              stay = stay_after h e agree r.world.book root_recorded;
-              known = known_after h e agree r.world.book root_recorded;
-              current = entries_after h e agree r.world.book root_recorded;
-              next = added_after h e agree r.world.book root_recorded;
-              once = λ other any. root_once other;
-              away = none_away (λ (x : ℕ). times_shelved r.batch r.clock x ≡ 0);
-            };
-        interleaving = interleaving_after h e agree r.world.book root_recorded;
+        going = record {
+          sound = h.sound;
+          counts = h.counts;
+          shelved =
+              record {
+                consistent = consistent_after h e agree r.world.book root_recorded;
+                stay = stay_after h e agree r.world.book root_recorded;
+                known = known_after h e agree r.world.book root_recorded;
+                current = entries_after h e agree r.world.book root_recorded;
+                next = added_after h e agree r.world.book root_recorded;
+                none_later = h.shelved.none_later;
+                later = later_after h e agree r.world.book root_recorded;
+                once = λ other any. root_once other;
+                away = none_away (λ (x : ℕ). times_shelved r.batch (later_calls r) r.clock x ≡ 0);
+              };
+          interleaving = interleaving_after h e agree r.world.book root_recorded;
+          lent = ended_parts r task_table r.world.book h.lent;
+        };
+        unserved = record { through = h.unserved.through; none_granted = h.unserved.none_granted };
       }
 
 -- ---- a child that ended
@@ -174,7 +190,7 @@ module _ {r : Runner} {task_table : TaskTable} {id row : ℕ} {exc : Option held
       waiter ≡ other
   one_waits other x is waits =
       let same : x.row ≡ parent_of r.task_table row =
-      same_owner (meaning_of r) r.job.now r.input.now r.world.tick (task_count r.task_table) (Some row) (state_in r)
+      same_owner (meaning_of r) r.job.now r.input.now r.world.tick (task_count r.task_table) (Some row) (state_after row (stops.Ended exc) r)
       (state_before h e) x.row (parent_of r.task_table row) x.task w.task home.nursery
       (task_at r.task_table h.shelved.consistent.agree other x is) w.is (inr waits) w.owned in
       ap (id_of r.task_table) (sym same) ∙ id_at r.task_table h.shelved.consistent.agree other x is
@@ -184,7 +200,7 @@ module _ {r : Runner} {task_table : TaskTable} {id row : ℕ} {exc : Option held
     -- the task with the nursery waits for it
     waits : waits_of w.task.task_state ≡ Some home.nursery
     waits =
-        ended_waits (meaning_of r) r.job.now r.input.now r.world.tick (task_count r.task_table) (Some row) (state_in r) (state_before h e)
+        ended_waits (meaning_of r) r.job.now r.input.now r.world.tick (task_count r.task_table) (Some row) (state_after row (stops.Ended exc) r) (state_before h e)
         (parent_of r.task_table row) w.task home.nursery w.is w.owned
         (puts r.world.book home.nursery n (λ x. is_some x.body ≡ true) was (body_ended n' over))
 
@@ -195,7 +211,7 @@ module _ {r : Runner} {task_table : TaskTable} {id row : ℕ} {exc : Option held
     due_before = ap (running_times r.world.book) w.lives.is ∙ (ap (task_state_times r.world.book) task_state.1 ∙ before)
 
     -- it is kept nowhere
-    not_shelved : times_shelved r.batch r.clock waiter ≡ 0
+    not_shelved : times_shelved r.batch (later_calls r) r.clock waiter ≡ 0
     not_shelved = h.shelved.once waiter not_it ∙ due_before
 
     waiter_awake : due_of r.clock waiter ≡ None
@@ -227,11 +243,11 @@ module _ {r : Runner} {task_table : TaskTable} {id row : ℕ} {exc : Option held
 
     -- how often each is kept then
     kept : (b : Bool) → is_settled n' ≡ b → (other : ℕ) → other ≢ id →
-        times_shelved r.batch r.clock other + times other (waiter_if b waiter) ≡ running_times book (running_at r.task_table other)
+        times_shelved r.batch (later_calls r) r.clock other + times other (waiter_if b waiter) ≡ running_times book (running_at r.task_table other)
     kept false over other differs =
         let same : settled_times (nursery_at book home.nursery) ≡ settled_times (nursery_at r.world.book home.nursery) =
         after ∙ (due_none n' over ∙ sym before) in
-        let a : times_shelved r.batch r.clock other ≡ running_times r.world.book (running_at r.task_table other) =
+        let a : times_shelved r.batch (later_calls r) r.clock other ≡ running_times r.world.book (running_at r.task_table other) =
         h.shelved.once other differs in
         let b : running_times book (running_at r.task_table other) ≡ running_times r.world.book (running_at r.task_table other) =
         due_else (running_at r.task_table other) (λ x is waiting. same) in
@@ -242,14 +258,14 @@ module _ {r : Runner} {task_table : TaskTable} {id row : ℕ} {exc : Option held
         elim (eqb_tells waiter other) [
           | inl k ↦
               let here : one_if (waiter == other) ≡ 1 = ap one_if k.0 in
-              let none : times_shelved r.batch r.clock other ≡ 0 = ap (times_shelved r.batch r.clock) (sym k.1) ∙ not_shelved over in
+              let none : times_shelved r.batch (later_calls r) r.clock other ≡ 0 = ap (times_shelved r.batch (later_calls r) r.clock) (sym k.1) ∙ not_shelved over in
               let due : running_times book (running_at r.task_table other) ≡ 1 =
               ap (λ (i : ℕ). running_times book (running_at r.task_table i)) (sym k.1)
               ∙ (ap (running_times book) w.lives.is ∙ (ap (task_state_times book) (task_state over).1 ∙ (after ∙ due_one n' over))) in
               omega (arith, one, here, none, due)
           | inr k ↦
               let apart : one_if (waiter == other) ≡ 0 = ap one_if k.0 in
-              let a : times_shelved r.batch r.clock other ≡ running_times r.world.book (running_at r.task_table other) =
+              let a : times_shelved r.batch (later_calls r) r.clock other ≡ running_times r.world.book (running_at r.task_table other) =
               h.shelved.once other differs in
               let b : running_times book (running_at r.task_table other) ≡ running_times r.world.book (running_at r.task_table other) =
               due_else (running_at r.task_table other) (λ x is waiting. absurd (k.1 (one_waits other x is waiting))) in
@@ -264,16 +280,6 @@ module _ {r : Runner} {task_table : TaskTable} {id row : ℕ} {exc : Option held
       | inr k ↦ ap one_if k.0
     ]
 
-    few : (b : Bool) (other : ℕ) → times other (waiter_if b waiter) ≤ 1
-    few false other = let none : times other [] ≡ 0 = refl in omega (arith, none)
-    few true other = let a = once_alone waiter other in let b = at_most_one (waiter == other) in omega (arith, a, b)
-
-    awake : (b : Bool) → is_settled n' ≡ b → (other : ℕ) → 0 < times other (waiter_if b waiter) → due_of r.clock other ≡ None
-    awake false over other some = absurd (let none : times other [] ≡ 0 = refl in omega (arith, none, some))
-    awake true over other some =
-        let at = place_of other (waiter ∷ []) some in
-        ap (due_of r.clock) (sym (only_one waiter at.0 other at.1)) ∙ waiter_awake over
-
     each : (b : Bool) → is_settled n' ≡ b → (i key : ℕ) → slice_get (waiter_if b waiter) i ≡ Some key →
         IsSomeAnd (running_at task_table key) (λ (x : Running). Continues r.world.clock world_after x.task calls.Settled)
     each false over i key f = absurd (none-some key f)
@@ -286,24 +292,36 @@ module _ {r : Runner} {task_table : TaskTable} {id row : ℕ} {exc : Option held
 
     -- the run is between two turns
     pub recorded_going : {new : Runner} → IsReadied (waiter_if (is_settled n') waiter) calls.Settled (ended_runner r task_table book) new →
-        IsGoing None new
+        IsBetweenTurns new
     recorded_going {new} ready =
-        subst (IsGoing None) (sym ready.rest)
+        subst IsBetweenTurns (sym ready.rest)
         (record {
-          sound = h.sound;
-          counts = h.counts;
-          shelved = subst (AreShelved None) ready.rest shelved;
-          interleaving = interleaving_after h e agree book recorded;
+          going = record {
+            sound = h.sound;
+            counts = h.counts;
+            shelved = subst (AreShelved None) ready.rest shelved;
+            interleaving = λ k settled.
+                subst (Refines k r.job.now r.input.now r.world.tick (task_count task_table) None)
+                (sym (state_as (ended_runner r task_table book)
+                (ready_calls (record (ended_runner r task_table book) { batch = new.batch; later = new.later })) (granted_ready ready refl)))
+                (interleaving_after h e agree book recorded k settled);
+            lent = holds_ready ready tt (ended_parts r task_table book h.lent);
+          };
+          unserved = record {
+            through = h.unserved.through;
+            none_granted = none_granted_ready ready refl h.unserved.none_granted;
+          };
         })
       where
         shelved : AreShelved None new
         shelved =
-            shelved_ready ready (few (is_settled n')) (awake (is_settled n') refl) (each (is_settled n') refl)
+            shelved_ready ready (each (is_settled n') refl)
             (consistent_after h e agree book recorded) (stay_after h e agree book recorded) (known_after h e agree book recorded)
-            (entries_after h e agree book recorded) (added_after h e agree book recorded) None
+            (entries_after h e agree book recorded) (added_after h e agree book recorded) (later_after h e agree book recorded)
+            h.shelved.none_later None
             (λ other any. once_after h e agree book recorded (λ (key : ℕ). times key (waiter_if (is_settled n') waiter))
             (none_of_it (is_settled n')) (kept (is_settled n') refl) other)
-            (none_away (λ (other : ℕ). times_shelved r.batch r.clock other + times other (waiter_if (is_settled n') waiter) ≡ 0))
+            (none_away (λ (other : ℕ). times_shelved r.batch (later_calls r) r.clock other + times other (waiter_if (is_settled n') waiter) ≡ 0))
 
 -- ---- what `tell` requires
 
@@ -339,7 +357,7 @@ home_going : {r new : Runner} {task_table : TaskTable} {id row : ℕ} {exc : Opt
     (e : Ends r.task_table task_table id (tick_of r.world.clock r.world.tick) exc) → IsTaskTable task_table → (home : Home) →
     e.task.home ≡ Some home →
     TellsEnd (record r { task_table = task_table }) new home.nursery home.index (option_map exc_of exc)
-    (id_of task_table (parent_of task_table row)) → IsGoing None new
+    (id_of task_table (parent_of task_table row)) → IsBetweenTurns new
 home_going {r} {new} {task_table} {id} {row} {exc} h e agree home has t =
     recorded_going h e home has n.0 n.1 agree n.2
     (gives new.world.book home.nursery (n' h e home has n.0 n.1)
@@ -364,7 +382,7 @@ pub child_going : {r new : Runner} {task_table : TaskTable} {id row nursery inde
     IsStopping id row (stops.Ended exc) r → (e : Ends r.task_table task_table id (tick_of r.world.clock r.world.tick) exc) →
     IsTaskTable task_table →
     option_map {U = ℕ × ℕ} (λ (x : Home). (x.nursery, x.index)) e.task.home ≡ Some (nursery, index) → end ≡ option_map exc_of exc →
-    TellsEnd (record r { task_table = task_table }) new nursery index end (id_of task_table (parent_of task_table row)) → IsGoing None new
+    TellsEnd (record r { task_table = task_table }) new nursery index end (id_of task_table (parent_of task_table row)) → IsBetweenTurns new
 child_going {nursery = nursery} {index = index} h e agree f same t =
     let y = home_is e.task.home nursery index f in
     home_going h e agree y.0 y.1 (tells_in y.2 y.3 same t)

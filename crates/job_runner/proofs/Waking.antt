@@ -1,19 +1,20 @@
 -- Tasks with a timer in a new moment: which ones continue, and that the others stay.
-use Rattle.std.proofs.Common.{◌≡◌, ◌≢◌, inl, inr, ℕ, ◌^◌, ◌<◌, ◌≤◌, Bool, true, false, Option, Some, None, [], ◌∷◌, ◌++◌, length, refl, ap, sym, ◌∙◌, subst, arith, if◌then◌else◌}
-use Rattle.std.specs.Prelude.{IsSome, is_some, ◌==◌, ◌⊎◌}
+use Rattle.std.proofs.Common.{◌≡◌, ◌≢◌, inl, inr, ℕ, ◌^◌, ◌<◌, ◌≤◌, Bool, true, false, Option, Some, None, List, [], ◌∷◌, ◌++◌, length, refl, ap, sym, ◌∙◌, subst, arith, if◌then◌else◌}
+use Rattle.std.specs.Prelude.{All, IsSome, is_some, ◌==◌, ◌⊎◌}
 use Rattle.std.specs.Option.{ForSome}
 use Rattle.std.proofs.lemmas.Bool.{le-leb}
 use Rattle.std.proofs.lemmas.Bool.Decides.{eqb_tells, leb_tells}
-use Rattle.std.proofs.lemmas.List.Elements.{All-nil, All-push}
+use Rattle.std.proofs.lemmas.List.{append-nil}
+use Rattle.std.proofs.lemmas.List.Elements.{All-cons, All-nil, All-push}
 use Rattle.std.proofs.lemmas.Option.{same_Some, none-some}
 use Rattle.clock.specs.Clock.{Clock, now_of, due_of, SameTime, Updates, TakesDue, NoneDue}
 use Rattle.task_table.specs.declared.entry.Call.{Call}
 use Rattle.task_table.specs.declared.entry.Call.TheVariants as calls
 use Rattle.cancel_scopes.specs.Sight.{Tick, is_reached}
 use Rattle.task_machine.specs.declared.stop.TaskState.{TaskState}
-use Rattle.task_machine.specs.declared.stop.TaskState.TheVariants.{ToBegin, Asked, Asleep, Waiting, GivingUp, Awaits, Over}
+use Rattle.task_machine.specs.declared.stop.TaskState.TheVariants.{ToBegin, Asked, Asleep, Waiting, Queued, GivingUp, Awaits, Over}
 use Rattle.task_machine.specs.declared.world.World.{World}
-use Rattle.task_machine.specs.Events.{WaitsWithin}
+use Rattle.task_machine.specs.Events.{WaitsWithin, is_wait_over}
 use Rattle.task_machine.specs.Tasks.{scope_of}
 use Rattle.task_machine.specs.Worlds.{event_at}
 use Rattle.nursery_book.specs.Nursery.{Nursery, is_settled}
@@ -23,14 +24,17 @@ use Rattle.clock.specs.Sleeping.{Sleeping, Moves, KeepsSights, TakesSeen, NoneSe
 use Rattle.clock.specs.Waiting.{WaitsFor}
 use Rattle.task_table.specs.declared.task_table.TaskTable.{TaskTable}
 use Rattle.task_table.specs.declared.task_table.Running.{Running}
+use Rattle.task_table.specs.Entries.{Added}
 use Rattle.task_table.specs.TaskTable.{running_at}
 use Rattle.task_table.proofs.Lists.{push_some}
 use Rattle.task_table.proofs.Times.{one_if}
 use Rattle.job_runner.specs.declared.runner.Runner.{Runner}
-use Rattle.job_runner.specs.Jumps.{seen_call, sight_asleep, sight_by, sight_in, BeganBefore, Stayed, IsAnyNow, IsWaking, NoneSees, WakesOnly}
-use Rattle.job_runner.specs.Shelves.{GoesBy, IsCalled, IsCalledAdded, IsCalledEntry, IsConsistent, DozesIn, Stays, AllStay, sleep_slot_of, wait_slot_of, timer_times, times_shelved, running_times, task_state_times, settled_times, AreShelved}
+use Rattle.job_runner.specs.Jumps.{AddsUngranted, seen_call_if, seen_call, sight_asleep, sight_by, sight_in, BeganBefore, Stayed, IsAnyNow, IsWaking, NoneSees, WakesOnly}
+use Rattle.job_runner.specs.Shared.{what_of, later_calls, IsCallOf}
+use Rattle.job_runner.specs.Shelves.{GoesBy, IsAddedOf, NoneGranted, IsCalled, IsCalledAdded, IsCalledEntry, IsCalledLater, IsConsistent, DozesIn, Stays, AllStay, sleep_slot_of, wait_slot_of, timer_times, times_shelved, running_times, task_state_times, settled_times, AreShelved}
 use Rattle.job_runner.proofs.Counting.{count_below, fewer_below, found_within}
 use Rattle.job_runner.proofs.Goes.{due_goes, seen_goes}
+use Rattle.job_runner.proofs.Granted.{among_both}
 use Rattle.job_runner.proofs.Known.{SleepsIn, seen_by, known_without, sees_from}
 use Rattle.job_runner.proofs.Options.{some_has, some_is, some_of}
 use Rattle.job_runner.proofs.Shelving.{none_away, shelved_more}
@@ -56,6 +60,7 @@ running_most book (Some x) = by_task_state x.task.task_state
     by_task_state (Asked kernel purpose) = omega arith
     by_task_state (Asleep paced ticks since) = omega arith
     by_task_state (Waiting event since) = omega arith
+    by_task_state (Queued object ask since body) = omega arith
     by_task_state (GivingUp since) = omega arith
     by_task_state (Awaits id since) = by_settled (nursery_at book id)
     by_task_state Over = omega arith
@@ -74,6 +79,7 @@ consistent_still h time = record {
   bounded = h.bounded;
   none_started = h.none_started;
   none_set = h.none_set;
+  none_done = h.none_done;
 }
 
 -- how many timers there are
@@ -112,7 +118,7 @@ pub record WakesOne (old new : Runner) (id : ℕ) (call : Call) : Type 0 where
   pub next : new.batch.next ≡ old.batch.next ++ (id, call) ∷ []
   pub only : WakesOnly old new
 
-only_again : (was old new : Runner) → WakesOnly was old → WakesOnly old new → WakesOnly was new
+pub only_again : (was old new : Runner) → WakesOnly was old → WakesOnly old new → WakesOnly was new
 only_again was old new a b =
     b ∙ ap (λ (r : Runner). record r { clock = new.clock; sleepers = new.sleepers; waiters = new.waiters; batch = new.batch }) a
 
@@ -123,10 +129,11 @@ module _ {old new : Runner} {id : ℕ} {call : Call} (h : IsWaking old) (w : Wak
   left other tick e =
       sym (w.timers.others other (λ f. none-some tick (sym w.timers.changed ∙ (ap (due_of new.clock) (sym f) ∙ e)))) ∙ e
 
-  once : (other : ℕ) → times_shelved new.batch new.clock other ≡ running_times old.world.book (running_at old.task_table other)
+  once : (other : ℕ) →
+      times_shelved new.batch (later_calls old) new.clock other ≡ running_times old.world.book (running_at old.task_table other)
   once other =
-      let all : times_shelved old.batch old.clock other ≡ running_times old.world.book (running_at old.task_table other) = h.once other in
-      let more = shelved_more old.batch new.batch old.clock id call w.current w.next other in
+      let all : times_shelved old.batch (later_calls old) old.clock other ≡ running_times old.world.book (running_at old.task_table other) = h.once other in
+      let more = shelved_more old.batch new.batch (later_calls old) old.clock id call w.current w.next other in
       elim (eqb_tells id other) [
         | inl same ↦
             let one : one_if (id == other) ≡ 1 = ap one_if same.0 in
@@ -149,6 +156,8 @@ module _ {old new : Runner} {id : ℕ} {call : Call} (h : IsWaking old) (w : Wak
         unchanged = h.unchanged;
         none_current = w.current ∙ h.none_current;
         next = rw w.next (All-push (IsCalledAdded old.task_table old.world) old.batch.next (id, call) h.next called);
+        none_left = h.none_left;
+        none_later = h.none_later;
         once = once;
         someone = inl (λ e. push_some old.batch.next (id, call) (sym w.next ∙ e));
       })
@@ -163,11 +172,33 @@ module _ {old new : Runner} {id : ℕ} {call : Call} (h : IsWaking old) (w : Wak
       (omega (arith, below, same)) (ap is_some timer) (ap is_some w.timers.changed)
       (λ other differs. ap is_some (w.timers.others other differs))
 
+-- nothing is granted by its call
+pub adds_one : {old new : Runner} {id : ℕ} {call : Call} → WakesOne old new id call → what_of call ≡ None → ((input : List ℕ) → IsCallOf input call) →
+    AddsUngranted old new
+adds_one {old} {new} {id} {call} w none of =
+    record {
+      granted =
+          among_both old new ((id, call) ∷ []) [] (All-cons (λ (a : Added). what_of a.1 ≡ None) (id, call) [] none nobody) nobody w.current w.next
+          (ap later_calls w.only ∙ sym (append-nil (later_calls old)));
+      parts = λ input all. (let next = w.next in rw next (All-push (IsAddedOf input) old.batch.next (id, call) all (of input)));
+    }
+  where
+    nobody : NoneGranted []
+    nobody = All-nil (λ (a : Added). what_of a.1 ≡ None)
+
+adds_none : (r : Runner) → AddsUngranted r r
+adds_none r = record { granted = λ id. refl; parts = λ input all. all }
+
+-- nor by more calls
+pub adds_more : (was old new : Runner) → AddsUngranted was old → AddsUngranted old new → AddsUngranted was new
+adds_more was old new a b = record { granted = λ id. b.granted id ∙ a.granted id; parts = λ input all. b.parts input (a.parts input all) }
+
 -- ---- those that see a cancellation
 
 -- what holds while they are woken
 pub record IsSeeing (was r : Runner) : Type 0 where
   pub waking : IsWaking r
+  pub added : AddsUngranted was r
   pub only : WakesOnly was r
 
 -- a wait that began before a moment which is not too late to be counted did not either
@@ -176,13 +207,14 @@ within_by (Waiting event since) t began bounded = let lt : since < t = began in 
 within_by (ToBegin at) t began bounded = tt
 within_by (Asked kernel purpose) t began bounded = tt
 within_by (Asleep paced ticks since) t began bounded = tt
+within_by (Queued object ask since body) t began bounded = tt
 within_by (GivingUp since) t began bounded = tt
 within_by (Awaits id since) t began bounded = tt
 within_by Over t began bounded = tt
 
 -- before the first one that sees a cancellation is woken, what holds while they are is true
 pub seeing_first : (r : Runner) → IsWaking r → IsSeeing r r
-seeing_first r h = record { waking = h; only = refl }
+seeing_first r h = record { waking = h; added = adds_none r; only = refl }
 
 module _ {was old : Runner} {id : ℕ} {sleepers : Sleeping} (s : IsSeeing was old) (takes : TakesSeen old.sleepers sleepers id old.world.tick)
   where
@@ -220,10 +252,22 @@ module _ {was old : Runner} {id : ℕ} {sleepers : Sleeping} (s : IsSeeing was o
     module _ {new : Runner} {call : Call} (is : ForSome (running_at old.task_table id) (λ (x : Running). call ≡ seen_call old.world x.task))
         (w : WakesOne old new id call)
       where
+        -- it is granted nothing
+        ungranted : (what_of call ≡ None) × ((input : List ℕ) → IsCallOf input call)
+        ungranted =
+            let x = sleeper s.waking id seer.0.due seer.0.timer in
+            subst (λ (c : Call). (what_of c ≡ None) × ((input : List ℕ) → IsCallOf input c)) (sym (is x.0 x.1))
+            (by_over (is_wait_over old.world.clock (event_at old.world) x.0.task.task_state old.world.tick))
+          where
+            by_over : (over : Bool) → (what_of (seen_call_if over) ≡ None) × ((input : List ℕ) → IsCallOf input (seen_call_if over))
+            by_over true = (refl, λ input. tt)
+            by_over false = (refl, λ input. tt)
+
         -- once one that sees a cancellation is woken, what holds while they are is true again
         pub seeing_next : IsSeeing was new
         seeing_next = record {
           waking = waking_more s.waking w seer.0.due seer.0.timer (seer_called call is);
+          added = adds_more was old new s.added (adds_one w ungranted.0 ungranted.1);
           only = only_again was old new s.only w.only;
         }
 
@@ -251,6 +295,8 @@ module _ {was r : Runner} (sleepers : Sleeping) (s : IsSeeing was r) (none : Non
     unchanged = s.waking.unchanged;
     none_current = s.waking.none_current;
     next = s.waking.next;
+    none_left = s.waking.none_left;
+    none_later = s.waking.none_later;
     once = s.waking.once;
     someone = s.waking.someone;
   }
@@ -273,6 +319,9 @@ module _ {was r : Runner} (sleepers : Sleeping) (s : IsSeeing was r) (none : Non
             | inr h ↦ h.0
           ]
 
+  pub seen_added : AddsUngranted was all_seen
+  seen_added = record { granted = s.added.granted; parts = s.added.parts }
+
   pub seen_only : WakesOnly was all_seen
   seen_only = only_again was r all_seen s.only refl
 
@@ -281,12 +330,13 @@ module _ {was r : Runner} (sleepers : Sleeping) (s : IsSeeing was r) (none : Non
 -- what holds while those that are due are woken
 pub record IsDue (was r : Runner) : Type 0 where
   pub waking : IsWaking r
+  pub added : AddsUngranted was r
   pub unseen : NoneSees r
   pub only : WakesOnly was r
 
 -- before the first one that is due is woken, what holds while they are is true
 pub due_first : (r : Runner) → IsWaking r → NoneSees r → IsDue r r
-due_first r h unseen = record { waking = h; unseen = unseen; only = refl }
+due_first r h unseen = record { waking = h; added = adds_none r; unseen = unseen; only = refl }
 
 module _ {was old : Runner} {id : ℕ} {clock : Clock} (s : IsDue was old) (takes : TakesDue old.clock id clock) where
   due_called : IsCalled old.task_table old.world id calls.Due
@@ -302,6 +352,7 @@ module _ {was old : Runner} {id : ℕ} {clock : Clock} (s : IsDue was old) (take
     pub due_next : IsDue was new
     due_next = record {
       waking = waking_more s.waking w takes.due takes.had due_called;
+      added = adds_more was old new s.added (adds_one w refl (λ input. tt));
       unseen = rw w.only (λ other tick e. s.unseen other tick (left s.waking w takes.due takes.had other tick e));
       only = only_again was old new s.only w.only;
     }
@@ -317,6 +368,8 @@ dozes_on world scope (ToBegin at) began unseen = tt
 dozes_on world scope (Asked kernel purpose) began unseen = tt
 dozes_on world scope (Asleep paced ticks since) began unseen = (let a : since < world.tick = began in omega (arith, a), inl unseen)
 dozes_on world scope (Waiting event since) began unseen = (let a : since < world.tick = began in omega (arith, a), inl unseen)
+dozes_on world scope (Queued object ask since body) began unseen =
+    (let a : since < world.tick = began in omega (arith, a), inl unseen)
 dozes_on world scope (GivingUp since) began unseen = tt
 dozes_on world scope (Awaits id since) began unseen = tt
 dozes_on world scope Over began unseen = tt
@@ -358,11 +411,13 @@ module _ {was r : Runner} (clock : Clock) (s : IsDue was r) (none : NoneDue r.cl
         let over = s.waking.none_current in
         rw over (All-nil (IsCalledEntry r.task_table r.world));
     next = s.waking.next;
+    none_later = s.waking.none_left;
+    later = (let none = s.waking.none_later in rw none (All-nil (IsCalledLater r.task_table r.world)));
     once = λ id other.
-        let all : times_shelved r.batch r.clock id ≡ running_times r.world.book (running_at r.task_table id) = s.waking.once id in
+        let all : times_shelved r.batch (later_calls r) r.clock id ≡ running_times r.world.book (running_at r.task_table id) = s.waking.once id in
         let same : timer_times (due_of clock id) ≡ timer_times (due_of r.clock id) = ap timer_times (none.unchanged.timers id) in
         omega (arith, all, same);
-    away = none_away (λ (x : ℕ). times_shelved r.batch clock x ≡ 0);
+    away = none_away (λ (x : ℕ). times_shelved r.batch (later_calls r) clock x ≡ 0);
   }
 
   none_timely : IsAnyNow r.task_table r.world r.clock → ⊥
@@ -381,6 +436,9 @@ module _ {was r : Runner} (clock : Clock) (s : IsDue was r) (none : NoneDue r.cl
     | inl some ↦ some
     | inr any ↦ absurd (none_timely any)
   ]
+
+  pub due_added : AddsUngranted was all_due
+  due_added = record { granted = s.added.granted; parts = s.added.parts }
 
   pub due_only : WakesOnly was all_due
   due_only = only_again was r all_due s.only refl

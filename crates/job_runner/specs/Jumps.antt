@@ -1,5 +1,5 @@
 -- What a jump of the clock does: to which moment, and which tasks continue then.
-use Rattle.std.specs.Prelude.{◌≡◌, ◌≢◌, ◌⊎◌, ℕ, suc, ◌<◌, ◌≤◌, max, Bool, true, false, Option, Some, None, [], All, IsSomeAnd}
+use Rattle.std.specs.Prelude.{◌≡◌, ◌≢◌, ◌⊎◌, ℕ, suc, ◌<◌, ◌≤◌, max, Bool, true, false, Option, Some, None, List, [], All, IsSomeAnd}
 use Rattle.std.specs.Option.{option_map}
 use Rattle.clock.specs.Clock.{due_of}
 use Rattle.clock.specs.Clock as timers
@@ -22,8 +22,8 @@ use Rattle.job_runner.specs.declared.fault.RunFault.{RunFault}
 use Rattle.job_runner.specs.declared.fault.RunFault.TheVariants.{Limit, NoMemory}
 use Rattle.job_runner.specs.declared.runner.Runner.{Runner}
 use Rattle.job_runner.specs.Limits.{last_of}
-use Rattle.job_runner.specs.Shared.{later_calls}
-use Rattle.job_runner.specs.Shelves.{moment_of, AreKnown, IsCalledAdded, IsConsistent, NoneChanged, times_shelved, running_times}
+use Rattle.job_runner.specs.Shared.{granted_among, later_calls, ready_calls}
+use Rattle.job_runner.specs.Shelves.{moment_of, AreKnown, IsAddedOf, IsCalledAdded, IsConsistent, NoneChanged, times_shelved, running_times}
 
 abbrev pub seen_call_if : Bool → Call
 seen_call_if true = Due
@@ -123,10 +123,11 @@ pub record IsWaking (r : Runner) : Type 0 where
   pub unchanged : NoneChanged r.world
   pub none_current : r.batch.current ≡ []
   pub next : All (IsCalledAdded r.task_table r.world) r.batch.next
-  -- those that continue a round later do so in this moment
-  pub later : All (IsCalledAdded r.task_table r.world) (later_calls r)
+  -- those that continue a round later are among these
+  pub none_left : r.later.current ≡ []
+  pub none_later : later_calls r ≡ []
   pub once : (id : ℕ) → times_shelved r.batch (later_calls r) r.clock id ≡ running_times r.world.book (running_at r.task_table id)
-  pub someone : (r.batch.next ≢ []) ⊎ ((later_calls r ≢ []) ⊎ IsAnyNow r.task_table r.world r.clock)
+  pub someone : (r.batch.next ≢ []) ⊎ IsAnyNow r.task_table r.world r.clock
 
 -- no sleeper is left that sees a cancellation
 abbrev pub NoneSees : Runner → Type 0
@@ -134,6 +135,11 @@ NoneSees r =
     (id due : ℕ) → due_of r.clock id ≡ Some due → IsSomeAnd (running_at r.task_table id)
     (λ (x : Running). is_reached (sight_asleep r.world (scope_of x.task) x.task.task_state) r.world.tick ≡ false)
 
--- nothing but the timers, the sleepers, the tasks that wait for events, those that continue a round later and the next batch changed
+-- nothing but the timers, the sleepers, the tasks that wait for events and the next batch changed
 abbrev pub WakesOnly : Runner → Runner → Type 0
-WakesOnly old new = new ≡ record old { clock = new.clock; sleepers = new.sleepers; waiters = new.waiters; batch = new.batch; later = new.later }
+WakesOnly old new = new ≡ record old { clock = new.clock; sleepers = new.sleepers; waiters = new.waiters; batch = new.batch }
+
+-- nothing is granted by the calls that were added
+pub record AddsUngranted (old new : Runner) : Type 0 where
+  pub granted : (id : ℕ) → granted_among id (ready_calls new) ≡ granted_among id (ready_calls old)
+  pub parts : (input : List ℕ) → All (IsAddedOf input) old.batch.next → All (IsAddedOf input) new.batch.next

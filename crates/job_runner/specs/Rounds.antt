@@ -1,5 +1,5 @@
 -- How long a run continues: turns are left, or a jump before the next one.
-use Rattle.std.specs.Prelude.{◌≡◌, ℕ, suc, ◌+◌, ◌*◌, ◌-◌}
+use Rattle.std.specs.Prelude.{◌≡◌, ℕ, suc, ◌+◌, ◌*◌, ◌-◌, []}
 use Rattle.job_tree.specs.Names.{size_of}
 use Rattle.job_runner.specs.declared.runner.Phase.{Phase}
 use Rattle.job_runner.specs.declared.runner.Phase.TheVariants.{Ready, Blocked, Over}
@@ -20,6 +20,7 @@ most_turns r = 2 * size_of r.job.now.steps + 1
 -- later.
 pub record ServesRound (old new : Runner) : Type 0 where
   pub through : new.through ≡ suc old.world.tick
+  pub none_done : new.round.items ≡ []
   pub rest :
       new
       ≡ record old {

@@ -3,7 +3,7 @@ use Rattle.std.specs.Prelude.{◌≡◌, ℕ, suc, Bool, true, false, Option, So
 use Rattle.exceptions.specs.Exceptions.{Label}
 use Rattle.job_tree.specs.declared.object.ObjectKind.{ObjectKind}
 use Rattle.job_meaning.specs.Log.{same_label}
-use Rattle.objects.specs.Held.{Serves, new_object, object_in}
+use Rattle.objects.specs.Held.{Serves, new_object, object_in, IsObjectOf}
 use Rattle.objects.specs.declared.given.Given.{Given}
 use Rattle.objects.specs.declared.object.Object.{Object}
 use Rattle.objects.specs.declared.object.Operation.{Operation}
@@ -20,11 +20,16 @@ use Rattle.job_runner.specs.Shared.{object_at, round_act_of}
 abbrev pub OthersStay : Label → ObjectTable → ObjectTable → Type 0
 OthersStay label old new = (other : Label) → same_label other label ≡ false → object_at new other ≡ object_at old other
 
--- a limiter or channel of this kind was opened, with this label
+-- a limiter or channel of this kind was opened, unless one was open before
+abbrev pub OpensIf : ObjectKind → Option Object → Option Object → Type 0
+OpensIf kind None None = ⊥
+OpensIf kind None (Some new) =
+    ((waits : Ticket → Bool) → object_in waits new ≡ new_object kind) × ((input : List ℕ) → IsObjectOf input new)
+OpensIf kind (Some old) new = new ≡ Some old
+
+-- that of this label
 pub record Opens (kind : ObjectKind) (label : Label) (old new : ObjectTable) : Type 0 where
-  pub object : Object
-  pub is : object_at new label ≡ Some object
-  pub new_one : (waits : Ticket → Bool) → object_in waits object ≡ new_object kind
+  pub opened : OpensIf kind (object_at old label) (object_at new label)
   pub others : OthersStay label old new
 
 -- that of this label served what was done to it, if it was opened

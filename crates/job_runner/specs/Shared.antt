@@ -11,9 +11,12 @@ use Rattle.objects.specs.declared.object.Operation.TheVariants.{Asks, GivesBack,
 use Rattle.job_meaning.specs.Log.{Act, opens, asks, gives_back, closes, same_label}
 use Rattle.run_refinement.specs.Sharing.{RoundAct}
 use Rattle.task_table.specs.declared.entry.Call.{Call}
-use Rattle.task_table.specs.declared.entry.Call.TheVariants.{Granted}
+use Rattle.task_table.specs.declared.entry.Call.TheVariants.{Begin, Granted}
 use Rattle.task_table.specs.declared.entry.Entry.{Entry}
+use Rattle.task_machine.specs.declared.stop.Wake.{Wake}
+use Rattle.task_machine.specs.declared.stop.Wake.TheVariants as wakes
 use Rattle.task_table.specs.declared.task_table.Running.{Running}
+use Rattle.task_table.specs.declared.task_table.TaskTable.{TaskTable}
 use Rattle.task_table.specs.Batch.{Batches}
 use Rattle.task_table.specs.Entries.{Added, added_of}
 use Rattle.task_table.specs.TaskTable.{Sharing, running_at, id_of}
@@ -52,26 +55,40 @@ abbrev pub what_of : Call → Option What
 what_of (Granted grant) = Some (what_in grant)
 what_of _ = None
 
-abbrev pub call_what_if : Bool → Option What → Option What → Option What
-call_what_if true what other = what
-call_what_if false what other = other
+-- this, if something was granted, and else the other
+abbrev pub what_or : Option What → Option What → Option What
+what_or (Some what) other = Some what
+what_or None other = other
+
+abbrev pub what_if : Bool → Option What → Option What
+what_if true what = what
+what_if false what = None
 
 -- what the task with an id continues with, if it is ready
 abbrev pub granted_among : ℕ → List Added → Option What
 granted_among id [] = None
-granted_among id (a ∷ added) = call_what_if (a.0 == id) (what_of a.1) (granted_among id added)
+granted_among id (a ∷ added) = what_or (what_if (a.0 == id) (what_of a.1)) (granted_among id added)
 
 -- and the task of a row, if it has not ended
 abbrev pub granted_if : ℕ → List Added → ℕ → Option Running → Option What
 granted_if id calls p None = None
-granted_if id calls p (Some x) = call_what_if (x.row == p) (granted_among id calls) None
+granted_if id calls p (Some x) = what_if (x.row == p) (granted_among id calls)
 
-abbrev pub granted_in : Runner → ℕ → Option What
-granted_in r p = granted_if (id_of r.task_table p) (ready_calls r) p (running_at r.task_table (id_of r.task_table p))
+abbrev pub granted_of : TaskTable → List Added → ℕ → Option What
+granted_of table calls p = granted_if (id_of table p) calls p (running_at table (id_of table p))
+
+-- what a runner holds, where these tasks are ready
+abbrev pub sharing_of : Runner → List Added → Sharing
+sharing_of r calls =
+    record { through = r.through; object = object_at r.objects; round = map round_act_of r.round.items; granted = granted_of r.task_table calls }
 
 abbrev pub sharing_in : Runner → Sharing
-sharing_in r =
-    record { through = r.through; object = object_at r.objects; round = map round_act_of r.round.items; granted = granted_in r }
+sharing_in r = sharing_of r (ready_calls r)
+
+-- the call by which a task that something was granted to continues; that of every other one grants nothing
+abbrev pub call_by : Wake → Call
+call_by (wakes.Granted grant) = Granted grant
+call_by _ = Begin
 
 -- ---- of which input the parts are
 

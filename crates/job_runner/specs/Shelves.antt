@@ -1,11 +1,11 @@
 -- Where the tasks of a run are kept between their turns: in the current batch or the next one, with a timer, or waiting for a
 -- nursery of which a member runs.
-use Rattle.std.specs.Prelude.{◌≡◌, ◌≢◌, ℕ, ◌⊎◌, ◌+◌, ◌<◌, ◌≤◌, suc, if◌then◌else◌, false, List, Option, Some, None, [], ◌∷◌, map, All, IsSomeAnd}
+use Rattle.std.specs.Prelude.{◌≡◌, ◌≢◌, ℕ, ◌⊎◌, ◌+◌, ◌<◌, ◌≤◌, suc, if◌then◌else◌, false, List, Option, Some, None, [], ◌∷◌, length, map, All, IsSomeAnd}
 use Rattle.std.specs.Option.{ForSome}
 use Rattle.clock.specs.Clock.{now_of, limit_of, due_of}
 use Rattle.clock.specs.Clock as timers
 use Rattle.task_table.specs.declared.entry.Call.{Call}
-use Rattle.task_table.specs.declared.entry.Call.TheVariants.{Ask}
+use Rattle.task_table.specs.declared.entry.Call.TheVariants.{Begin, Settled, Granted, Ask}
 use Rattle.task_table.specs.declared.entry.Entry.{Entry}
 use Rattle.task_table.specs.Batch.{Batches}
 use Rattle.task_table.specs.Entries.{Added, NonePlaced, wake_of}
@@ -16,13 +16,14 @@ use Rattle.job_tree.specs.Names.{GivesNamesOnce}
 use Rattle.job_tree.specs.Starting.{StartsInNurseries}
 use Rattle.job_tree.specs.InRange.{IsInRange}
 use Rattle.exceptions.specs.Exceptions.{Label}
-use Rattle.objects.specs.Held.{IsObjectOf}
+use Rattle.objects.specs.Held.{IsGrantOf, IsObjectOf}
 use Rattle.turn_semantics.specs.Midway.{Tables}
 use Rattle.interleavings.specs.Laws.{IsSettledBy}
 use Rattle.job_meaning.specs.Moments.{clock_of, a_round_after, wakes_at}
 use Rattle.job_meaning.specs.Walk.{last_grant}
 use Rattle.job_meaning.specs.declared.clock.Clock.{Clock}
 use Rattle.job_meaning.specs.declared.clock.Clock.TheVariants.{ByRounds as by_rounds}
+use Rattle.job_meaning.specs.declared.limits.TheConstants.{MAX_INPUT}
 use Rattle.input_lines.specs.Answers.{IsAnswer}
 use Rattle.input_lines.specs.declared.answers.Answer.{Answer}
 use Rattle.nursery_book.specs.Nursery.{Nursery, is_settled}
@@ -35,7 +36,8 @@ use Rattle.task_machine.specs.declared.task.Task.{Task}
 use Rattle.task_machine.specs.declared.world.World.{World}
 use Rattle.task_machine.specs.Events.{wait_ends}
 use Rattle.task_machine.specs.Labels.{Events}
-use Rattle.task_machine.specs.Tasks.{scope_of}
+use Rattle.task_machine.specs.Frames.{Lent}
+use Rattle.task_machine.specs.Tasks.{scope_of, lent_of}
 use Rattle.task_machine.specs.Worlds.{event_at}
 use Rattle.run_refinement.specs.RunState.{RunState, Refines}
 use Rattle.run_refinement.specs.Ready.{MayGo, AreHomesOf}
@@ -49,7 +51,7 @@ use Rattle.job_runner.specs.Limits.{last_tick, last_of}
 use Rattle.task_table.specs.Rows.{times}
 use Rattle.task_table.specs.TaskTable.{Sharing, running_at, parent_of, task_count, run_state, IsTaskTable}
 use Rattle.job_runner.specs.declared.serving.RoundAct as held
-use Rattle.job_runner.specs.Shared.{what_of, sharing_in, later_calls, ready_calls, object_at, IsDoneOf, IsCallOf}
+use Rattle.job_runner.specs.Shared.{what_of, call_by, sharing_of, sharing_in, later_calls, ready_calls, object_at, IsDoneOf, IsCallOf}
 
 -- ---- why a task is ready
 
@@ -73,10 +75,6 @@ IsCalledEntry task_table world e = IsCalled task_table world e.task e.call
 
 abbrev pub IsCalledAdded : TaskTable → World → Added → Type 0
 IsCalledAdded task_table world a = IsCalled task_table world a.0 a.1
-
--- the world in the next moment
-abbrev pub a_moment_later : World → World
-a_moment_later world = record world { tick = suc world.tick }
 
 -- ---- tasks with a timer
 
@@ -118,6 +116,24 @@ pub record Stays (world : World) (due : ℕ) (task : Task) : Type 0 where
   pub due_is : moment_of world.clock (event_at world) world.book task.task_state ≡ Some due
   pub later : world.tick < due
   pub dozes : DozesIn world (scope_of task) task.task_state
+
+-- Why a task in this state continues in the next moment, and in no earlier one: it begins then, its nursery is left then, or something is
+-- granted to it, whatever the moment until which it would wait.
+abbrev pub ContinuesBy : Lent → (next due : ℕ) → TaskState → Call → Type 0
+ContinuesBy lent next due (ToBegin at) Begin = due ≡ next
+ContinuesBy lent next due (Awaits id since) Settled = due ≡ next
+ContinuesBy lent next due (Queued object ask since body) (Granted grant) = IsGrantOf lent.input grant
+ContinuesBy lent next due _ _ = ⊥
+
+-- a task continues by this call in the next moment
+pub record ContinuesLater (world : World) (task : Task) (call : Call) : Type 0 where
+  pub due : ℕ
+  pub stays : Stays world due task
+  pub by : ContinuesBy (lent_of task) (suc world.tick) due task.task_state call
+
+-- and so does that with an id, which has not ended
+abbrev pub IsCalledLater : TaskTable → World → Added → Type 0
+IsCalledLater task_table world a = IsSomeAnd (running_at task_table a.0) (λ (x : Running). ContinuesLater world x.task a.1)
 
 -- each task that has a timer has not ended, and stays until it is due
 abbrev pub AllStay : TaskTable → World → timers.Clock → Type 0
@@ -231,9 +247,9 @@ pub record AreShelved (turning : Option ℕ) (r : Runner) : Type 0 where
   pub known : AreKnown r.task_table r.world r.clock r.sleepers r.waiters
   pub current : All (IsCalledEntry r.task_table r.world) r.batch.current
   pub next : All (IsCalledAdded r.task_table r.world) r.batch.next
-  -- those that continue a round later may do so then
+  -- those that continue a round later do so in the next moment
   pub none_later : r.later.current ≡ []
-  pub later : All (IsCalledAdded r.task_table (a_moment_later r.world)) (later_calls r)
+  pub later : All (IsCalledLater r.task_table r.world) (later_calls r)
   pub once : (id : ℕ) → IsElse turning id → times_shelved r.batch (later_calls r) r.clock id ≡ running_times r.world.book (running_at r.task_table id)
   pub away : ForSome turning (λ (id : ℕ). times_shelved r.batch (later_calls r) r.clock id ≡ 0)
 
@@ -241,7 +257,7 @@ pub record AreShelved (turning : Option ℕ) (r : Runner) : Type 0 where
 abbrev pub state_in : Runner → RunState
 state_in r = run_state r.task_table r.world r.turns (sharing_in r)
 
--- For each settled tables they are a run of the definitions.
+-- For each pair of settled tables they are a run of the definitions.
 abbrev pub IsRefined : Runner → Type 0
 IsRefined r = (k : Tables) → IsSettledBy k r.job.now r.input.now →
     Refines k r.job.now r.input.now r.world.tick (task_count r.task_table) None (state_in r)
@@ -256,36 +272,80 @@ pub record IsSameJob (old new : Runner) : Type 0 where
 abbrev pub IsActOf : List ℕ → held.RoundAct → Type 0
 IsActOf input a = IsDoneOf input a.done
 
+-- a task whose call grants it a part of this input, if one
+abbrev pub IsEntryOf : List ℕ → Entry → Type 0
+IsEntryOf input e = IsCallOf input e.call
+
+abbrev pub IsAddedOf : List ℕ → Added → Type 0
+IsAddedOf input a = IsCallOf input a.1
+
 -- the parts that limiters and channels hold, those of what was done in this moment, and those that were granted are of the input
 pub record HoldsParts (r : Runner) : Type 0 where
   pub objects : (l : Label) → ForSome (object_at r.objects l) (IsObjectOf r.input.now)
   pub round : All (IsActOf r.input.now) r.round.items
-  pub ready : All (λ (a : Added). IsCallOf r.input.now a.1) (ready_calls r)
+  pub current : All (IsEntryOf r.input.now) r.batch.current
+  pub next : All (IsAddedOf r.input.now) r.batch.next
+  pub later : All (IsAddedOf r.input.now) (later_calls r)
 
--- what holds for each job that was read
-pub record IsSoundJob (job : Tree) : Type 0 where
+-- what holds for each job that was read, and for an input that may be run
+pub record IsSoundJob (job : Tree) (input : List ℕ) : Type 0 where
   pub names : GivesNamesOnce job
   pub starts : StartsInNurseries job
   pub in_range : IsInRange job
+  pub small : length input ≤ MAX_INPUT
 
--- A run between two turns, or during the turn of the task with this id.
-pub record IsGoing (away : Option ℕ) (r : Runner) : Type 0 where
-  pub sound : IsSoundJob r.job.now
+-- A run between two turns.
+pub record IsGoing (r : Runner) : Type 0 where
+  pub sound : IsSoundJob r.job.now r.input.now
   pub counts : r.world.clock ≡ clock_of r.job.now.format
-  pub shelved : AreShelved away r
+  pub shelved : AreShelved None r
   pub interleaving : IsRefined r
   -- the parts that limiters and channels hold, or that are to be sent, are of the input
   pub lent : HoldsParts r
 
--- what was done in a moment is served when no task is ready in it any more
-abbrev pub served_to : List Entry → ℕ → ℕ
-served_to [] t = suc t
-served_to (e ∷ es) t = t
+-- none of these tasks continues because something was granted to it
+abbrev pub NoneGranted : List Added → Type 0
+NoneGranted added = All (λ (a : Added). what_of a.1 ≡ None) added
+
+-- What was done to limiters and channels in this moment is not served yet, so nothing is granted for the next one.
+pub record IsUnserved (r : Runner) : Type 0 where
+  pub through : r.through ≡ r.world.tick
+  pub none_granted : NoneGranted (later_calls r)
+
+-- A run between two turns of a batch.
+pub record IsBetweenTurns (r : Runner) : Type 0 where
+  pub going : IsGoing r
+  pub unserved : IsUnserved r
+
+-- it is served
+pub record IsServed (r : Runner) : Type 0 where
+  pub through : r.through ≡ suc r.world.tick
+  pub none_done : r.round.items ≡ []
+
+-- it is when no task is ready in this moment any more
+abbrev pub IsServedIf : List Entry → Runner → Type 0
+IsServedIf [] r = IsServed r
+IsServedIf (e ∷ es) r = IsUnserved r
+
+-- the tasks of the program before the one with an id has its turn with this wake
+abbrev pub state_turning : ℕ → Wake → Runner → RunState
+state_turning id wake r = run_state r.task_table r.world r.turns (sharing_of r ((id, call_by wake) ∷ ready_calls r))
+
+-- A run in which the task with this id is about to have its turn with this wake.
+pub record IsTurning (id : ℕ) (wake : Wake) (r : Runner) : Type 0 where
+  pub sound : IsSoundJob r.job.now r.input.now
+  pub counts : r.world.clock ≡ clock_of r.job.now.format
+  pub shelved : AreShelved (Some id) r
+  pub goes : IsSomeAnd (running_at r.task_table id) (λ (x : Running). MayGo r.world (what_of (call_by wake)) x.task wake)
+  pub interleaving : (k : Tables) → IsSettledBy k r.job.now r.input.now →
+      Refines k r.job.now r.input.now r.world.tick (task_count r.task_table) None (state_turning id wake r)
+  pub lent : HoldsParts r
+  pub unserved : IsUnserved r
 
 -- A run between two calls of its caller: no answers are placed for its batch, and no task was added to the next one.
 pub record IsUnderway (r : Runner) : Type 0 where
-  pub going : IsGoing None r
+  pub going : IsGoing r
   pub unchanged : NoneChanged r.world
   pub unplaced : NonePlaced r.batch.current
   pub nothing_added : r.batch.next ≡ []
-  pub served : r.through ≡ served_to r.batch.current r.world.tick
+  pub served : IsServedIf r.batch.current r

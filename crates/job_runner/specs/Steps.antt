@@ -17,7 +17,9 @@ use Rattle.job_meaning.specs.declared.clock.Clock.TheVariants.{ByTicks as by_tic
 use Rattle.nursery_book.specs.Nursery.{Nursery, is_settled, with_child}
 use Rattle.nursery_book.specs.Book.{HasNursery, Changes}
 use Rattle.task_machine.specs.declared.stop.Stop.{Stop}
+use Rattle.task_machine.specs.declared.stop.Stop.TheVariants.{Queue}
 use Rattle.task_machine.specs.declared.task.Task.{Task}
+use Rattle.task_machine.specs.declared.world.World.{World}
 use Rattle.task_machine.specs.Tasks.{scope_of}
 use Rattle.run_refinement.specs.Sights.{IsOneOf}
 use Rattle.run_refinement.specs.Step.{StopSays, StoppedIn}
@@ -25,15 +27,16 @@ use Rattle.run_refinement.specs.Turn.{serials_from}
 use Rattle.clock.specs.Sleeping.{Moves, Sees}
 use Rattle.clock.specs.Waiting.{event_in}
 use Rattle.task_table.specs.Rows.{times}
-use Rattle.task_table.specs.TaskTable.{running_at, task_of, ended_task_of, start_of, children_of, parent_of, id_of, task_count, IsTaskTable}
+use Rattle.task_table.specs.TaskTable.{running_at, task_of, ended_task_of, start_of, children_of, parent_of, id_of, task_count, run_state, IsTaskTable}
 use Rattle.task_table.specs.declared.task_table.TaskTable.{TaskTable}
 use Rattle.task_table.specs.declared.task_table.Running.{Running}
 use Rattle.job_runner.specs.declared.runner.Runner.{Runner}
 use Rattle.task_machine.specs.declared.stop.ObjectRequest.{ObjectRequest}
 use Rattle.task_machine.specs.Worlds.{label_at}
-use Rattle.run_refinement.specs.Sharing.{round_act, asked_of}
-use Rattle.job_runner.specs.Shared.{later_calls, round_act_of}
-use Rattle.job_runner.specs.Shelves.{IsSoundJob, AreShelved, HoldsParts, IsActOf, state_in}
+use Rattle.run_refinement.specs.RunState.{RunState}
+use Rattle.run_refinement.specs.Sharing.{RoundAct, round_act, asked_of}
+use Rattle.job_runner.specs.Shared.{later_calls, round_act_of, sharing_in}
+use Rattle.job_runner.specs.Shelves.{IsSoundJob, AreShelved, HoldsParts, IsActOf, IsUnserved}
 
 -- ---- the tasks that a task started
 
@@ -77,6 +80,7 @@ pub record IsReadied (ids : List ℕ) (call : Call) (old new : Runner) : Type 0 
   pub next : new.batch.next ≡ old.batch.next ++ calls_in old.world.clock ids call
   pub later : later_calls new ≡ later_calls old ++ calls_later old.world.clock ids call
   pub current : new.batch.current ≡ old.batch.current
+  pub later_current : new.later.current ≡ old.later.current
   pub rest : new ≡ record old { batch = new.batch; later = new.later }
 
 -- The tasks that waited in the world were taken, and begin a round later.
@@ -144,16 +148,28 @@ pub record PutsToSleep (id due : ℕ) (old new : Runner) : Type 0 where
 
 -- ---- a task that stopped
 
+-- what a task that stopped so asks of a limiter or channel
+abbrev pub asked_in : World → ℕ → Stop → List RoundAct
+asked_in world row (Queue request) = asked_of row request (label_at world request.object)
+asked_in world row _ = []
+
+-- the tasks of the program, where what a task asks that stopped so is done too
+abbrev pub state_after : ℕ → Stop → Runner → RunState
+state_after row stop r =
+    run_state r.task_table r.world r.turns
+    (record (sharing_in r) { round = map round_act_of r.round.items ++ asked_in r.world row stop })
+
 -- The task with an id and a row stopped so in its turn, and the runner has not handled the stop yet.
 pub record IsStopping (id row : ℕ) (stop : Stop) (r : Runner) : Type 0 where
-  pub sound : IsSoundJob r.job.now
+  pub sound : IsSoundJob r.job.now r.input.now
   pub counts : r.world.clock ≡ clock_of r.job.now.format
   pub shelved : AreShelved (Some id) r
   pub lives : IsSomeAnd (running_at r.task_table id) (λ (x : Running). (x.row ≡ row) × StopSays r.world x.task stop)
   -- the parts that limiters and channels hold, or that are to be sent, are of the input
   pub lent : HoldsParts r
   pub interleaving : (k : Tables) → IsSettledBy k r.job.now r.input.now →
-      StoppedIn k r.job.now r.input.now r.world.tick (task_count r.task_table) row stop (state_in r)
+      StoppedIn k r.job.now r.input.now r.world.tick (task_count r.task_table) row stop (state_after row stop r)
+  pub unserved : IsUnserved r
 
 -- what does not change when the runner handles a stop
 pub record IsSameTurn (old new : Runner) : Type 0 where

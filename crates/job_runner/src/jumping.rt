@@ -3,7 +3,7 @@ ghost use Rattle.job_runner.specs.declared.runner.Phase.TheVariants.{Ready, Bloc
 ghost use Rattle.std.specs.Option.{ForSome};
 ghost use Rattle.task_machine.specs.Events.{WaitsWithin};
 ghost use Rattle.task_table.specs.TaskTable.{running_at};
-ghost use Rattle.job_runner.specs.Jumps.{IsNextCancel, IsNextRound, IsNextMoment, IsWaking, PassesLimit, NoneSees, WakesOnly, seen_call};
+ghost use Rattle.job_runner.specs.Jumps.{AddsUngranted, IsNextCancel, IsNextRound, IsNextMoment, IsWaking, PassesLimit, NoneSees, WakesOnly, seen_call};
 ghost use Rattle.job_runner.specs.Phases.{phase_of};
 ghost use Rattle.job_runner.specs.Runs.{IsLate};
 ghost use Rattle.job_runner.specs.Shelves.{AreShelved, IsSameJob, IsUnderway};
@@ -86,6 +86,7 @@ impl<'a> Runner<'a> {
         requires { IsWaking self.old }
         ensures waking { OnOk result (IsWaking self.new) }
         ensures unseen { OnOk result (NoneSees self.new) }
+        ensures added { OnOk result (AddsUngranted self.old self.new) }
         ensures rest { OnOk result (WakesOnly self.old self.new) }
     {
         'seen: while let Some(id) = self.sleepers.take_seen(self.world.now()) {
@@ -116,6 +117,7 @@ impl<'a> Runner<'a> {
         ensures shelved { OnOk result (AreShelved None self.new) }
         ensures some { OnOk result (self.new.batch.next ≢ []) }
         ensures current { OnOk result (self.new.batch.current ≡ []) }
+        ensures added { OnOk result (AddsUngranted self.old self.new) }
         ensures rest { OnOk result (WakesOnly self.old self.new) }
     {
         'due: while let Some(id) = self.clock.take_due() {

@@ -30,11 +30,14 @@ impl<'a> ObjectTable<'a> {
         }
     }
 
-    // Opens a limiter or channel of that kind, which has a label that none had before. After an error the table can only be
+    // Opens a limiter or channel of that kind with a label, unless one is open that has it. After an error the table can only be
     // dropped.
     pub(crate) fn open(&mut self, label: Label, kind: ObjectKind) -> Result<(), AllocError>
         ensures opens { OnOk result (Opens kind label self.old self.new) }
     {
+        if self.by_label.get(&label).is_some() {
+            return Ok(());
+        }
         self.by_label.insert(label, Object::open(self.alloc, kind))?;
         Ok(())
     }

@@ -4,21 +4,20 @@ ghost use Rattle.task_table.specs.Entries.{requests_of};
 ghost use Rattle.job_meaning.specs.declared.limits.TheConstants.{MAX_INPUT};
 ghost use Rattle.job_meaning.specs.Clocks.{clock_of};
 ghost use Rattle.job_meaning.specs.Meaning.{meaning_end};
-ghost use Rattle.run_refinement.specs.Ready.{MayGo};
 ghost use Rattle.workers.specs.Slots.{AreAnswers};
 ghost use Rattle.task_table.specs.TaskTable.{running_at, task_count, IsTaskTable};
 ghost use Rattle.job_runner.specs.declared.runner.Phase.TheVariants.{Ready, Over};
 ghost use Rattle.job_runner.specs.Limits.{last_tick};
 ghost use Rattle.job_runner.specs.Phases.{phase_of};
 ghost use Rattle.job_runner.specs.Runs.{IsRun, FollowsEach, turns_of};
-ghost use Rattle.job_runner.specs.Shelves.{IsGoing, IsSameJob, IsUnderway, NoneChanged};
+ghost use Rattle.job_runner.specs.Shelves.{IsBetweenTurns, IsGoing, IsSameJob, IsTurning, IsUnderway, NoneChanged};
 ghost use Rattle.job_runner.specs.Steps.{SeesOnly, TakesStarted, IsReadied, IsStopping};
 ghost use Rattle.job_runner.specs.Turns.{GoesOn, TakesTurn, Commits};
 
 use crate::finished::Run;
+use crate::limits::last_of;
 use crate::objects_by_label::ObjectTable;
 use crate::serving::RoundAct;
-use crate::limits::last_of;
 use cancel_scopes::stacks_are_chains;
 use clock::{EventWaiters, MockClock, Sleepers, TaskId};
 use input_lines::{Answer, Part, Request};
@@ -161,7 +160,7 @@ impl<'a> Runner<'a> {
         }
         runner.see_changed()?;
         runner.batch.turn_over();
-        if runner.batch.is_empty() {
+        if runner.batch.is_empty() && runner.through <= runner.world.now() {
             runner.serve_round()?;
         }
         Ok(runner)
@@ -169,8 +168,8 @@ impl<'a> Runner<'a> {
 
     // The sleepers are updated with each effective deadline (`sight`) that a cancellation lowered.
     fn see_changed(&mut self) -> Result<(), AllocError>
-        requires going { IsGoing None self.old }
-        ensures going { OnOk result (IsGoing None self.new) }
+        requires going { IsGoing self.old }
+        ensures going { OnOk result (IsGoing self.new) }
         ensures unchanged { OnOk result (NoneChanged self.new.world) }
         ensures rest { OnOk result (SeesOnly self.old self.new) }
     {
@@ -183,9 +182,8 @@ impl<'a> Runner<'a> {
 
     // Executes a turn of the task with an id.
     fn take_turn(&mut self, id: TaskId, wake: Wake<'a>) -> Result<(), AllocError>
-        requires going { IsGoing (Some id) self.old }
-        requires goes { IsSomeAnd (running_at self.old.task_table id) (λ x. MayGo self.old.world x.task wake) }
-        ensures going { OnOk result (IsGoing None self.new) }
+        requires turning { IsTurning id wake self.old }
+        ensures going { OnOk result (IsBetweenTurns self.new) }
         ensures takes { OnOk result (TakesTurn id wake.entry self.old self.new) }
         ensures same { OnOk result (IsSameJob self.old self.new) }
         ensures current { OnOk result (self.new.batch.current ≡ self.old.batch.current) }
@@ -199,8 +197,7 @@ impl<'a> Runner<'a> {
 
     // The task with an id and a row continues to its next stop, and those that it started are ready to begin.
     fn go(&mut self, id: TaskId, row: usize, wake: Wake<'a>) -> Result<Stop<'a>, AllocError>
-        requires going { IsGoing (Some id) self.old }
-        requires goes { IsSomeAnd (running_at self.old.task_table id) (λ x. MayGo self.old.world x.task wake) }
+        requires turning { IsTurning id wake self.old }
         requires row { IsSomeAnd (running_at self.old.task_table id) (λ x. x.row ≡ row) }
         ensures stopping { IfOk result (λ stop. IsStopping id row stop self.new) }
         ensures goes { IfOk result (λ stop. GoesOn id wake.entry stop self.old self.new) }

@@ -3,7 +3,7 @@ ghost use Rattle.std.specs.Prelude.{◌≡◌, ◌<◌, [], All, IfOk, OnOk};
 ghost use Rattle.task_table.specs.TaskTable.{task_count, IsTaskTable};
 ghost use Rattle.job_runner.specs.Rounds.{ServesRound};
 ghost use Rattle.job_runner.specs.Serving.{AreOrdered};
-ghost use Rattle.job_runner.specs.Shelves.{IsGoing};
+ghost use Rattle.job_runner.specs.Shelves.{IsGoing, IsUnserved};
 ghost use Rattle.job_runner.specs.Steps.{TakesActs, KeepsAsk};
 
 use crate::runner::Runner;
@@ -11,6 +11,7 @@ use exceptions::Label;
 use job_tree::ObjectKind;
 use objects::{Given, Operation, Ticket};
 use std::alloc::{AllocError, Global};
+use std::mem;
 use task_machine::{Act, ObjectRequest};
 use task_table::{Call, TaskTable};
 
@@ -60,9 +61,9 @@ impl<'a> Runner<'a> {
     pub(crate) fn keep_ask(
         &mut self,
         row: usize,
-        request: ObjectRequest<'a>,
+        request: &ObjectRequest<'a>,
     ) -> Result<(), AllocError>
-        ensures { OnOk result (KeepsAsk self.old self.new row request.entry) }
+        ensures { OnOk result (KeepsAsk self.old self.new row request.now) }
     {
         let Some(label) = self.world.label_of(request.object) else {
             return Ok(());
@@ -84,17 +85,17 @@ impl<'a> Runner<'a> {
     // Serves what was done to limiters and channels in the present moment. The tasks that are granted something by it continue in
     // the next one.
     pub(crate) fn serve_round(&mut self) -> Result<(), AllocError>
-        requires going { IsGoing None self.old }
-        requires unserved { self.old.through ≡ self.old.world.tick }
+        requires going { IsGoing self.old }
+        requires unserved { IsUnserved self.old }
         requires none_ready { (self.old.batch.current ≡ []) × (self.old.batch.next ≡ []) }
-        ensures going { OnOk result (IsGoing None self.new) }
+        ensures going { OnOk result (IsGoing self.new) }
         ensures served { OnOk result (ServesRound self.old self.new) }
     {
         self.through = self.world.now() + 1;
         if self.round.is_empty() {
             return Ok(());
         }
-        let round = std::mem::replace(&mut self.round, Vec::new(self.alloc));
+        let round = mem::replace(&mut self.round, Vec::new(self.alloc));
         let ordered = in_record_order(self.alloc, round, &self.task_table)?;
         let mut given = Vec::new(self.alloc);
         'acts: for placed in ordered {

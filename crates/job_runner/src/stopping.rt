@@ -7,10 +7,10 @@ ghost use Rattle.exceptions.specs.Held.{exc_of};
 ghost use Rattle.nursery_book.specs.Nursery.{is_settled, with_child};
 ghost use Rattle.nursery_book.specs.Book.{HasNursery};
 ghost use Rattle.clock.specs.Sleeping.{scope_in};
-ghost use Rattle.task_machine.specs.declared.stop.Stop.TheVariants.{Ask, Sleep, WaitFor, GiveUp, Wait, Ended};
+ghost use Rattle.task_machine.specs.declared.stop.Stop.TheVariants.{Ask, Sleep, WaitFor, Queue, GiveUp, Wait, Ended};
 ghost use Rattle.task_machine.specs.Tasks.{scope_of};
 ghost use Rattle.task_table.specs.TaskTable.{running_at, parent_of, id_of, task_count};
-ghost use Rattle.job_runner.specs.Shelves.{IsGoing};
+ghost use Rattle.job_runner.specs.Shelves.{IsBetweenTurns};
 ghost use Rattle.job_runner.specs.Steps.{IsStopping, IsSameTurn, PutsToSleep, TellsEnd};
 ghost use Rattle.job_runner.specs.Turns.{ComesOf, call_at_once};
 
@@ -34,7 +34,7 @@ impl<'a> Runner<'a> {
         stop: Stop<'a>,
     ) -> Result<(), AllocError>
         requires { IsStopping id row stop self.old }
-        ensures going { OnOk result (IsGoing None self.new) }
+        ensures going { OnOk result (IsBetweenTurns self.new) }
         ensures comes { OnOk result (ComesOf id stop.entry self.old self.new) }
         ensures same { OnOk result (IsSameTurn self.old self.new) }
     {
@@ -53,7 +53,7 @@ impl<'a> Runner<'a> {
     // The task is added to the next batch with its request.
     fn handle_ask(&mut self, id: TaskId, row: usize, request: Request<'a>) -> Result<(), AllocError>
         requires { IsStopping id row (Ask request) self.old }
-        ensures going { OnOk result (IsGoing None self.new) }
+        ensures going { OnOk result (IsBetweenTurns self.new) }
         ensures comes { OnOk result (ComesOf id (Ask request.entry) self.old self.new) }
         ensures same { OnOk result (IsSameTurn self.old self.new) }
     {
@@ -65,7 +65,7 @@ impl<'a> Runner<'a> {
     // The task sleeps until a moment.
     fn handle_sleep(&mut self, id: TaskId, row: usize, due: u64) -> Result<(), AllocError>
         requires { IsStopping id row (Sleep due) self.old }
-        ensures going { OnOk result (IsGoing None self.new) }
+        ensures going { OnOk result (IsBetweenTurns self.new) }
         ensures comes { OnOk result (ComesOf id (Sleep due) self.old self.new) }
         ensures same { OnOk result (IsSameTurn self.old self.new) }
     {
@@ -78,7 +78,7 @@ impl<'a> Runner<'a> {
     // it may continue in the same moment.
     fn handle_wait_for(&mut self, id: TaskId, row: usize, event: ScopeId) -> Result<(), AllocError>
         requires { IsStopping id row (WaitFor event) self.old }
-        ensures going { OnOk result (IsGoing None self.new) }
+        ensures going { OnOk result (IsBetweenTurns self.new) }
         ensures comes { OnOk result (ComesOf id (WaitFor event) self.old self.new) }
         ensures same { OnOk result (IsSameTurn self.old self.new) }
     {
@@ -103,11 +103,11 @@ impl<'a> Runner<'a> {
         request: ObjectRequest<'a>,
     ) -> Result<(), AllocError>
         requires { IsStopping id row (Queue request) self.old }
-        ensures going { OnOk result (IsGoing None self.new) }
+        ensures going { OnOk result (IsBetweenTurns self.new) }
         ensures comes { OnOk result (ComesOf id (Queue request.entry) self.old self.new) }
         ensures same { OnOk result (IsSameTurn self.old self.new) }
     {
-        self.keep_ask(row, request)?;
+        self.keep_ask(row, &request)?;
         let now = self.world.now();
         let clock = self.world.clock();
         let last = clock.wakes_at(FAR.saturating_sub(clock.tick_of(now)), now);
@@ -169,7 +169,7 @@ impl<'a> Runner<'a> {
     // The task was cancelled at a checkpoint, and continues at its moment.
     fn handle_give_up(&mut self, id: TaskId, row: usize, due: u64) -> Result<(), AllocError>
         requires { IsStopping id row (GiveUp due) self.old }
-        ensures going { OnOk result (IsGoing None self.new) }
+        ensures going { OnOk result (IsBetweenTurns self.new) }
         ensures comes { OnOk result (ComesOf id (GiveUp due) self.old self.new) }
         ensures same { OnOk result (IsSameTurn self.old self.new) }
     {
@@ -181,7 +181,7 @@ impl<'a> Runner<'a> {
     // The task continues a round later if its nursery is settled already, and waits otherwise.
     fn handle_wait(&mut self, id: TaskId, row: usize, nursery: NurseryId) -> Result<(), AllocError>
         requires { IsStopping id row (Wait nursery) self.old }
-        ensures going { OnOk result (IsGoing None self.new) }
+        ensures going { OnOk result (IsBetweenTurns self.new) }
         ensures comes { OnOk result (ComesOf id (Wait nursery) self.old self.new) }
         ensures same { OnOk result (IsSameTurn self.old self.new) }
     {
@@ -198,7 +198,7 @@ impl<'a> Runner<'a> {
     // it is closed. Each owns its parts, so one of them is a copy. The root has no nursery, and its exception is not copied.
     fn handle_end(&mut self, id: TaskId, row: usize, exc: Option<Exc>) -> Result<(), AllocError>
         requires { IsStopping id row (Ended exc) self.old }
-        ensures going { OnOk result (IsGoing None self.new) }
+        ensures going { OnOk result (IsBetweenTurns self.new) }
         ensures comes { OnOk result (ComesOf id (Ended exc) self.old self.new) }
         ensures same { OnOk result (IsSameTurn self.old self.new) }
     {

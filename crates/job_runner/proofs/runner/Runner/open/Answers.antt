@@ -16,8 +16,8 @@ returns-clause-underway c =
       names = c.spelled_jobs_are_sound.ensures.names _ _ c.steps-steps.ensures.spelled;
       starts = c.spelled_jobs_are_sound.ensures.starts _ _ c.steps-steps.ensures.spelled;
       in_range = c.steps-steps.ensures.in_range;
+      small = c.requires.small;
     })
-    c.requires.small
     (record {
       clock = clock;
       tick = c.new.ensures.tick;
@@ -25,6 +25,7 @@ returns-clause-underway c =
       labels = c.new.ensures.labels;
       events = c.new.ensures.events;
       set = c.new.ensures.set;
+      acts = c.new.ensures.acts;
       book = c.new.ensures.book;
       started =
           c.new.ensures.started;

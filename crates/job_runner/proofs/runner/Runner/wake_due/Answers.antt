@@ -1,7 +1,7 @@
 use Rattle.std.proofs.Common.{refl}
 use Rattle.task_table.specs.declared.entry.Call.TheVariants.{Due}
 use Rattle.job_runner.specs.declared.runner.Runner.{Runner}
-use Rattle.job_runner.proofs.Waking.{WakesOne, due_first, due_next, due_fewer, due_shelved, due_some, due_only}
+use Rattle.job_runner.proofs.Waking.{WakesOne, due_first, due_next, due_fewer, due_shelved, due_some, due_added, due_only}
 use Rattle.job_runner.proofs.runner.Runner.wake_due.Goals as goal
 
 abbrev after_wake : goal.In_ok-add → Runner
@@ -44,3 +44,6 @@ returns-clause-current c = c.due.invariant.waking.none_current
 
 pub returns-clause-rest : goal.returns-clause-rest
 returns-clause-rest c = due_only c.take_due.new.self c.due.invariant c.in_default.ensures
+
+pub returns-clause-added : goal.returns-clause-added
+returns-clause-added c = due_added c.take_due.new.self c.due.invariant c.in_default.ensures

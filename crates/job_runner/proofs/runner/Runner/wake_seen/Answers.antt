@@ -1,6 +1,6 @@
 use Rattle.std.proofs.Common.{refl}
 use Rattle.job_runner.specs.declared.runner.Runner.{Runner}
-use Rattle.job_runner.proofs.Waking.{WakesOne, seeing_first, seer_lives, seer_timed, seer_within, seeing_next, seeing_fewer, seen_waking, seen_unseen, seen_only}
+use Rattle.job_runner.proofs.Waking.{WakesOne, seeing_first, seer_lives, seer_timed, seer_within, seeing_next, seeing_fewer, seen_waking, seen_unseen, seen_added, seen_only}
 use Rattle.job_runner.proofs.runner.Runner.wake_seen.Goals as goal
 
 abbrev after_wake : goal.In_ok-add → Runner
@@ -65,3 +65,8 @@ pub returns-clause-rest : goal.returns-clause-rest
 returns-clause-rest c =
     let none = rw c.now.ensures at c.in_default.ensures in
     seen_only c.take_seen.new.self c.seen.invariant none
+
+pub returns-clause-added : goal.returns-clause-added
+returns-clause-added c =
+    let none = rw c.now.ensures at c.in_default.ensures in
+    seen_added c.take_seen.new.self c.seen.invariant none
