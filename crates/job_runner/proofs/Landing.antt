@@ -207,7 +207,7 @@ module _ {r : Runner} (w : IsUnderway r) (blocked : phase_of r ≡ phases.Blocke
             })
           where
             -- the runner with the batch that was turned over
-            abbrev last : Runner
+            last : Runner
             last = record r {
               clock = woken.clock;
               sleepers = woken.sleepers;

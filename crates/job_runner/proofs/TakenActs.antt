@@ -53,9 +53,9 @@ taking_next {was} {now} {next} {row} h w act kept first left same of pushed rest
     next_world = ap (λ (x : Runner). x.world) rest
 
 -- and fewer are left
-pub taking_fewer : {now next : Runner} (w : World) (act : ObjectAct) → now.world.acts.items ≡ act ∷ w.acts.items → next.world ≡ w →
+pub taking_fewer : (now next : Runner) (w : World) (act : ObjectAct) → now.world.acts.items ≡ act ∷ w.acts.items → next.world ≡ w →
     length next.world.acts.items < length now.world.acts.items
-taking_fewer {now} {next} w act first same =
+taking_fewer now next w act first same =
     let a : length now.world.acts.items ≡ suc (length w.acts.items) = ap length first in
     let b : length next.world.acts.items ≡ length w.acts.items = ap (λ (x : World). length x.acts.items) same in
     omega (arith, a, b)
