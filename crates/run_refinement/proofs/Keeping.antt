@@ -184,12 +184,11 @@ pub still_goes : {k : Tables} {job : Job} {input : List ℕ} {t m s : ℕ} {old 
     IsSettledBy k job input → GivesNamesOnce job → StartsInNurseries job →
     (c : Refines k job input t m None old) → (T : Turning k job input t m s old new c.numbers before after stop c.interleaving) → (u : ℕ) → u < m →
     u ≢ s → (task : Task) → old.task u ≡ Some task →
-    Follows new T.is.cancelled_from input t T.is.at (numbers_then c.numbers s m T.took.numbers_after) (leaving_by stop s) u task → (wake : Wake) →
-    MayGo old.world (old.granted u) task wake → MayGo new.world (new.granted u) task wake
-still_goes {t = t} {old = old} {new = new} settled names starting c T u below differs task lives now wake may =
-    subst (λ (o : Option What). MayGo new.world o task wake) (sym (T.code.granted_after u differs))
-    (may_still old.world new.world (old.granted u) task wake (ap (λ (w : World). w.clock) T.code.world) tick same
-    (λ id e over. nursery_same c T u task differs lives id (inr e)) (sets task.task_state refl) may)
+    Follows new T.is.cancelled_from input t T.is.at (numbers_then c.numbers s m T.took.numbers_after) (leaving_by stop s) u task → (what : Option What) (wake : Wake) →
+    MayGo old.world what task wake → MayGo new.world what task wake
+still_goes {t = t} {old = old} {new = new} settled names starting c T u below differs task lives now what wake may =
+    may_still old.world new.world what task wake (ap (λ (w : World). w.clock) T.code.world) tick same
+    (λ id e over. nursery_same c T u task differs lives id (inr e)) (sets task.task_state refl) may
   where
     places : AreAt (label_at new.world) (event_at new.world) T.is.cancelled_from (outer_of new.world.scopes (scope_of task)) (c.interleaving.at u).places
     places =
@@ -375,12 +374,11 @@ module _ (k : Tables) (job : Job) (input : List ℕ) (t m s : ℕ) (old new : Ru
           absurd (none_runs n.0.children y.index (settled_children n.0 n.2) runs.1)
 
   -- and a task that may continue may still do so
-  pub goes_left : (p : ℕ) (x : Task) → (wake : Wake) → MayGo old.world (old.granted p) x wake → MayGo new.world (new.granted p) x wake
-  goes_left p x wake may =
-      subst (λ (o : Option What). MayGo new.world o x wake) (sym (l.objects.granted p))
-      (may_still old.world new.world (old.granted p) x wake (ap (λ (w : World). w.clock) l.world) (ap (λ (w : World). w.tick) l.world)
+  pub goes_left : (x : Task) (what : Option What) (wake : Wake) → MayGo old.world what x wake → MayGo new.world what x wake
+  goes_left x what wake may =
+      may_still old.world new.world what x wake (ap (λ (w : World). w.clock) l.world) (ap (λ (w : World). w.tick) l.world)
       (ap (λ (w : World). seen (outer_of w.scopes (scope_of x)) w.tick) l.world) (λ id e over. settled_same id over)
-      (sets x.task_state) may)
+      (sets x.task_state) may
     where
       sets : (task_state : TaskState) → SetsAlike old.world new.world task_state
       sets (Waiting key since) =
