@@ -104,6 +104,8 @@ def stub_proofs(folder, kept):
         elif name != "Lib.antt" and name.removesuffix(".antt") not in kept:
             os.remove(path)
     lib = os.path.join(folder, "Lib.antt")
+    if not os.path.exists(lib):
+        return
     with open(lib, encoding="utf-8") as file:
         lines = [it for it in file if "mod " not in it or it.split()[-1] in kept]
     with open(lib, "w", encoding="utf-8") as file:

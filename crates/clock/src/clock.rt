@@ -1,4 +1,4 @@
-ghost use Rattle.std.specs.Prelude.{◌≡◌, ℕ, ◌<◌, ◌^◌, ◌≤◌, Some, None, OnOk, OnErr, IsSome, MatchOption};
+ghost use Rattle.std.specs.Prelude.{◌≡◌, ◌⊎◌, ℕ, ◌<◌, ◌^◌, ◌≤◌, Some, None, OnOk, OnErr, IsSome, MatchOption};
 ghost use Rattle.clock.specs.KeptTimers.{earlier_of};
 
 use crate::task_id::TaskId;

@@ -13,7 +13,7 @@ use Rattle.exceptions.specs.Split.{Wanted, named, is_cancelled, keep, drop}
 use Rattle.cancel_scopes.specs.Sight.{Tick, Level, earlier, is_reached, sight, seen, catches}
 use Rattle.job_meaning.specs.Log.{Entry, line, waited, scope_left, nursery_left, Act, opens, asks, gives_back, closes, Log, nil, entry, sign, entered, act, task, followed_by, Member, Result, same_label, least_sign, from_by, Table, was_granted}
 use Rattle.job_meaning.specs.Sharing.{What, a_token, was_sent, a_part, closed_resource, end_of_channel, Granted, granted_if, Grants}
-use Rattle.job_meaning.specs.Moments.{tick_of, a_round_after, wakes_at, gives_up_at, due, far, Now, only_at}
+use Rattle.job_meaning.specs.Moments.{tick_of, start_of, a_round_after, wakes_at, gives_up_at, due, far, Now, only_at}
 use Rattle.job_meaning.specs.declared.clock.Clock.{Clock}
 use Rattle.job_meaning.specs.declared.clock.Clock.TheVariants.{ByTicks as by_ticks, ByRounds as by_rounds}
 
@@ -298,9 +298,10 @@ close_result label now = close_on label now
 unfoldable pub with_token_back : Label → Result → Result
 with_token_back label r = record r { log = followed_by r.log (act label r.end gives_back nil) }
 
--- The last moment in which a wait for a limiter or channel can be granted: no wait lasts longer than `forever`.
+-- The last moment in which what was asked of a limiter or channel in this one can be granted: that to which `forever` lasts, or else the
+-- next one.
 abbrev pub last_grant : Clock → ℕ → ℕ
-last_grant clock m = wakes_at clock (far - tick_of clock m) m
+last_grant clock m = max (suc m) (start_of clock far)
 
 -- the moment in which a task leaves the queue, by its sight
 abbrev pub leaves_queue : Tick → ℕ → ℕ

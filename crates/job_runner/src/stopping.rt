@@ -95,7 +95,8 @@ impl<'a> Runner<'a> {
         Ok(())
     }
 
-    // What the task asks is served at the end of the moment. It waits for that as long as `forever`, unless it sees a cancellation.
+    // What the task asks is served at the end of the moment. It waits as long as `forever`, and at least a round, unless it sees a
+    // cancellation.
     fn handle_queue(
         &mut self,
         id: TaskId,
@@ -108,9 +109,8 @@ impl<'a> Runner<'a> {
         ensures same { OnOk result (IsSameTurn self.old self.new) }
     {
         self.keep_ask(row, &request)?;
-        let now = self.world.now();
-        let clock = self.world.clock();
-        let last = clock.wakes_at(FAR.saturating_sub(clock.tick_of(now)), now);
+        let next = self.world.now() + 1;
+        let last = self.world.clock().start_of(FAR).max(next);
         self.put_to_sleep(id, last)?;
         Ok(())
     }

@@ -1,5 +1,5 @@
 -- What the code holds of limiters and channels, in the terms of the definitions.
-use Rattle.std.specs.Prelude.{◌≡◌, ℕ, Bool, List, [], ◌∷◌, ◌++◌, Option, Some, None, map}
+use Rattle.std.specs.Prelude.{◌≡◌, ℕ, Bool, true, All, List, [], ◌∷◌, ◌++◌, Option, Some, None, map}
 use Rattle.std.specs.List.{filter}
 use Rattle.input_lines.specs.Lines.{Range}
 use Rattle.input_lines.specs.Part.{buffer_of, range_of}
@@ -174,10 +174,30 @@ serve waits (a_channel c) operation =
     let served = channels.after_acts c (to_channel operation) in
     record { object = a_channel (channel_left waits served.channel); granted = map gets_by served.granted }
 
--- an object served an operation
+-- ---- who is in the queues, also of those who wait no more
+
+abbrev pub PassesAll : (Ticket → Bool) → List Ticket → Type 0
+PassesAll test tickets = All (λ (ticket : Ticket). test ticket ≡ true) tickets
+
+abbrev pub sender_of : held_sender.Sender → Ticket
+sender_of s = s.who
+
+-- each ticket in the queues of an object passes a test
+abbrev pub AreQueuedBy : (Ticket → Bool) → held_object.Object → Type 0
+AreQueuedBy test (objects.Limiter l) = PassesAll test l.waiting.items
+AreQueuedBy test (objects.Channel c) = PassesAll test (map sender_of c.senders.items) × PassesAll test c.receivers.items
+
+-- and so does the ticket of who asks
+abbrev pub IsAskedBy : (Ticket → Bool) → Operation → Type 0
+IsAskedBy test (Asks who ask part) = test who ≡ true
+IsAskedBy test GivesBack = Unit {0}
+IsAskedBy test Closes = Unit {0}
+
+-- An object served an operation. Nobody gets into its queues but who asked.
 pub record Serves (waits : Ticket → Bool) (old new : held_object.Object) (operation : Operation) (before after : List Given) : Type 0 where
   pub object : object_in waits new ≡ (serve waits (object_in waits old) operation).object
   pub granted : AreGranted (serve waits (object_in waits old) operation).granted before after
+  pub queued : (test : Ticket → Bool) → AreQueuedBy test old → IsAskedBy test operation → AreQueuedBy test new
 
 abbrev pub IsObjectOf : List ℕ → held_object.Object → Type 0
 IsObjectOf input (objects.Limiter l) = Unit {0}

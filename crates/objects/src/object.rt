@@ -1,6 +1,6 @@
 ghost use Rattle.std.specs.Prelude.{◌≡◌, ℕ, Bool, List, OnOk};
 ghost use Rattle.objects.specs.Channels.{after_acts as after_parts};
-ghost use Rattle.objects.specs.Held.{channel_in, limiter_in, object_in, new_object, to_channel, to_limiter, AreGivenOf, IsOperationOf, IsObjectOf, IsOf, PartsServed, Serves, TokensServed};
+ghost use Rattle.objects.specs.Held.{channel_in, limiter_in, object_in, new_object, to_channel, to_limiter, AreGivenOf, AreQueuedBy, IsOperationOf, IsObjectOf, IsOf, PartsServed, Serves, TokensServed};
 ghost use Rattle.objects.specs.Limiters.{after_acts as after_tokens};
 ghost use Rattle.objects.specs.declared.ticket.Ticket.{Ticket as TicketOf};
 
@@ -43,6 +43,7 @@ impl<'a> Object<'a> {
     /// Returns an object of this kind: a limiter whose tokens are free, or an open channel whose buffer is empty. Takes no memory.
     pub fn open(alloc: Global, kind: ObjectKind) -> Object<'a>
         ensures new { (waits : TicketOf → Bool) → object_in waits result ≡ new_object kind }
+        ensures queued { (test : TicketOf → Bool) → AreQueuedBy test result }
         ensures lent { (input : List ℕ) → IsObjectOf input result }
     {
         match kind {
