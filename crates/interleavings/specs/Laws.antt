@@ -11,7 +11,8 @@ use Rattle.job_meaning.specs.Sharing.{granted_before}
 use Rattle.job_meaning.specs.declared.limits.TheConstants.{MAX_INPUT}
 use Rattle.job_meaning.specs.Moments.{clock_of, rounds_in_a_tick, tick_of, a_round_after}
 use Rattle.job_meaning.specs.declared.clock.Clock.TheVariants.{ByRounds as by_rounds}
-use Rattle.job_meaning.specs.Meaning.{root_label, meaning_records, meaning_cancelled_from, meaning_end, meaning_table, meaning_grants}
+use Rattle.job_meaning.specs.Meaning.{root_label, meaning_records, meaning_cancelled_from, meaning_end}
+pub use Rattle.job_meaning.specs.Tables.{meaning_tables}
 use Rattle.job_meaning.specs.Follow.{IsSettled}
 use Rattle.job_meaning.specs.Rest.{Stopped, to_begin, awaiting, at_end}
 use Rattle.turn_semantics.specs.Midway.{Place, Tables}
@@ -26,10 +27,6 @@ use Rattle.interleavings.specs.Rows.{Row, HasRow, records_by, cancelled_from_in,
 -- two tables are settled
 abbrev pub IsSettledBy : Tables → Tree → List ℕ → Type 0
 IsSettledBy k job input = IsSettled k.cancelled_from k.granted job input
-
--- the tables of the meaning
-abbrev pub meaning_tables : Tree → List ℕ → Tables
-meaning_tables job input = record { cancelled_from = meaning_table job input; granted = meaning_grants job input }
 
 -- Each turn reduces the weight, so a run has at most as many turns as the initial weight of the root, which is twice the
 -- job's size plus one.

@@ -4,6 +4,8 @@ pub mod Sharing
 pub mod Moments
 pub mod Walk
 pub mod Meaning
+pub mod Tables
+pub mod GrantTable
 pub mod Shown
 pub mod Follow
 pub mod Examples

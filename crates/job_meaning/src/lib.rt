@@ -13,10 +13,12 @@
 #![tactic(auto)]
 
 mod clock;
+mod grant_table;
 mod laws;
 mod limits;
 
 pub use clock::{Clock, FAR, ROUNDS_IN_A_TICK};
+pub use grant_table::{GrantTable, Granted};
 pub use laws::{
     law_causality, law_end, law_labels, law_monotone_sight, law_root, law_settled_table,
     law_upgrade,

@@ -13,7 +13,7 @@ use Rattle.job_story.specs.declared.event.Event as held
 use Rattle.job_story.specs.declared.here.Here.{Here}
 use Rattle.job_story.specs.declared.progress.Progress.{Progress}
 use Rattle.job_story.specs.declared.stretch.Stretch.{Stretch}
-use Rattle.job_story.specs.Heres.{HasRoom, here_of, scene_of, stack_of, table_of, pass}
+use Rattle.job_story.specs.Heres.{CanWalk, here_of, scene_of, stack_of, table_of, pass}
 use Rattle.job_story.specs.Rooms.{base, reach, span}
 use Rattle.job_story.specs.Tales.{IsStretchOf, Tells, now_in}
 use Rattle.job_story.proofs.Going.{Going, going_start, going_failed, going_next, going_stop}
@@ -25,11 +25,11 @@ pub record AtPass (cuts : Option ℕ) (h : Here) (now : Now) (count : ℕ) (body
     (mid : Progress) : Type 0 where
   pub going : Going h.task.now start w mid (tell_passes 0 count (pass cuts body h) now) (λ u. tell_passes i (count - i) (pass cuts body h) u)
   pub in_range : AreInRange body
-  pub room : HasRoom ((count - i) * (1 + size_of body)) h w.end
+  pub room : CanWalk ((count - i) * (1 + size_of body)) h w.end
 
 pub at_first : (cuts : Option ℕ) (h : Here) (m count : ℕ) (body : Steps) (start : Progress) (w : Stretch) →
     ((own : List Label) (s : Story) → IsStretchOf w (ended_at (record { at = m; own = own }) s)) → AreInRange body →
-    HasRoom (count * (1 + size_of body)) h m → AtPass cuts h (now_in m start) count body 0 start.events.items w start
+    CanWalk (count * (1 + size_of body)) h m → AtPass cuts h (now_in m start) count body 0 start.events.items w start
 at_first cuts h m count body start w stretch in_range room =
     let none : count ≡ count - 0 = omega arith in
     record {
@@ -39,8 +39,8 @@ at_first cuts h m count body start w stretch in_range room =
           (going_start h.task.now start w m (λ u. tell_passes 0 count (pass cuts body h) u) stretch);
       in_range = in_range;
       room =
-          subst (λ (n : ℕ). HasRoom (n * (1 + size_of body)) h w.end) none
-          (subst (λ (u : ℕ). HasRoom (count * (1 + size_of body)) h u) (sym (stretch [] no_more).end) room);
+          subst (λ (n : ℕ). CanWalk (n * (1 + size_of body)) h w.end) none
+          (subst (λ (u : ℕ). CanWalk (count * (1 + size_of body)) h u) (sym (stretch [] no_more).end) room);
     }
 
 -- the first of the passes that are left
@@ -59,7 +59,7 @@ left_size i count size lt =
     ap (λ (n : ℕ). n * size) left ∙ suc-mul (count - (i + 1)) size
 
 pub room_pass : (cuts : Option ℕ) (h : Here) (now : Now) (count : ℕ) (body : Steps) (i : ℕ) (start : List held.Event) (w : Stretch) (mid : Progress) →
-    AtPass cuts h now count body i start w mid → i < count → HasRoom (size_of body) h w.end
+    AtPass cuts h now count body i start w mid → i < count → CanWalk (size_of body) h w.end
 room_pass cuts h now count body i start w mid at lt =
     record { room = fits (span h.clock) at.room.room; small = at.room.small }
   where

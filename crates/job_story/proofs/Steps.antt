@@ -20,7 +20,7 @@ use Rattle.job_story.proofs.Erasing.{tell_is, step_is, handler_is}
 use Rattle.job_story.specs.declared.here.Here.{Here}
 use Rattle.job_story.specs.declared.progress.Progress.{Progress}
 use Rattle.job_story.specs.declared.stretch.Stretch.{Stretch}
-use Rattle.job_story.specs.Heres.{HasRoom, scene_of, stack_of, started_by, started_over, table_of}
+use Rattle.job_story.specs.Heres.{CanWalk, scene_of, stack_of, started_by, started_over, table_of}
 use Rattle.job_story.specs.Rooms.{reach, span}
 use Rattle.job_story.specs.Tales.{IsStretchOf, Tells, now_in}
 use Rattle.job_meaning.proofs.Ends.{EndsBy, AllBy, ends_step, ends_by, ends_handler}
@@ -78,16 +78,16 @@ pub record AtStep (h : Here) (now : Now) (all left : Steps) (start : List held.E
   pub going : Going h.task.now start w at (tell (table_of h) all (scene_of h) (stack_of h) now)
       (λ u. tell (table_of h) left (scene_of h) (stack_of h) u)
   pub in_range : AreInRange left
-  pub room : HasRoom (size_of left) h w.end
+  pub room : CanWalk (size_of left) h w.end
 
 pub at_start : (h : Here) (m : ℕ) (all : Steps) (start : Progress) (w : Stretch) →
     ((own : List Label) (s : Story) → IsStretchOf w (ended_at (record { at = m; own = own }) s)) → AreInRange all →
-    HasRoom (size_of all) h m → AtStep h (now_in m start) all all start.events.items w start
+    CanWalk (size_of all) h m → AtStep h (now_in m start) all all start.events.items w start
 at_start h m all start w stretch in_range room =
     record {
       going = going_start h.task.now start w m (λ u. tell (table_of h) all (scene_of h) (stack_of h) u) stretch;
       in_range = in_range;
-      room = subst (λ (u : ℕ). HasRoom (size_of all) h u) (sym (stretch [] no_more).end) room;
+      room = subst (λ (u : ℕ). CanWalk (size_of all) h u) (sym (stretch [] no_more).end) room;
     }
 
 -- the first of the steps that are left
@@ -106,7 +106,7 @@ pub at_item : (h : Here) (now : Now) (all : Steps) (ss : List held_step.Step) (i
 at_item h now all ss i s start w mid at lt is = subst (λ (x : Steps). AtStep h now all x start w mid) (steps_at ss i s lt is) at
 
 pub room_step : (h : Here) (now : Now) (all rest : Steps) (s : Step) (start : List held.Event) (w : Stretch) (mid : Progress) →
-    AtStep h now all (step s rest) start w mid → HasRoom (size_in s) h w.end
+    AtStep h now all (step s rest) start w mid → CanWalk (size_in s) h w.end
 room_step h now all rest s start w mid at = record { room = omega (arith, at.room.room); small = at.room.small }
 
 -- a step that ended with an exception ends the block, and what was recorded is the tale of the whole block

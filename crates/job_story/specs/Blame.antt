@@ -1,10 +1,10 @@
 -- Which scope or nursery a story may name for a cancellation.
-use Rattle.std.specs.Prelude.{◌≡◌, ◌≢◌, ◌⊎◌, ℕ, ◌<◌, ◌≤◌, Bool, false, Option, Some, [], ◌∷◌}
+use Rattle.std.specs.Prelude.{◌≡◌, ◌≢◌, ◌⊎◌, ℕ, ◌<◌, ◌≤◌, Bool, false, Option, Some, None, [], ◌∷◌}
 use Rattle.exceptions.specs.Exceptions.{Label}
 use Rattle.cancel_scopes.specs.Sight.{Tick, sight}
 use Rattle.job_meaning.specs.Log.{Table}
 use Rattle.job_meaning.specs.Walk.{Levels}
-use Rattle.job_story.specs.Story.{During, at_checkpoint, sleeping, waiting_for, Happening, enters, is_cancelled, leaves, Story, no_more, happened, started}
+use Rattle.job_story.specs.Story.{During, at_checkpoint, sleeping, waiting_for, in_queue, before_asking, Happening, enters, is_cancelled, leaves, Story, no_more, happened, started}
 
 -- ---- the scopes and nurseries that are open, to which events do not belong
 
@@ -37,6 +37,8 @@ abbrev pub IsRaisedAt : ℕ → ℕ → During → Type 0
 IsRaisedAt from t at_checkpoint = from ≤ t
 IsRaisedAt from t (sleeping s) = (s < from) × (t ≡ from)
 IsRaisedAt from t (waiting_for event s) = (s < from) × (t ≡ from)
+IsRaisedAt from t (in_queue ask object s) = (s < from) × (t ≡ from)
+IsRaisedAt from t (before_asking ask object) = from ≤ t
 
 -- The story names the innermost scope or nursery that encloses the task, is hidden by no shield, and is cancelled by the table from
 -- the effective deadline (`sight`) of the task on.
@@ -51,8 +53,17 @@ pub record IsBlamed (table : Table) (stack : Levels) (t : ℕ) (by : Option Labe
 
 -- ---- all cancellations of a story
 
+-- A task that does not ask sees a cancellation, which may be its own of that moment. Where the story names a scope or nursery, that is it.
+abbrev pub IsBlamedIfNamed : Table → Levels → ℕ → Option Label → During → Type 0
+IsBlamedIfNamed table stack t None during = Unit {0}
+IsBlamedIfNamed table stack t (Some label) during = IsBlamed table stack t (Some label) during
+
+abbrev pub IsBlamedFor : Table → Levels → ℕ → Option Label → During → Type 0
+IsBlamedFor table stack t by (before_asking ask object) = IsBlamedIfNamed table stack t by (before_asking ask object)
+IsBlamedFor table stack t by during = IsBlamed table stack t by during
+
 abbrev pub IsBlamedIn : Table → Levels → ℕ → Happening → Type 0
-IsBlamedIn table stack t (is_cancelled by during in_cleanup) = IsBlamed table stack t by during
+IsBlamedIn table stack t (is_cancelled by during in_cleanup) = IsBlamedFor table stack t by during
 IsBlamedIn table stack t _ = Unit {0}
 
 -- Each cancellation of a story, which begins where the scopes and nurseries of the stack are open, and is read from its start to its

@@ -5,6 +5,7 @@ use Rattle.job_tree.specs.Tree.{Tree}
 use Rattle.exceptions.specs.Exceptions.{Label}
 use Rattle.job_meaning.specs.Log.{Table, same_label}
 use Rattle.job_meaning.specs.Moments.{clock_of}
+use Rattle.job_meaning.specs.Tables.{Tables}
 use Rattle.job_story.specs.Story.{is_cancelled}
 use Rattle.job_story.specs.Events.{What, starts, happens, ends, Event, in_order}
 use Rattle.job_story.specs.Causes.{Cause, by_deadline, by_task, by_set, by_failure, by_cancellation, cause_of}
@@ -72,19 +73,19 @@ of_tasks kept (e ∷ es) = if is_among e.task kept then e ∷ of_tasks kept es e
 abbrev pub concerned_tasks : Table → List Event → Label → List Label
 concerned_tasks table all l = causers_in (length all) table all (l ∷ [])
 
--- the text of the story of a job by a table that concerns a task
-abbrev pub story_of_task : Table → Tree → List ℕ → Label → List ℕ
-story_of_task table job input l =
-    let all = job_events table job input in
-    kept_text (clock_of job.format) table all (of_tasks (concerned_tasks table all l) all)
+-- the text of the story of a job by two tables that concerns a task
+abbrev pub story_of_task : Tables → Tree → List ℕ → Label → List ℕ
+story_of_task k job input l =
+    let all = job_events k job input in
+    kept_text (clock_of job.format) k.cancelled_from all (of_tasks (concerned_tasks k.cancelled_from all l) all)
 
 -- the text of the part of a story that concerns a task, up to a limit, with what the tasks do that have not ended by then
-abbrev pub story_of_task_to : Table → ℕ → Tree → List ℕ → Label → List ℕ
-story_of_task_to table limit job input l =
-    let walked = walked_to table limit job input in
+abbrev pub story_of_task_to : Tables → ℕ → Tree → List ℕ → Label → List ℕ
+story_of_task_to k limit job input l =
+    let walked = walked_to k limit job input in
     let all = in_order walked in
-    let tasks = concerned_tasks table all l in
-    kept_text_to (clock_of job.format) table limit all (of_tasks tasks all) (of_tasks tasks walked)
+    let tasks = concerned_tasks k.cancelled_from all l in
+    kept_text_to (clock_of job.format) k.cancelled_from limit all (of_tasks tasks all) (of_tasks tasks walked)
 
 -- ---- a task by its label's text
 

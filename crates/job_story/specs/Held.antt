@@ -12,9 +12,10 @@ use Rattle.job_story.specs.Events as events
 use Rattle.job_story.specs.declared.event.Range.{Range}
 use Rattle.job_story.specs.declared.event.Span.{Span}
 use Rattle.job_story.specs.declared.event.During.{During}
-use Rattle.job_story.specs.declared.event.During.TheVariants.{Checkpoint, Sleeping, Waiting}
+use Rattle.job_story.specs.declared.event.Asked.{Asked}
+use Rattle.job_story.specs.declared.event.During.TheVariants.{Checkpoint, Sleeping, Waiting, InQueue, BeforeAsking}
 use Rattle.job_story.specs.declared.event.Happening.{Happening}
-use Rattle.job_story.specs.declared.event.Happening.TheVariants.{Enters, EntersEvent, Sleeps, IsCancelled, Finds, Misses, Raises, Cancels, Sets, Awaits, WasSet, Handles, Cleans, Replaces, Waits, Leaves}
+use Rattle.job_story.specs.declared.event.Happening.TheVariants.{Enters, EntersEvent, Sleeps, IsCancelled, Finds, Misses, Raises, Cancels, Sets, Awaits, WasSet, EntersObject, Queues, Gets, FindsClosed, Deadlocks, GivesTokenBack, ClosesChannel, Handles, Cleans, Replaces, Waits, Leaves}
 use Rattle.job_story.specs.declared.event.What.{What}
 use Rattle.job_story.specs.declared.event.What.TheVariants.{Starts, Happens, Ends}
 use Rattle.job_story.specs.declared.event.Event.{Event}
@@ -33,6 +34,11 @@ abbrev pub during_of : During → story.During
 during_of Checkpoint = story.at_checkpoint
 during_of (Sleeping since) = story.sleeping since
 during_of (Waiting event since) = story.waiting_for event since
+during_of (InQueue ask object since) = story.in_queue ask object since
+during_of (BeforeAsking ask object) = story.before_asking ask object
+
+abbrev pub asked_of : Asked → story.Asked
+asked_of asked = record { since = asked.since; part = range_in asked.part }
 
 abbrev pub happening_of : Happening → story.Happening
 happening_of (Enters kind label deadline shield) = story.enters (kind_of kind) label deadline shield
@@ -46,6 +52,13 @@ happening_of (Cancels label) = story.cancels label
 happening_of (Sets label) = story.sets label
 happening_of (Awaits event) = story.awaits event
 happening_of (WasSet event) = story.was_set event
+happening_of (EntersObject kind label) = story.enters_object kind label
+happening_of (Queues ask object part left) = story.queues ask object (range_in part) left
+happening_of (Gets ask object at_once) = story.gets ask object (option_map asked_of at_once)
+happening_of (FindsClosed ask object at_once) = story.finds_closed ask object (option_map asked_of at_once)
+happening_of (Deadlocks ask object) = story.deadlocks ask object
+happening_of (GivesTokenBack object) = story.gives_token_back object
+happening_of (ClosesChannel object) = story.closes_channel object
 happening_of (Handles matched rest) = story.handles (exc_of matched.value) (unboxed_exc rest)
 happening_of (Cleans exc) = story.cleans (unboxed_exc exc)
 happening_of (Replaces lost fresh) = story.replaces (exc_of lost.value) (exc_of fresh.value)

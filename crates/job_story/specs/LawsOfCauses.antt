@@ -6,6 +6,7 @@ use Rattle.exceptions.specs.Exceptions.{Label}
 use Rattle.job_meaning.specs.Log.{Table}
 use Rattle.job_meaning.specs.Moments.{clock_of, only_at}
 use Rattle.job_meaning.specs.Follow.{IsSettled}
+use Rattle.job_meaning.specs.Tables.{Tables}
 use Rattle.job_story.specs.Tell.{story_by}
 use Rattle.job_story.specs.Events.{Event, in_order}
 use Rattle.job_story.specs.Causes.{Cause, cause_of}
@@ -21,18 +22,20 @@ use Rattle.job_story.specs.Closed.{IsClosed}
 -- Where a story says by which scope or nursery a task is cancelled, that one encloses the task, no shield hides it, and it is the
 -- innermost that is cancelled from the effective deadline of the task on.
 abbrev pub CancellationsAreSeen : Type 0
-CancellationsAreSeen = (table : Table) (job : Tree) (input : List ℕ) → AllBlamed table [] (story_by table job input)
+CancellationsAreSeen = (k : Tables) (job : Tree) (input : List ℕ) → AllBlamed k.cancelled_from [] (story_by k job input)
 
 -- The scopes and nurseries of a story are nested, and are left as the language says. So the stack by which `AllBlamed` reads a
 -- cancellation is that of the scopes and nurseries that enclose the task.
 abbrev pub BlocksAreNested : Type 0
-BlocksAreNested = (table : Table) (job : Tree) (input : List ℕ) → AllNested (clock_of job.format) table (only_at 0) [] [] (story_by table job input)
+BlocksAreNested =
+    (k : Tables) (job : Tree) (input : List ℕ) → AllNested (clock_of job.format) k.cancelled_from (only_at 0) [] [] (story_by k job input)
 
 -- The time of a task passes only while it sleeps or waits for a nursery or an event, and by rounds at a checkpoint too. So a task that falls
 -- asleep until a moment goes on in that moment, or is cancelled by then; and one that waits for an event goes on in the moment from which the
--- event is set by the table, or is cancelled before. The root task is started in moment 0, and nothing follows it.
+-- event is set by the table, or is cancelled before. One that waits in the queue of a limiter or channel goes on later. The root task is started in moment 0, and nothing follows it.
 abbrev pub TimePassesAsleep : Type 0
-TimePassesAsleep = (table : Table) (job : Tree) (input : List ℕ) → AllInTime (clock_of job.format) table (awake 0) 0 (story_by table job input)
+TimePassesAsleep =
+    (k : Tables) (job : Tree) (input : List ℕ) → AllInTime (clock_of job.format) k.cancelled_from (awake 0) 0 (story_by k job input)
 
 -- The cause of a cancellation that a story names is in its events: the deadline, or an event of the moment before.
 abbrev pub CausesAreShown : Type 0
@@ -44,21 +47,21 @@ ConcernedTasksAreClosed =
     (table : Table) (all : List Event) (l : Label) →
     (is_among l (concerned_tasks table all l) ≡ true) × IsClosed table all (concerned_tasks table all l)
 
--- By a settled table, where names are given once, each cancellation of a job's story names a scope or nursery, and that one has a cause
+-- By settled tables, where names are given once, each cancellation of a job's story names a scope or nursery, and that one has a cause
 -- among the events of the story.
 abbrev pub CancellationsHaveCauses : Type 0
 CancellationsHaveCauses =
-    (table : Table) (job : Tree) (input : List ℕ) → GivesNamesOnce job → IsSettled table job input →
-    (e : Event) → IsIn e (job_events table job input) → HasACause table (job_events table job input) e.what
+    (k : Tables) (job : Tree) (input : List ℕ) → GivesNamesOnce job → IsSettled k.cancelled_from k.granted job input →
+    (e : Event) → IsIn e (job_events k job input) → HasACause k.cancelled_from (job_events k job input) e.what
 
--- By such a table, each scope or nursery that is cancelled, and each event that is set, has a cause among the events of the story.
+-- By such tables, each scope or nursery that is cancelled, and each event that is set, has a cause among the events of the story.
 abbrev pub CancelledFromHasCauses : Type 0
 CancelledFromHasCauses =
-    (table : Table) (job : Tree) (input : List ℕ) (l : Label) (from : ℕ) → GivesNamesOnce job → IsSettled table job input →
-    table l ≡ Some from → is_some (cause_of table (job_events table job input) l) ≡ true
+    (k : Tables) (job : Tree) (input : List ℕ) (l : Label) (from : ℕ) → GivesNamesOnce job → IsSettled k.cancelled_from k.granted job input →
+    k.cancelled_from l ≡ Some from → is_some (cause_of k.cancelled_from (job_events k job input) l) ≡ true
 
 -- What holds of the cancellations of a story holds of the story up to a limit, whose causes are read in the events up to it.
 abbrev pub CancellationsHaveCausesByLimit : Type 0
 CancellationsHaveCausesByLimit =
-    (table : Table) (limit : ℕ) (job : Tree) (input : List ℕ) → GivesNamesOnce job → IsSettled table job input →
-    (e : Event) → IsIn e (walked_to table limit job input) → HasACause table (in_order (walked_to table limit job input)) e.what
+    (k : Tables) (limit : ℕ) (job : Tree) (input : List ℕ) → GivesNamesOnce job → IsSettled k.cancelled_from k.granted job input →
+    (e : Event) → IsIn e (walked_to k limit job input) → HasACause k.cancelled_from (in_order (walked_to k limit job input)) e.what

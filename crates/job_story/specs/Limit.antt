@@ -4,12 +4,13 @@ use Rattle.exceptions.specs.Exceptions.{Label}
 use Rattle.job_tree.specs.Tree.{Tree}
 use Rattle.job_meaning.specs.Log.{Table, same_label}
 use Rattle.job_meaning.specs.Meaning.{root_label}
+use Rattle.job_meaning.specs.Tables.{Tables}
 use Rattle.job_meaning.specs.Moments.{clock_of, tick_of}
 use Rattle.job_meaning.specs.declared.clock.Clock.{Clock}
-use Rattle.job_story.specs.Story.{sleeps, awaits, waits}
+use Rattle.job_story.specs.Story.{sleeps, awaits, queues, waits}
 use Rattle.job_story.specs.Tell.{story_by}
 use Rattle.job_story.specs.Events.{What, starts, happens, ends, Event, events_of, in_order}
-use Rattle.job_story.specs.Sentences.{until_text, padded_text, label_width, kept_text}
+use Rattle.job_story.specs.Sentences.{until_text, ask_text, padded_text, label_width, kept_text}
 use Rattle.exceptions.specs.Texts.{label_text}
 
 -- the events up to a tick
@@ -50,13 +51,15 @@ abbrev pub unset_text : Option ℕ → List ℕ
 unset_text None = codes "; nothing sets it"
 unset_text (Some t) = []
 
--- What a task does after this event: a task that has not ended sleeps, or waits for a nursery or for an event.
+-- What a task does after this event: a task that has not ended sleeps, or waits for a nursery or an event, or in a queue.
 abbrev pub doing_text : Clock → Table → ℕ → What → List ℕ
 doing_text clock table t (happens (sleeps until)) = codes "sleeping " ++ until_text clock until ++ codes " since " ++ decimal (tick_of clock t)
 doing_text clock table t (happens (waits nursery exc)) =
     codes "waiting for nursery " ++ label_text nursery ++ codes " since " ++ decimal (tick_of clock t)
 doing_text clock table t (happens (awaits event)) =
     codes "waiting for event " ++ label_text event ++ codes " since " ++ decimal (tick_of clock t) ++ unset_text (table event)
+doing_text clock table t (happens (queues ask object lent left)) =
+    codes "waiting " ++ ask_text ask object ++ codes " since " ++ decimal (tick_of clock t)
 doing_text clock table t _ = []
 
 -- the last of these events that is one of a task, or the given event if there is none
@@ -83,12 +86,12 @@ kept_text_to clock table limit all sorted walked =
     kept_text clock table all sorted ++ codes "limit " ++ decimal limit ++ codes "\n"
     ++ running_text clock table (label_width sorted) sorted (running_in walked walked)
 
--- the events of a job by a table up to a limit, in the order of the walk
-abbrev pub walked_to : Table → ℕ → Tree → List ℕ → List Event
-walked_to table limit job input = by_limit (clock_of job.format) limit (events_of (root_label job.name) (story_by table job input))
+-- the events of a job by two tables up to a limit, in the order of the walk
+abbrev pub walked_to : Tables → ℕ → Tree → List ℕ → List Event
+walked_to k limit job input = by_limit (clock_of job.format) limit (events_of (root_label job.name) (story_by k job input))
 
--- the text of the story of a job by a table up to a limit, and what the tasks do that have not ended by then
-abbrev pub story_to : Table → ℕ → Tree → List ℕ → List ℕ
-story_to table limit job input =
-    let walked = walked_to table limit job input in
-    kept_text_to (clock_of job.format) table limit (in_order walked) (in_order walked) walked
+-- the text of the story of a job by two tables up to a limit, and what the tasks do that have not ended by then
+abbrev pub story_to : Tables → ℕ → Tree → List ℕ → List ℕ
+story_to k limit job input =
+    let walked = walked_to k limit job input in
+    kept_text_to (clock_of job.format) k.cancelled_from limit (in_order walked) (in_order walked) walked

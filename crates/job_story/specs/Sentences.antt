@@ -4,13 +4,18 @@ use Rattle.exceptions.specs.Exceptions.{Label, Exc}
 use Rattle.exceptions.specs.Texts.{label_text, exc_text, end_text}
 use Rattle.exceptions.specs.Split.{is_cancelled as by_cancelled, drop}
 use Rattle.cancel_scopes.specs.Sight.{Tick}
+use Rattle.job_tree.specs.declared.object.Ask.{Ask}
+use Rattle.job_tree.specs.declared.object.Ask.TheVariants.{Acquire, Send, Receive}
+use Rattle.job_tree.specs.declared.object.ObjectKind.{ObjectKind}
+use Rattle.job_tree.specs.declared.object.ObjectKind.TheVariants.{Limiter, Channel}
 use Rattle.job_tree.specs.Tree.{Tree}
 use Rattle.job_meaning.specs.Log.{Table}
 use Rattle.job_meaning.specs.Meaning.{root_label}
+use Rattle.job_meaning.specs.Tables.{Tables}
 use Rattle.job_meaning.specs.Moments.{clock_of, tick_of}
 use Rattle.job_meaning.specs.declared.clock.Clock.{Clock}
 use Rattle.job_meaning.specs.Walk.{Kind, a_scope, a_nursery}
-use Rattle.job_story.specs.Story.{During, at_checkpoint, sleeping, waiting_for, Happening, enters, enters_event, sleeps, is_cancelled, finds, misses, raises, cancels, sets, awaits, was_set, handles, cleans, replaces, waits, leaves}
+use Rattle.job_story.specs.Story.{During, at_checkpoint, sleeping, waiting_for, in_queue, before_asking, Asked, Happening, enters, enters_event, sleeps, is_cancelled, finds, misses, raises, cancels, sets, awaits, was_set, enters_object, queues, gets, finds_closed, deadlocks, gives_token_back, closes_channel, handles, cleans, replaces, waits, leaves}
 use Rattle.job_story.specs.Tell.{is_from, story_by}
 use Rattle.job_story.specs.Events.{What, starts, happens, ends, Event, events_of, in_order}
 use Rattle.job_story.specs.Causes.{Cause, by_deadline, by_task, by_set, by_failure, by_cancellation, Entering, entering_of, cause_of}
@@ -36,11 +41,20 @@ abbrev pub until_text : Clock → Tick → List ℕ
 until_text clock None = codes "forever"
 until_text clock (Some t) = codes "until " ++ decimal (tick_of clock t)
 
+-- what is asked of a limiter or channel
+abbrev pub ask_text : Ask → Label → List ℕ
+ask_text Acquire object = codes "for a token of " ++ label_text object
+ask_text Send object = codes "to send to " ++ label_text object
+ask_text Receive object = codes "to receive from " ++ label_text object
+
 abbrev pub during_text : Clock → During → List ℕ
 during_text clock at_checkpoint = codes " at a checkpoint"
 during_text clock (sleeping since) = codes " while sleeping since " ++ decimal (tick_of clock since)
 during_text clock (waiting_for event since) =
     codes " while waiting for event " ++ label_text event ++ codes " since " ++ decimal (tick_of clock since)
+during_text clock (in_queue ask object since) =
+    codes " while waiting " ++ ask_text ask object ++ codes " since " ++ decimal (tick_of clock since)
+during_text clock (before_asking ask object) = codes " before it asks " ++ ask_text ask object
 
 abbrev pub cleanup_text : Bool → List ℕ
 cleanup_text true = codes " during cleanup"
@@ -98,6 +112,30 @@ set_text table None t = []
 set_text table (Some l) t =
     codes "sets event " ++ label_text l ++ (if is_from (table l) (t + 1) then [] else codes ", which is set already")
 
+-- a limiter with its tokens, or a channel with the places of its buffer
+abbrev pub object_text : ObjectKind → Label → List ℕ
+object_text (Limiter n) l = codes "limiter " ++ label_text l ++ codes " (" ++ decimal n ++ (if n == 1 then codes " token)" else codes " tokens)")
+object_text (Channel n) l = codes "channel " ++ label_text l ++ codes " (" ++ decimal n ++ (if n == 1 then codes " place)" else codes " places)")
+
+-- a token that is there at once is said to be, since the task does not wait for it
+abbrev pub at_once_text : Option Asked → List ℕ
+at_once_text None = []
+at_once_text (Some asked) = codes " at once"
+
+abbrev pub gets_text : Ask → Label → Option Asked → List ℕ
+gets_text Acquire object at_once = codes "gets a token of " ++ label_text object ++ at_once_text at_once
+gets_text Send object at_once = codes "sends to " ++ label_text object
+gets_text Receive object at_once = codes "receives from " ++ label_text object
+
+abbrev pub closed_text : Ask → Label → List ℕ
+closed_text Acquire object = codes "finds " ++ label_text object ++ codes " closed"
+closed_text Send object = codes "finds " ++ label_text object ++ codes " closed"
+closed_text Receive object = codes "finds " ++ label_text object ++ codes " closed and empty"
+
+abbrev pub close_text : Option Label → List ℕ
+close_text None = []
+close_text (Some l) = codes "closes " ++ label_text l
+
 abbrev pub cancelled_text : Clock → Table → List Event → Option Label → List ℕ
 cancelled_text clock table es None = []
 cancelled_text clock table es (Some l) = codes " by " ++ entered_text (entering_of l es) l ++ cause_text clock (cause_of table es l)
@@ -116,6 +154,13 @@ happening_text clock table es t (cancels label) = cancel_text clock table es lab
 happening_text clock table es t (sets label) = set_text table label t
 happening_text clock table es t (awaits event) = codes "waits for event " ++ label_text event
 happening_text clock table es t (was_set event) = codes "goes on: event " ++ label_text event ++ codes " was set"
+happening_text clock table es t (enters_object kind label) = codes "enters " ++ object_text kind label
+happening_text clock table es t (queues ask object lent left) = codes "waits " ++ ask_text ask object
+happening_text clock table es t (gets ask object at_once) = gets_text ask object at_once
+happening_text clock table es t (finds_closed ask object at_once) = closed_text ask object
+happening_text clock table es t (deadlocks ask object) = codes "has waited " ++ ask_text ask object ++ codes " as long as forever, and raises Deadlock"
+happening_text clock table es t (gives_token_back object) = codes "gives its token of " ++ label_text object ++ codes " back"
+happening_text clock table es t (closes_channel object) = close_text object
 happening_text clock table es t (handles matched rest) = codes "handles " ++ exc_text matched ++ with_exc (codes ", ") rest (codes " propagates")
 happening_text clock table es t (cleans exc) = codes "runs cleanup" ++ with_exc (codes " after ") exc []
 happening_text clock table es t (replaces lost fresh) = codes "replaces " ++ exc_text lost ++ codes " with " ++ exc_text fresh
@@ -156,9 +201,9 @@ lines_text clock table es width before [] = []
 lines_text clock table es width before (e ∷ rest) =
     tick_text clock before e.tick ++ line_text clock table es width e ++ lines_text clock table es width (Some (tick_of clock e.tick)) rest
 
--- the events of a job by a table, in order
-abbrev pub job_events : Table → Tree → List ℕ → List Event
-job_events table job input = in_order (events_of (root_label job.name) (story_by table job input))
+-- the events of a job by two tables, in order
+abbrev pub job_events : Tables → Tree → List ℕ → List Event
+job_events k job input = in_order (events_of (root_label job.name) (story_by k job input))
 
 -- the text of selected events of a story, of which `all` has all events
 abbrev pub kept_text : Clock → Table → List Event → List Event → List ℕ
@@ -167,6 +212,6 @@ kept_text clock table all kept = lines_text clock table all (label_width kept) N
 abbrev pub events_text : Clock → Table → List Event → List ℕ
 events_text clock table es = kept_text clock table es es
 
--- the text of a job's story by a table
-abbrev pub story_text : Table → Tree → List ℕ → List ℕ
-story_text table job input = events_text (clock_of job.format) table (job_events table job input)
+-- the text of a job's story by two tables
+abbrev pub story_text : Tables → Tree → List ℕ → List ℕ
+story_text k job input = events_text (clock_of job.format) k.cancelled_from (job_events k job input)

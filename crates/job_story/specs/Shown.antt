@@ -1,11 +1,11 @@
 -- What the events of a story show of a cause that it names.
-use Rattle.std.specs.Prelude.{◌≡◌, ◌≢◌, ◌⊎◌, ℕ, ◌+◌, Bool, Some, None, is_some, true, List, [], ◌∷◌}
+use Rattle.std.specs.Prelude.{◌≡◌, ◌≢◌, ◌⊎◌, ℕ, ◌+◌, Bool, Option, Some, None, is_some, true, List, [], ◌∷◌}
 use Rattle.exceptions.specs.Exceptions.{Label, Exc}
 use Rattle.exceptions.specs.Split.{is_cancelled as by_cancelled, drop}
 use Rattle.cancel_scopes.specs.Sight.{Tick}
 use Rattle.job_meaning.specs.Log.{Table}
 use Rattle.job_meaning.specs.Walk.{Kind}
-use Rattle.job_story.specs.Story.{enters, is_cancelled, cancels, sets, waits}
+use Rattle.job_story.specs.Story.{During, before_asking, enters, is_cancelled, cancels, sets, waits}
 use Rattle.job_story.specs.Events.{What, happens, ends, Event, event}
 use Rattle.job_story.specs.Causes.{Cause, by_deadline, by_task, by_set, by_failure, by_cancellation, cause_of}
 
@@ -39,8 +39,16 @@ IsShownFrom from l all (by_cancellation task t) = (from ≡ t + 1) × (e : Exc) 
 abbrev pub IsShown : Table → List Event → Label → Cause → Type 0
 IsShown table all l c = (from : ℕ) × (table l ≡ Some from) × IsShownFrom from l all c
 
+-- a scope or nursery is named, and it has a cause
+abbrev pub IsCaused : Table → List Event → Option Label → Type 0
+IsCaused table all by = (l : Label) × (by ≡ Some l) × (is_some (cause_of table all l) ≡ true)
+
+-- where a task does not ask, that is said if the story names one
+abbrev pub HasACauseFor : Table → List Event → Option Label → During → Type 0
+HasACauseFor table all None (before_asking ask object) = Unit {0}
+HasACauseFor table all by during = IsCaused table all by
+
 -- an event that is a cancellation names a scope or nursery, and that one has a cause
 abbrev pub HasACause : Table → List Event → What → Type 0
-HasACause table all (happens (is_cancelled by during in_cleanup)) =
-    (l : Label) × (by ≡ Some l) × (is_some (cause_of table all l) ≡ true)
+HasACause table all (happens (is_cancelled by during in_cleanup)) = HasACauseFor table all by during
 HasACause table all _ = Unit {0}

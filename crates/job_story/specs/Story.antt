@@ -1,16 +1,26 @@
 -- The story of a task: what happened to it, in order, and the stories of the tasks that it started.
 use Rattle.std.specs.Prelude.{ℕ, Bool, Option, Some, None, List}
+use Rattle.job_tree.specs.declared.object.Ask.{Ask}
+use Rattle.job_tree.specs.declared.object.ObjectKind.{ObjectKind}
 use Rattle.input_lines.specs.Lines.{Range, Span}
 use Rattle.exceptions.specs.Exceptions.{Label, Exc}
 use Rattle.cancel_scopes.specs.Sight.{Tick}
-use Rattle.job_meaning.specs.Log.{waited, Log, nil, entry, entered, task, followed_by, Member, Result}
+use Rattle.job_meaning.specs.Log.{waited, was_granted, opens, asks, gives_back, closes, Log, nil, entry, entered, act, task, followed_by, Member, Result}
 use Rattle.job_meaning.specs.Walk.{Kind, left_as, log_of_lines, sign_if, sign_of}
 
--- What a task did when `Cancelled` was raised in it: it was at a checkpoint, or since a moment it slept, or waited for an event.
+-- What a task did when `Cancelled` was raised in it: it was at a checkpoint, or since a moment it slept, waited for an event, or waited in
+-- the queue of a limiter or channel; or it was to ask one of these for something, and did not, since it saw a cancellation.
 pub data During : Type 0 where
   at_checkpoint : During
   sleeping : (since : ℕ) → During
   waiting_for : (event : Label) → (since : ℕ) → During
+  in_queue : (ask : Ask) → (object : Label) → (since : ℕ) → During
+  before_asking : (ask : Ask) → (object : Label) → During
+
+-- that a task asked something in a moment, when this was its part of the input
+pub record Asked : Type 0 where
+  pub since : ℕ
+  pub part : Range
 
 -- One thing that happened to a task.
 pub data Happening : Type 0 where
@@ -35,6 +45,20 @@ pub data Happening : Type 0 where
   awaits : (event : Label) → Happening
   -- it has waited for an event, which is set
   was_set : (event : Label) → Happening
+  -- it entered a limiter or channel, of which nothing is left where its block ends
+  enters_object : (kind : ObjectKind) → (label : Label) → Happening
+  -- it asked a limiter or channel for something, and waits in the queue; it leaves that in a moment, or is granted what it asked
+  queues : (ask : Ask) → (object : Label) → (part : Range) → (left : Tick) → Happening
+  -- It is granted what it asked. Where that is in the round after it asked, it did not wait in the queue.
+  gets : (ask : Ask) → (object : Label) → (at_once : Option Asked) → Happening
+  -- The channel is closed, so that it raises an exception; it may not have waited, too.
+  finds_closed : (ask : Ask) → (object : Label) → (at_once : Option Asked) → Happening
+  -- it waited as long as `forever` lasts, and raises `Deadlock`
+  deadlocks : (ask : Ask) → (object : Label) → Happening
+  -- the block of an `acquire` ended, and its token comes back
+  gives_token_back : (object : Label) → Happening
+  -- a `close` step, of the innermost channel of its name that encloses the task, if there is one
+  closes_channel : (object : Option Label) → Happening
   -- a handler begins: the part of the exception that matches, and the rest
   handles : (matched : Exc) → (rest : Option Exc) → Happening
   -- a `finally` block begins, with the exception with which the block before it or its handler ended
@@ -59,7 +83,17 @@ then_story no_more others = others
 then_story (happened t what rest) others = happened t what (then_story rest others)
 then_story (started l home part s u e own rest) others = started l home part s u e own (then_story rest others)
 
--- what a log contains of a happening: the lines, the labels entered, the signs, the waits that ended well, and the exits
+-- what was asked and granted at once
+abbrev pub erased_ask : Ask → Label → Option Asked → Log → Log
+erased_ask ask object None rest = rest
+erased_ask ask object (Some a) rest = act object a.since (asks ask a.part None) rest
+
+abbrev pub erased_close : ℕ → Option Label → Log → Log
+erased_close t None rest = rest
+erased_close t (Some object) rest = act object t closes rest
+
+-- What a log contains of a happening: the lines, the labels entered, the signs, what was done to limiters and channels, the waits that
+-- ended well, and the exits.
 abbrev pub erased_one : ℕ → Happening → Log → Log
 erased_one t (enters kind label deadline shield) rest = entered label t deadline rest
 erased_one t (enters_event label) rest = entered label t None rest
@@ -72,6 +106,13 @@ erased_one t (cancels label) rest = followed_by (sign_of label t) rest
 erased_one t (sets label) rest = followed_by (sign_of label t) rest
 erased_one t (awaits event) rest = rest
 erased_one t (was_set event) rest = entry t (waited event) rest
+erased_one t (enters_object kind label) rest = act label t (opens kind) (entered label t None rest)
+erased_one t (queues ask object part left) rest = act object t (asks ask part left) rest
+erased_one t (gets ask object at_once) rest = erased_ask ask object at_once (entry t (was_granted ask object) rest)
+erased_one t (finds_closed ask object at_once) rest = erased_ask ask object at_once rest
+erased_one t (deadlocks ask object) rest = rest
+erased_one t (gives_token_back object) rest = act object t gives_back rest
+erased_one t (closes_channel object) rest = erased_close t object rest
 erased_one t (handles matched left) rest = rest
 erased_one t (cleans exc) rest = rest
 erased_one t (replaces lost fresh) rest = rest

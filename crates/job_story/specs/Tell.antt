@@ -1,18 +1,23 @@
--- The story of a job's steps by a table: the walk of its tree, with a story in place of the log.
-use Rattle.std.specs.Prelude.{ℕ, zero, suc, ◌-◌, ◌==◌, Bool, true, false, Option, Some, None, List, [], ◌∷◌, ◌++◌, nat_le, nat_lt, max, if◌then◌else◌}
-use Rattle.job_tree.specs.Tree.{Step, sleep, checkpoint, forever, pace, find, head, longest, need, raise, cancel, set_event, wait_for, scope, nursery, event, start, repeat, attempt, Steps, stop, step, Handled, unhandled, except, Cleaned, uncleaned, finally, Tree}
-use Rattle.input_lines.specs.Lines.{Span}
+-- The story of a job's steps by two tables: the walk of its tree, with a story in place of the log.
+use Rattle.std.specs.Prelude.{ℕ, zero, suc, ◌-◌, ◌==◌, Bool, true, false, Option, Some, None, List, [], ◌∷◌, ◌++◌, nat_le, nat_lt, max, codes, if◌then◌else◌}
+use Rattle.job_tree.specs.Tree.{Step, sleep, checkpoint, forever, pace, find, head, longest, need, raise, cancel, set_event, wait_for, ask_for, close_channel, scope, nursery, event, object, start, repeat, attempt, Steps, stop, step, Handled, unhandled, except, Cleaned, uncleaned, finally, Tree}
+use Rattle.job_tree.specs.declared.object.Ask.{Ask}
+use Rattle.job_tree.specs.declared.object.ObjectKind.{ObjectKind}
+use Rattle.job_tree.specs.declared.object.Ask.TheVariants.{Acquire, Send, Receive}
+use Rattle.input_lines.specs.Lines.{Range, Span}
 use Rattle.input_lines.specs.Cuts.{cut_of}
 use Rattle.input_lines.specs.Kernels.{found_in, head_of, longest_in, needed_in, count_in}
 use Rattle.exceptions.specs.Exceptions.{Label, by_nursery, Exc, cancelled, raised, parts_of, group_of}
 use Rattle.exceptions.specs.Split.{Wanted, named, keep, drop}
-use Rattle.cancel_scopes.specs.Sight.{Tick, Level, sight, catches}
+use Rattle.cancel_scopes.specs.Sight.{Tick, Level, sight, seen, is_reached, catches}
 use Rattle.job_meaning.specs.Log.{Table}
 use Rattle.job_meaning.specs.Meaning.{root_label, root_here}
+use Rattle.job_meaning.specs.Sharing.{What, a_token, was_sent, a_part, closed_resource, end_of_channel, Granted}
+use Rattle.job_meaning.specs.Tables.{Tables}
 use Rattle.job_meaning.specs.Moments.{tick_of, a_round_after, wakes_at, gives_up_at, due, Now, only_at, far}
 use Rattle.job_meaning.specs.declared.clock.Clock.{Clock}
-use Rattle.job_meaning.specs.Walk.{Levels, Stack, no_stack, Here, label_here, set_moment, pace_ticks, label_on, event_on, with_own, from_for, stack_for, Left, left_with, Kind, a_scope, a_nursery, exc_after, stack_inside, stack_in_event, home_of, latest, with_exc, excs_of, cuts_over, in_pass, here_in, label_over, handler_exc, outcome_after}
-use Rattle.job_story.specs.Story.{During, at_checkpoint, sleeping, waiting_for, Happening, enters, enters_event, sleeps, is_cancelled, finds, misses, raises, cancels, sets, awaits, was_set, handles, cleans, replaces, waits, leaves, Story, no_more, happened, started, then_story, Tale}
+use Rattle.job_meaning.specs.Walk.{Levels, Stack, no_stack, Here, label_here, set_moment, pace_ticks, label_on, event_on, last_grant, leaves_queue, in_time, with_own, from_for, stack_for, Left, left_with, Kind, a_scope, a_nursery, exc_after, stack_inside, stack_in_event, home_of, latest, with_exc, excs_of, cuts_over, in_pass, here_in, label_over, handler_exc, outcome_after}
+use Rattle.job_story.specs.Story.{During, at_checkpoint, sleeping, waiting_for, in_queue, before_asking, Asked, Happening, enters, enters_event, sleeps, is_cancelled, finds, misses, raises, cancels, sets, awaits, was_set, enters_object, queues, gets, finds_closed, deadlocks, gives_token_back, closes_channel, handles, cleans, replaces, waits, leaves, Story, no_more, happened, started, then_story, Tale}
 
 -- where a walk is, and whether it is in a `finally` block of this task or of one that started it
 pub record Scene : Type 0 where
@@ -130,6 +135,92 @@ tell_wait_on clock levels cleanup (Some l) now =
 
 unfoldable pub tell_event_wait : Clock → Levels → Bool → Option (Level Label) → Now → Tale
 tell_event_wait clock levels cleanup level now = tell_wait_on clock levels cleanup level now
+
+-- ---- limiters and channels
+
+-- a limiter or channel that was entered in moment m
+unfoldable pub tell_object : Table → ObjectKind → Label → ℕ → (Tick → Tale) → Tale
+tell_object table kind label m inside = after_this m (enters_object kind label) (inside (table label))
+
+unfoldable pub tell_close : Option Label → Now → Tale
+tell_close label now = ended_at now (story_of_one now.at (closes_channel label))
+
+-- a token comes back when the block ends that took it, however it ends
+unfoldable pub with_token_told : Label → Tale → Tale
+with_token_told label a = before_this a a.end (gives_token_back label)
+
+-- the scope or nursery whose cancellation is seen, if it has come by moment t
+abbrev pub blamed_at : Levels → ℕ → Tick → Option Label
+blamed_at levels t None = None
+blamed_at levels t (Some from) = if nat_le from t then seer levels from else None
+
+-- who leaves the queue is cancelled; who waited as long as `forever` raises `Deadlock`
+abbrev pub tell_left_queue : Ask → Label → Scene → Levels → (m left : ℕ) → Tale
+tell_left_queue ask label scene levels m left =
+    if is_reached (sight levels) left
+    then failed_at cancelled (only_at left) (story_of_one left (is_cancelled (seer levels left) (in_queue ask label m) scene.in_cleanup))
+    else
+      failed_at (raised (codes "Deadlock") scene.here.task (tick_of scene.here.clock left)) (only_at left)
+      (story_of_one left (deadlocks ask label))
+
+-- what a task does with what it is granted in moment g
+abbrev pub tell_granted : Label → Here → (g : ℕ) → What → Option Asked → (Here → Now → Tale) → Tale
+tell_granted label here g a_token asked go = after_this g (gets Acquire label asked) (with_token_told label (go here (only_at g)))
+tell_granted label here g was_sent asked go = after_this g (gets Send label asked) (go here (only_at g))
+tell_granted label here g (a_part lent) asked go = after_this g (gets Receive label asked) (go (record here { part = lent }) (only_at g))
+tell_granted label here g closed_resource asked go =
+    failed_at (raised (codes "ClosedResource") here.task (tick_of here.clock g)) (only_at g) (story_of_one g (finds_closed Send label asked))
+tell_granted label here g end_of_channel asked go =
+    failed_at (raised (codes "EndOfChannel") here.task (tick_of here.clock g)) (only_at g) (story_of_one g (finds_closed Receive label asked))
+
+-- a task that asked in moment m waits in the queue, unless it is granted that in the next round
+abbrev pub queues_if : (at_once : Bool) → Ask → Label → Range → ℕ → Story
+queues_if true ask label lent m = no_more
+queues_if false ask label lent m = story_of_one m (queues ask label lent None)
+
+abbrev pub asked_if : (at_once : Bool) → ℕ → Range → Option Asked
+asked_if true m lent = Some (record { since = m; part = lent })
+asked_if false m lent = None
+
+-- a tale after a story
+abbrev pub after_story : Story → Tale → Tale
+after_story story a = record a { story = then_story story a.story }
+
+-- who asked in moment m leaves the queue
+abbrev pub tell_leaving : Ask → Label → Scene → Levels → (m left : ℕ) → Tale
+tell_leaving ask label scene levels m left =
+    after_this m (queues ask label scene.here.part (Some left)) (tell_left_queue ask label scene levels m left)
+
+-- who asked in moment m is granted that
+abbrev pub tell_got : Ask → Label → Here → ℕ → Granted → (Here → Now → Tale) → Tale
+tell_got ask label here m g go =
+    let at_once = nat_le g.at (suc m) in
+    after_story (queues_if at_once ask label here.part m) (tell_granted label here g.at g.what (asked_if at_once m here.part) go)
+
+abbrev pub tell_asked : Ask → Label → Scene → Levels → (m left : ℕ) → Option Granted → (Here → Now → Tale) → Tale
+tell_asked ask label scene levels m left None go = tell_leaving ask label scene levels m left
+tell_asked ask label scene levels m left (Some g) go = tell_got ask label scene.here m g go
+
+abbrev pub tell_asks : Tables → Ask → Label → Scene → Levels → ℕ → (Here → Now → Tale) → Tale
+tell_asks k ask label scene levels m go =
+    let left = leaves_queue (sight levels) (last_grant scene.here.clock m) in
+    tell_asked ask label scene levels m left (in_time m left (k.granted label scene.here.task m)) go
+
+-- a task that sees a cancellation, its own of this moment too, does not ask
+abbrev pub tell_unasked : Ask → Label → Scene → Levels → ℕ → Tale
+tell_unasked ask label scene levels t =
+    failed_at cancelled (only_at t)
+    (story_of_one t (is_cancelled (blamed_at levels t (sight levels)) (before_asking ask label) scene.in_cleanup))
+
+-- where no limiter or channel of the name encloses the task, nothing happens
+abbrev pub tell_ask_on : Tables → Ask → Option Label → Scene → Levels → Now → (Here → Now → Tale) → Tale
+tell_ask_on k ask None scene levels now go = ended_at now no_more
+tell_ask_on k ask (Some label) scene levels now go =
+    if seen (stack_for now.own now.at levels) now.at then tell_unasked ask label scene levels (gives_up_at scene.here.clock 0 now.at)
+    else tell_asks k ask label scene levels now.at go
+
+unfoldable pub tell_ask : Tables → Ask → Option Label → Scene → Levels → Now → (Here → Now → Tale) → Tale
+tell_ask k ask label scene levels now go = tell_ask_on k ask label scene levels now go
 
 -- ---- other steps
 
@@ -258,12 +349,12 @@ at_place here scene = record scene { here = here }
 
 unfoldable mutual
   -- the steps of a block, from a moment on
-  pub tell : Table → Steps → Scene → Stack → Now → Tale
+  pub tell : Tables → Steps → Scene → Stack → Now → Tale
   tell k stop scene st now = ended_at now no_more
   tell k (step s ss) scene st now = then_tale (tell_step k s scene st now) (λ later. tell k ss scene st later)
 
   -- one step
-  pub tell_step : Table → Step → Scene → Stack → Now → Tale
+  pub tell_step : Tables → Step → Scene → Stack → Now → Tale
   tell_step k (sleep n) scene st now =
       tell_sleep scene.here.clock st.scopes scene.in_cleanup (Some (wakes_at scene.here.clock n now.at)) n now.at
   tell_step k checkpoint scene st now = tell_sleep scene.here.clock st.scopes scene.in_cleanup (Some now.at) 0 now.at
@@ -279,15 +370,21 @@ unfoldable mutual
   tell_step k (cancel name) scene st now = tell_cancel scene.here.clock (label_on name st.scopes) now
   tell_step k (set_event name) scene st now = tell_set scene.here.clock (label_on name st.events) now
   tell_step k (wait_for name) scene st now = tell_event_wait scene.here.clock st.scopes scene.in_cleanup (event_on name st.events) now
+  tell_step k (ask_for name ask body) scene st now =
+      tell_ask k ask (label_on name st.events) scene st.scopes now (λ inner later. tell k body (at_place inner scene) st later)
+  tell_step k (close_channel name) scene st now = tell_close (label_on name st.events) now
   tell_step k (scope name deadline shield fail body) scene st now =
-      tell_block scene.here.clock k (a_scope fail) (label_here name scene.here) now.at (due scene.here.clock deadline now.at) shield st.scopes
+      tell_block scene.here.clock k.cancelled_from (a_scope fail) (label_here name scene.here) now.at (due scene.here.clock deadline now.at) shield st.scopes
       (λ from. tell k body scene (stack_inside (label_here name scene.here) shield from st) now)
   tell_step k (nursery name deadline shield body) scene st now =
-      tell_block scene.here.clock k a_nursery (label_here name scene.here) now.at (due scene.here.clock deadline now.at) shield st.scopes
+      tell_block scene.here.clock k.cancelled_from a_nursery (label_here name scene.here) now.at (due scene.here.clock deadline now.at) shield st.scopes
       (λ from. tell_gathered scene.here.clock (label_here name scene.here)
       (tell_wait (label_here name scene.here) (tell k body scene (stack_inside (label_here name scene.here) shield from st) now)))
   tell_step k (event name body) scene st now =
-      tell_event k (label_here name scene.here) now.at
+      tell_event k.cancelled_from (label_here name scene.here) now.at
+      (λ from. tell k body scene (stack_in_event (label_here name scene.here) from st) now)
+  tell_step k (object name kind body) scene st now =
+      tell_object k.cancelled_from kind (label_here name scene.here) now.at
       (λ from. tell k body scene (stack_in_event (label_here name scene.here) from st) now)
   tell_step k (start name None body) scene st now =
       let inner = at_place (here_in (label_here name scene.here) scene.here.part scene.here) scene in
@@ -303,11 +400,11 @@ unfoldable mutual
   tell_step k (attempt body handler cleanup) scene st now =
       tell_cleanup k cleanup scene st (tell_handler k handler scene st (tell k body scene st now))
 
-  pub tell_handler : Table → Handled → Scene → Stack → Tale → Tale
+  pub tell_handler : Tables → Handled → Scene → Stack → Tale → Tale
   tell_handler k unhandled scene st a = a
   tell_handler k (except name body) scene st a = tell_handled (named name) a (λ later. tell k body scene st later)
 
-  pub tell_cleanup : Table → Cleaned → Scene → Stack → Tale → Tale
+  pub tell_cleanup : Tables → Cleaned → Scene → Stack → Tale → Tale
   tell_cleanup k uncleaned scene st a = a
   tell_cleanup k (finally body) scene st a = tell_cleaned a (λ later. tell k body (record scene { in_cleanup = true }) st later)
 
@@ -315,12 +412,12 @@ unfoldable mutual
 abbrev pub root_scene : Tree → List ℕ → Scene
 root_scene job input = record { here = root_here job input; in_cleanup = false }
 
--- the tale of a job's root task by a table
-unfoldable pub tale_by : Table → Tree → List ℕ → Tale
-tale_by table job input = tell table job.steps (root_scene job input) no_stack (only_at 0)
+-- the tale of a job's root task by two tables
+unfoldable pub tale_by : Tables → Tree → List ℕ → Tale
+tale_by k job input = tell k job.steps (root_scene job input) no_stack (only_at 0)
 
 -- the story of the job, which is that of the root as a started task
-abbrev pub story_by : Table → Tree → List ℕ → Story
-story_by table job input =
-    let a = tale_by table job input in
+abbrev pub story_by : Tables → Tree → List ℕ → Story
+story_by k job input =
+    let a = tale_by k job input in
     started (root_label job.name) None (root_here job input).part 0 a.end a.exc a.story no_more

@@ -1,5 +1,5 @@
 -- When the time of a task passes: only while it sleeps or waits, and by rounds at a checkpoint too.
-use Rattle.std.specs.Prelude.{◌≡◌, ℕ, ◌-◌, ◌<◌, ◌≤◌, min, Some, None}
+use Rattle.std.specs.Prelude.{◌≡◌, ℕ, suc, ◌-◌, ◌<◌, ◌≤◌, min, Option, Some, None}
 use Rattle.exceptions.specs.Exceptions.{Label}
 use Rattle.cancel_scopes.specs.Sight.{Tick}
 use Rattle.job_meaning.specs.Log.{Table}
@@ -7,7 +7,7 @@ use Rattle.job_meaning.specs.Moments.{start_of, far}
 use Rattle.job_meaning.specs.declared.clock.Clock.{Clock}
 use Rattle.job_meaning.specs.declared.clock.Clock.TheVariants.{ByTicks as by_ticks, ByRounds as by_rounds}
 use Rattle.job_meaning.specs.Walk.{set_moment}
-use Rattle.job_story.specs.Story.{During, at_checkpoint, sleeping, waiting_for, Happening, sleeps, is_cancelled, awaits, was_set, waits, Story, no_more, happened, started}
+use Rattle.job_story.specs.Story.{During, at_checkpoint, sleeping, waiting_for, in_queue, before_asking, Asked, Happening, sleeps, is_cancelled, awaits, was_set, queues, gets, finds_closed, deadlocks, waits, Story, no_more, happened, started}
 
 -- the moment until which a task sleeps, which is the start of tick `far` where it sleeps forever
 abbrev pub until_tick : Clock → Tick → ℕ
@@ -15,18 +15,21 @@ until_tick clock None = start_of clock far
 until_tick clock (Some t) = t
 
 -- What a task does between two things that happen to it: it is awake in a moment, sleeps since a moment and is due in a moment, waits for
--- the tasks of a nursery since a moment, or waits since a moment for an event, which is set from a moment on.
+-- the tasks of a nursery since a moment, waits since a moment for an event, which is set from a moment on, or waits in the queue of a limiter
+-- or channel since a moment.
 pub data Doing : Type 0 where
   awake : (at : ℕ) → Doing
   asleep : (since due : ℕ) → Doing
   waiting : (since : ℕ) → Doing
   expecting : (event : Label) → (since set : ℕ) → Doing
+  queueing : (object : Label) → (since : ℕ) → Doing
 
 -- what a task does after this happened to it in moment t
 abbrev pub doing_after : Clock → Table → ℕ → Happening → Doing
 doing_after clock table t (sleeps until) = asleep t (until_tick clock until)
 doing_after clock table t (waits nursery exc) = waiting t
 doing_after clock table t (awaits event) = expecting event t (set_moment clock (table event) t)
+doing_after clock table t (queues ask object part left) = queueing object t
 doing_after clock table t _ = awake t
 
 -- A task that goes on in a moment: the next thing that happens to it is in that moment. By rounds it may be later, as a checkpoint takes
@@ -37,12 +40,13 @@ GoesOnIn by_rounds m t = m ≤ t
 
 -- The next thing of a task is where it goes on: in the same moment if it is awake, in the moment in which its sleep is due if it
 -- sleeps, and in that moment or later if it waits for a nursery. To a task that waits for an event nothing happens before the
--- event is set.
+-- event is set, and to one in a queue nothing before it leaves that.
 abbrev pub IsNext : Clock → Doing → ℕ → Type 0
 IsNext clock (awake at) t = GoesOnIn clock at t
 IsNext clock (asleep since due) t = GoesOnIn clock due t
 IsNext clock (waiting since) t = since ≤ t
 IsNext clock (expecting event since set) t = ⊥
+IsNext clock (queueing object since) t = ⊥
 
 -- what is set from this moment on is set by moment t; no wait lasts longer than `forever`
 abbrev pub IsSetBy : Clock → Tick → ℕ → Type 0
@@ -65,16 +69,31 @@ abbrev pub IsCutWaiting : Doing → Label → ℕ → ℕ → Type 0
 IsCutWaiting (expecting event since set) e s t = (e ≡ event) × (s ≡ since) × (since < t) × (t < set)
 IsCutWaiting _ e s t = ⊥
 
+-- it waits in this queue since an earlier moment
+abbrev pub IsInQueue : Doing → Label → ℕ → ℕ → Type 0
+IsInQueue (queueing other since) object s t = (object ≡ other) × (s ≡ since) × (since < t)
+IsInQueue _ object s t = ⊥
+
+-- What a task asked of a limiter or channel comes in moment t: it waited in the queue, or asked in the moment before.
+abbrev pub ComesTo : Clock → Doing → ℕ → Label → Option Asked → Type 0
+ComesTo clock doing t object None = (since : ℕ) × IsInQueue doing object since t
+ComesTo clock doing t object (Some asked) = IsNext clock doing asked.since × (t ≡ suc asked.since)
+
 -- Where `Cancelled` is raised in moment t: a checkpoint is next for the task, and a sleep or a wait is cut.
 abbrev pub IsCut : Clock → Doing → ℕ → During → Type 0
 IsCut clock doing t at_checkpoint = IsNext clock doing t
 IsCut clock doing t (sleeping since) = IsCutAsleep doing since t
 IsCut clock doing t (waiting_for event since) = IsCutWaiting doing event since t
+IsCut clock doing t (in_queue ask object since) = IsInQueue doing object since t
+IsCut clock doing t (before_asking ask object) = IsNext clock doing t
 
--- what happens to a task in moment t is next, or is its cancellation while it sleeps or waits for an event
+-- what happens to a task in moment t is next, or is what ends its sleep or its wait
 abbrev pub IsNextOrCut : Clock → Table → Doing → ℕ → Happening → Type 0
 IsNextOrCut clock table doing t (is_cancelled by during in_cleanup) = IsCut clock doing t during
 IsNextOrCut clock table doing t (was_set event) = IsSet clock table doing t event
+IsNextOrCut clock table doing t (gets ask object at_once) = ComesTo clock doing t object at_once
+IsNextOrCut clock table doing t (finds_closed ask object at_once) = ComesTo clock doing t object at_once
+IsNextOrCut clock table doing t (deadlocks ask object) = ComesTo clock doing t object None
 IsNextOrCut clock table doing t _ = IsNext clock doing t
 
 -- The moment in which a task started another, which begins in moment s: by rounds that is a round later, and the starter goes on at once.

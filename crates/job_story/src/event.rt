@@ -1,6 +1,6 @@
 use block_exits::Kind;
 use exceptions::{Exc, Label};
-use job_tree::Name;
+use job_tree::{Ask, Name, ObjectKind};
 
 /// A part of the input: the place of its first byte, and the place after its last byte. Places are in bytes.
 #[derive(Clone, Copy, Debug, PartialEq, Eq)]
@@ -34,9 +34,34 @@ pub enum During {
     Waiting {
         /// The label of the event.
         event: Label,
-        /// The tick in which it began to wait.
+        /// The moment in which it began to wait.
         since: u64,
     },
+    /// It waited in the queue of a limiter or channel.
+    InQueue {
+        /// What it had asked.
+        ask: Ask,
+        /// The label of the limiter or channel.
+        object: Label,
+        /// The moment in which it asked.
+        since: u64,
+    },
+    /// It was to ask something of a limiter or channel, and did not, since it saw a cancellation.
+    BeforeAsking {
+        /// What it was to ask.
+        ask: Ask,
+        /// The label of the limiter or channel.
+        object: Label,
+    },
+}
+
+/// That a task asked something of a limiter or channel.
+#[derive(Clone, Copy, Debug, PartialEq, Eq)]
+pub struct Asked {
+    /// The moment in which it asked.
+    pub since: u64,
+    /// Its part of the input in that moment.
+    pub part: Range,
 }
 
 /// One thing that happened to a task. Exceptions are boxed, so that the many events without one take less memory.
@@ -109,6 +134,59 @@ pub enum Happening {
     WasSet {
         /// The label of the event.
         event: Label,
+    },
+    /// The task entered a limiter or channel. Nothing happens to the task where the block ends.
+    EntersObject {
+        /// Whether it is a limiter or a channel, and of which size.
+        kind: ObjectKind,
+        /// Its label.
+        label: Label,
+    },
+    /// The task asked something of a limiter or channel, and waits in the queue. What is granted in the next round is not waited for.
+    Queues {
+        /// What it asked.
+        ask: Ask,
+        /// The label of the limiter or channel.
+        object: Label,
+        /// The part of the input that the task has, which it sends if it asks to.
+        part: Range,
+        /// The moment in which it leaves the queue with an exception, or `None` if it is granted what it asked.
+        left: Option<u64>,
+    },
+    /// The task is granted what it asked.
+    Gets {
+        /// What it asked.
+        ask: Ask,
+        /// The label of the limiter or channel.
+        object: Label,
+        /// When it asked, if it did not wait in the queue.
+        at_once: Option<Asked>,
+    },
+    /// The task finds a channel closed, to which it was to send, or closed and empty, from which it was to receive.
+    FindsClosed {
+        /// What it asked.
+        ask: Ask,
+        /// The label of the channel.
+        object: Label,
+        /// When it asked, if it did not wait in the queue.
+        at_once: Option<Asked>,
+    },
+    /// The task waited in the queue as long as `forever`, and raises `Deadlock`.
+    Deadlocks {
+        /// What it asked.
+        ask: Ask,
+        /// The label of the limiter or channel.
+        object: Label,
+    },
+    /// The block of an `acquire` ended, and the token of the task comes back.
+    GivesTokenBack {
+        /// The label of the limiter.
+        object: Label,
+    },
+    /// A `close` step.
+    ClosesChannel {
+        /// The innermost channel of that name that encloses the task, or `None` if there is none.
+        object: Option<Label>,
     },
     /// A handler begins.
     Handles {

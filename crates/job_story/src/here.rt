@@ -6,7 +6,7 @@ use crate::stack::{Level, Stack};
 use crate::{CancelledFrom, Kind};
 use exceptions::Label;
 use input_lines::Part;
-use job_meaning::Clock;
+use job_meaning::{Clock, GrantTable};
 use job_tree::Name;
 use std::alloc::{AllocError, Global};
 
@@ -20,6 +20,8 @@ pub struct Here<'a, 's> {
     pub clock: Clock,
     /// The moment from which each scope and nursery is cancelled, and each event set.
     pub cancelled_from: &'s CancelledFrom,
+    /// What limiters and channels granted.
+    pub grants: &'s GrantTable<'a>,
     /// The task's part of the input, or its cut for the pass of a `repeat over` that the walk is in.
     pub part: Part<'a>,
     /// The task's label.

@@ -10,10 +10,11 @@ ghost use Rattle.job_story.specs.Tell.{failed_at, tell_step, tell_slept, tell_sl
 ghost use Rattle.job_tree.specs.Blocks.{step_of};
 ghost use Rattle.job_tree.specs.InRange.{IsInRangeStep};
 ghost use Rattle.job_tree.specs.Names.{size_in};
-ghost use Rattle.job_story.specs.Heres.{HasRoom, IsLeaf, tell_paced, here_of, input_of, scene_of, scopes_of, stack_of, table_of};
+ghost use Rattle.job_story.specs.Heres.{CanWalk, IsLeaf, tell_paced, here_of, input_of, scene_of, scopes_of, stack_of, tables_of};
 ghost use Rattle.job_story.specs.Story.{Story};
 ghost use Rattle.job_story.specs.Tales.{IsStretchOf, Tells, now_in};
 
+use crate::asks::close;
 use crate::excs::copy_label;
 use crate::here::Here;
 use crate::notes::{note, note_cancelled, note_sleep};
@@ -39,9 +40,9 @@ pub(crate) fn tell_leaf<'a>(
 ) -> Result<Stretch, AllocError>
     requires leaf { IsLeaf (step_of step.now) }
     requires in_range { IsInRangeStep (step_of step.now) }
-    requires room { HasRoom (size_in (step_of step.now)) here moment }
+    requires room { CanWalk (size_in (step_of step.now)) here moment }
     ensures { IfOk result (λ w. Tells here.entry.task.now progress.old.events.items w progress.new
-        (tell_step (table_of here.entry) (step_of step.now) (scene_of here.entry) (stack_of here.entry) (now_in moment progress.old))) }
+        (tell_step (tables_of here.entry) (step_of step.now) (scene_of here.entry) (stack_of here.entry) (now_in moment progress.old))) }
 {
     match step {
         Step::Sleep(ticks) => {
@@ -62,6 +63,7 @@ pub(crate) fn tell_leaf<'a>(
         Step::Cancel(name) => cancel(here, name, moment, progress),
         Step::Set(name) => set(here, name, moment, progress),
         Step::Wait(name) => wait_for(here, name, moment, progress),
+        Step::Close(name) => close(here, name, moment, progress),
         _ => unreachable!(),
     }
 }
@@ -269,7 +271,7 @@ pub(crate) fn raise<'a>(
 }
 
 // A stretch that ended with an exception of that name, which this task raised in this moment.
-fn raised(here: Here<'_, '_>, name: Name, task: Label, moment: u64) -> Stretch
+pub(crate) fn raised(here: Here<'_, '_>, name: Name, task: Label, moment: u64) -> Stretch
     ensures { (own : List TreeLabel) (story : Story) → IsStretchOf result
         (failed_at (raised name task (tick_of here.entry.clock moment)) (record { at = moment; own = own }) story) }
 {

@@ -17,6 +17,7 @@
 //! failed allocation.
 #![tactic(auto)]
 
+mod asks;
 mod block;
 mod cancelled_from;
 mod event;
@@ -37,7 +38,7 @@ mod walk;
 
 pub use block_exits::Kind;
 pub use cancelled_from::CancelledFrom;
-pub use event::{During, Event, Happening, Range, Span, What};
+pub use event::{Asked, During, Event, Happening, Range, Span, What};
 pub use laws::{
     law_blame, law_cancelled_from_of_meaning, law_causes, law_focus, law_nesting, law_story,
     law_waking,

@@ -1,5 +1,6 @@
 ghost use Rattle.std.specs.Prelude.{◌≡◌, ◌≤◌, length, map, IfOk};
 ghost use Rattle.job_meaning.specs.declared.limits.TheConstants.{MAX_INPUT};
+ghost use Rattle.job_meaning.specs.GrantTable.{AreGrantsOf, grants_made};
 ghost use Rattle.job_meaning.specs.Meaning.{root_label};
 ghost use Rattle.job_story.specs.Events.{events_of};
 ghost use Rattle.job_story.specs.CancelledFrom.{table_in};
@@ -13,12 +14,13 @@ use crate::walk::tell_child;
 use crate::{CancelledFrom, Event};
 use exceptions::Label;
 use input_lines::Part;
-use job_meaning::Clock;
+use job_meaning::{Clock, GrantTable};
 use job_reader::Job;
 use std::alloc::{AllocError, Global};
 
 /// Returns the events of a job's run over an input, where `cancelled_from` maps each scope and nursery to the moment from which
-/// it is cancelled, and each event to the moment from which it is set. What is called a tick of an event is its moment.
+/// it is cancelled, and each event to the moment from which it is set, and `grants` has what limiters and channels granted. What is
+/// called a tick of an event is its moment.
 ///
 /// The events are in the order of the walk and not sorted by moment: all events of a started task, from its start to its end, are
 /// at the point where the task was started. The input has at most `MAX_INPUT` bytes. The only error is a failed allocation.
@@ -27,10 +29,12 @@ pub fn tell<'a>(
     job: &'a Job,
     input: &'a [u8],
     cancelled_from: &CancelledFrom,
+    grants: &GrantTable<'a>,
 ) -> Result<Vec<Event>, AllocError>
-    requires { length input.now ≤ MAX_INPUT }
+    requires small { length input.now ≤ MAX_INPUT }
+    requires lent { AreGrantsOf input.now grants.now }
     ensures { IfOk result (λ events. map event_of events.items ≡ events_of (root_label job.now.name)
-        (story_by (table_in cancelled_from.now) job.now input.now)) }
+        (story_by (record { cancelled_from = table_in cancelled_from.now; granted = grants_made grants.now }) job.now input.now)) }
 {
     let outside = Label::new(alloc, job.name());
     let nothing = Stack::Empty;
@@ -38,6 +42,7 @@ pub fn tell<'a>(
         alloc,
         clock: Clock::of(job.text_format()),
         cancelled_from,
+        grants,
         part: Part::whole(input),
         task: &outside,
         place: &outside,

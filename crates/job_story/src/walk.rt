@@ -1,16 +1,24 @@
+ghost use Rattle.std.specs.Option.{option_map};
 ghost use Rattle.std.specs.Prelude.{◌≡◌, ◌+◌, ◌*◌, ◌<◌, ◌≤◌, ◌^◌, ℕ, Option, IfOk, ◌++◌, ◌∷◌, [], List};
 ghost use Rattle.input_lines.specs.Part.{buffer_of, range_of};
 ghost use Rattle.job_tree.specs.Blocks.{step_of, steps_of, handled_of, cleaned_of};
 ghost use Rattle.job_tree.specs.InRange.{AreInRange, IsInRangeStep, IsInRangeOver, IsInRangePasses, IsInRangeHandler, IsInRangeCleanup};
 ghost use Rattle.job_tree.specs.Names.{copies_of, size_of, size_in, handled_size, cleaned_size};
-ghost use Rattle.job_meaning.specs.Walk.{cuts_over, part_in_pass};
+ghost use Rattle.job_meaning.specs.GrantTable.{granted_of};
+ghost use Rattle.job_meaning.specs.Walk.{cuts_over, label_on, part_in_pass};
+ghost use Rattle.objects.specs.Held.{IsGrantOf};
+ghost use Rattle.objects.specs.Whats.{a_token};
 ghost use Rattle.block_exits.specs.Held.{kind_of};
 ghost use Rattle.job_story.specs.Story.{Tale};
-ghost use Rattle.job_story.specs.Tell.{tell, tell_step, tell_handler, tell_cleanup, tell_block, tell_event, tell_each, tell_passes};
+ghost use Rattle.job_story.specs.Held.{asked_of};
+ghost use Rattle.job_story.specs.Tell.{tell, tell_step, tell_handler, tell_cleanup, tell_ask, tell_block, tell_event, tell_each, tell_got, tell_granted, tell_passes};
 ghost use Rattle.job_story.specs.declared.event.Event.{Event as HeldEvent};
-ghost use Rattle.job_story.specs.Heres.{HasRoom, input_of, label_in, scene_of, scopes_of, stack_of, table_of, inside, inside_event, started_tale, started_over, started_by, pass};
+ghost use Rattle.job_story.specs.Heres.{CanWalk, block_of_ask, here_of, input_of, label_in, open_events, scene_of, scopes_of, stack_of, table_of, tables_of, inside, inside_event, started_tale, started_over, started_by, pass, told_object};
 ghost use Rattle.job_story.specs.Tales.{Tells, now_in};
 
+use crate::asks::{
+    find_closed, granted, leave_queue, note_asked, note_got, note_token_back, sees, unasked,
+};
 use crate::block::Block;
 use crate::here::Here;
 use crate::leaves::tell_leaf;
@@ -18,10 +26,13 @@ use crate::notes::{leave, note, note_end, note_handled, note_replaced, note_star
 use crate::progress::Progress;
 use crate::stack::{Level, Stack};
 use crate::stretch::Stretch;
-use crate::{Happening, Kind};
+use crate::{Asked, Happening, Kind};
+use block_exits::{closed_resource, end_of_channel};
 use exceptions::{Label, Match, split};
 use input_lines::Part;
-use job_tree::{Body, Handler, Name, Step};
+use job_meaning::Granted;
+use job_tree::{Ask, Body, Handler, Name, ObjectKind, Step};
+use objects::Grant;
 use std::alloc::AllocError;
 use std::mem;
 
@@ -34,9 +45,9 @@ fn tell_steps<'a>(
     progress: &mut Progress,
 ) -> Result<Stretch, AllocError>
     requires in_range { AreInRange (steps_of steps.now) }
-    requires room { HasRoom (size_of (steps_of steps.now)) here moment }
+    requires room { CanWalk (size_of (steps_of steps.now)) here moment }
     ensures { IfOk result (λ w. Tells here.entry.task.now progress.old.events.items w progress.new
-        (tell (table_of here.entry) (steps_of steps.now) (scene_of here.entry) (stack_of here.entry) (now_in moment progress.old))) }
+        (tell (tables_of here.entry) (steps_of steps.now) (scene_of here.entry) (stack_of here.entry) (now_in moment progress.old))) }
 {
     let mut stretch = Stretch::at(here.alloc, moment);
     'steps: for step in steps {
@@ -59,9 +70,9 @@ fn tell_step<'a>(
     progress: &mut Progress,
 ) -> Result<Stretch, AllocError>
     requires in_range { IsInRangeStep (step_of step.now) }
-    requires room { HasRoom (size_in (step_of step.now)) here moment }
+    requires room { CanWalk (size_in (step_of step.now)) here moment }
     ensures { IfOk result (λ w. Tells here.entry.task.now progress.old.events.items w progress.new
-        (tell_step (table_of here.entry) (step_of step.now) (scene_of here.entry) (stack_of here.entry) (now_in moment progress.old))) }
+        (tell_step (tables_of here.entry) (step_of step.now) (scene_of here.entry) (stack_of here.entry) (now_in moment progress.old))) }
 {
     match step {
         Step::Scope {
@@ -90,6 +101,10 @@ fn tell_step<'a>(
             tell_block(&block, body, here, moment, progress)
         }
         Step::Event { name, body } => tell_event(name, body, here, moment, progress),
+        Step::Object { name, kind, body } => {
+            tell_object(name, *kind, body, here, moment, progress)
+        }
+        Step::Ask { name, ask, body } => tell_ask(name, *ask, body, here, moment, progress),
         Step::Start { name, over, body } => tell_start(name, *over, body, here, moment, progress),
         Step::Repeat { count, over, body } => {
             tell_passes(*count, *over, body, here, moment, progress)
@@ -114,7 +129,7 @@ fn tell_block<'a>(
 ) -> Result<Stretch, AllocError>
     requires known { block.now.from ≡ table_of here block.now.label }
     requires in_range { AreInRange body.now }
-    requires room { HasRoom (size_of body.now) here moment }
+    requires room { CanWalk (size_of body.now) here moment }
     ensures { IfOk result (λ w. Tells here.entry.task.now progress.old.events.items w progress.new
         (tell_block here.entry.clock (table_of here.entry) (kind_of block.now.kind) block.now.label moment block.now.deadline
         block.now.shield (scopes_of here.entry)
@@ -144,7 +159,7 @@ fn tell_inside<'a>(
     progress: &mut Progress,
 ) -> Result<Stretch, AllocError>
     requires in_range { AreInRange body.now }
-    requires room { HasRoom (size_of body.now) here moment }
+    requires room { CanWalk (size_of body.now) here moment }
     ensures { IfOk result (λ w. Tells here.entry.task.now progress.old.events.items w progress.new
         (inside (kind_of block.now.kind) block.now.label block.now.shield body.now here.entry
         (now_in moment progress.old) block.now.from)) }
@@ -180,7 +195,7 @@ fn tell_event<'a>(
     progress: &mut Progress,
 ) -> Result<Stretch, AllocError>
     requires in_range { AreInRange body.now }
-    requires room { HasRoom (size_of body.now) here moment }
+    requires room { CanWalk (size_of body.now) here moment }
     ensures { IfOk result (λ w. Tells here.entry.task.now progress.old.events.items w progress.new
         (tell_event (table_of here.entry) (label_in name.now here.entry) moment
         (inside_event (label_in name.now here.entry) body.now here.entry (now_in moment progress.old)))) }
@@ -198,6 +213,129 @@ fn tell_event<'a>(
     Ok(stretch)
 }
 
+// Walks a limiter or channel that is entered in a moment. Nothing is recorded where its block ends.
+#[cycle(telling)]
+#[inline(never)]
+fn tell_object<'a>(
+    name: &Name,
+    kind: ObjectKind,
+    body: &'a Body,
+    here: Here<'a, '_>,
+    moment: u64,
+    progress: &mut Progress,
+) -> Result<Stretch, AllocError>
+    requires in_range { AreInRange body.now }
+    requires room { CanWalk (size_of body.now) here moment }
+    ensures { IfOk result (λ w. Tells here.entry.task.now progress.old.events.items w progress.new
+        (told_object name.now kind body.now here.entry (now_in moment progress.old))) }
+{
+    let object = here.event(*name)?;
+    let label = object.label.copy(here.alloc)?;
+    let what = Happening::EntersObject { kind, label };
+    note(here, moment, what, &mut progress.events)?;
+    let events = Stack::Within(object, here.events);
+    let within = Here {
+        events: &events,
+        ..here
+    };
+    let stretch = tell_steps(body.as_slice(), within, moment, progress)?;
+    Ok(stretch)
+}
+
+// Walks a step that asks the innermost limiter or channel of that name that encloses the task for something.
+#[cycle(telling)]
+#[inline(never)]
+fn tell_ask<'a>(
+    name: &Name,
+    ask: Ask,
+    body: &'a Body,
+    here: Here<'a, '_>,
+    moment: u64,
+    progress: &mut Progress,
+) -> Result<Stretch, AllocError>
+    requires in_range { AreInRange body.now }
+    requires room { CanWalk (1 + size_of body.now) here moment }
+    ensures { IfOk result (λ w. Tells here.entry.task.now progress.old.events.items w progress.new
+        (tell_ask (tables_of here.entry) ask (label_on name.now (open_events here.entry)) (scene_of here.entry) (scopes_of here.entry)
+        (now_in moment progress.old) (block_of_ask body.now here.entry))) }
+{
+    let Some(object) = here.events.label_on(name) else {
+        return Ok(Stretch::at(here.alloc, moment));
+    };
+    if sees(here, progress.cancelled.as_slice(), moment) {
+        return unasked(here, ask, object, moment, progress);
+    }
+    match granted(here, object, moment)? {
+        None => leave_queue(here, ask, object, moment, progress),
+        Some(granted) => tell_granted(granted, ask, object, body, here, moment, progress),
+    }
+}
+
+// Walks what a task does that asked in a moment, and is granted that.
+#[cycle(telling)]
+#[inline(never)]
+fn tell_granted<'a>(
+    granted: Granted<'a>,
+    ask: Ask,
+    object: &Label,
+    body: &'a Body,
+    here: Here<'a, '_>,
+    moment: u64,
+    progress: &mut Progress,
+) -> Result<Stretch, AllocError>
+    requires in_range { AreInRange body.now }
+    requires later { moment < granted.at }
+    requires room { CanWalk (size_of body.now) here granted.at }
+    requires lent { IsGrantOf (input_of here) granted.grant }
+    ensures { IfOk result (λ w. Tells here.entry.task.now progress.old.events.items w progress.new
+        (tell_got ask object.now (here_of here.entry) moment (granted_of granted.entry) (block_of_ask body.now here.entry))) }
+{
+    progress.cancelled.clear();
+    let at = granted.at;
+    let at_once = note_asked(here, ask, object, moment, at, &mut progress.events)?;
+    match granted.grant {
+        Grant::Token => tell_with_token(object, at_once, body, here, at, progress),
+        Grant::Sent => {
+            note_got(here, Ask::Send, object, at_once, at, &mut progress.events)?;
+            tell_steps(body.as_slice(), here, at, progress)
+        }
+        Grant::Received(part) => {
+            note_got(here, Ask::Receive, object, at_once, at, &mut progress.events)?;
+            let inside = Here { part, ..here };
+            tell_steps(body.as_slice(), inside, at, progress)
+        }
+        Grant::ClosedResource => {
+            find_closed(here, Ask::Send, object, at_once, closed_resource(), at, progress)
+        }
+        Grant::EndOfChannel => {
+            find_closed(here, Ask::Receive, object, at_once, end_of_channel(), at, progress)
+        }
+    }
+}
+
+// Walks the block of an `acquire`, at whose end the token comes back.
+#[cycle(telling)]
+#[inline(never)]
+fn tell_with_token<'a>(
+    object: &Label,
+    at_once: Option<Asked>,
+    body: &'a Body,
+    here: Here<'a, '_>,
+    moment: u64,
+    progress: &mut Progress,
+) -> Result<Stretch, AllocError>
+    requires in_range { AreInRange body.now }
+    requires clear { progress.old.cancelled.items ≡ [] }
+    requires room { CanWalk (size_of body.now) here moment }
+    ensures { IfOk result (λ w. Tells here.entry.task.now progress.old.events.items w progress.new
+        (tell_granted object.now (here_of here.entry) moment a_token (option_map asked_of at_once) (block_of_ask body.now here.entry))) }
+{
+    note_got(here, Ask::Acquire, object, at_once, moment, &mut progress.events)?;
+    let stretch = tell_steps(body.as_slice(), here, moment, progress)?;
+    note_token_back(here, object, stretch.end(), &mut progress.events)?;
+    Ok(stretch)
+}
+
 // Walks what a `start` starts: one task on the whole part, or one on each cut of it. They begin a round later.
 #[cycle(telling)]
 #[inline(never)]
@@ -211,7 +349,7 @@ fn tell_start<'a>(
 ) -> Result<Stretch, AllocError>
     requires some { IsInRangeOver over }
     requires in_range { AreInRange body.now }
-    requires room { HasRoom (copies_of over * (1 + size_of body.now)) here moment }
+    requires room { CanWalk (copies_of over * (1 + size_of body.now)) here moment }
     ensures { IfOk result (λ w. Tells here.entry.task.now progress.old.events.items w progress.new
         (started_by name.now over body.now here.entry (now_in moment progress.old))) }
 {
@@ -239,7 +377,7 @@ pub(crate) fn tell_child<'a>(
     progress: &mut Progress,
 ) -> Result<Stretch, AllocError>
     requires in_range { AreInRange (steps_of steps.now) }
-    requires room { HasRoom (size_of (steps_of steps.now)) here begins }
+    requires room { CanWalk (size_of (steps_of steps.now)) here begins }
     requires same { buffer_of part ≡ input_of here }
     ensures { IfOk result (λ w. Tells here.entry.task.now progress.old.events.items w progress.new
         (started_tale label (range_of part.entry) (steps_of steps.now) here.entry begins (now_in moment progress.old))) }
@@ -273,7 +411,7 @@ fn tell_children<'a>(
     requires some { 1 ≤ copies }
     requires few { copies ≤ 64 }
     requires in_range { AreInRange body.now }
-    requires room { HasRoom (size_of body.now) here begins }
+    requires room { CanWalk (size_of body.now) here begins }
     ensures { IfOk result (λ w. Tells here.entry.task.now progress.old.events.items w progress.new
         (tell_each copies (started_over name.now copies body.now here.entry begins (now_in moment progress.old))
         (now_in moment progress.old))) }
@@ -300,7 +438,7 @@ fn tell_passes<'a>(
 ) -> Result<Stretch, AllocError>
     requires passes { IsInRangePasses over count }
     requires in_range { AreInRange body.now }
-    requires room { HasRoom (count * (1 + size_of body.now)) here moment }
+    requires room { CanWalk (count * (1 + size_of body.now)) here moment }
     ensures { IfOk result (λ w. Tells here.entry.task.now progress.old.events.items w progress.new
         (tell_passes 0 count (pass (cuts_over over count) body.now here.entry) (now_in moment progress.old))) }
 {
@@ -330,7 +468,7 @@ fn tell_pass<'a>(
     requires passes { IsInRangePasses over count }
     requires below { number < count }
     requires in_range { AreInRange body.now }
-    requires room { HasRoom (size_of body.now) here moment }
+    requires room { CanWalk (size_of body.now) here moment }
     ensures { IfOk result (λ w. Tells here.entry.task.now progress.old.events.items w progress.new
         (pass (cuts_over over count) body.now here.entry number (now_in moment progress.old))) }
 {
@@ -358,11 +496,11 @@ fn tell_try<'a>(
     requires in_range { AreInRange body.now }
     requires in_range_handler { IsInRangeHandler (handled_of handler.now) }
     requires in_range_cleanup { IsInRangeCleanup (cleaned_of cleanup.now) }
-    requires room { HasRoom (size_of body.now + handled_size (handled_of handler.now) + cleaned_size (cleaned_of cleanup.now)) here moment }
+    requires room { CanWalk (size_of body.now + handled_size (handled_of handler.now) + cleaned_size (cleaned_of cleanup.now)) here moment }
     ensures { IfOk result (λ w. Tells here.entry.task.now progress.old.events.items w progress.new
-        (tell_cleanup (table_of here.entry) (cleaned_of cleanup.now) (scene_of here.entry) (stack_of here.entry)
-        (tell_handler (table_of here.entry) (handled_of handler.now) (scene_of here.entry) (stack_of here.entry)
-        (tell (table_of here.entry) body.now (scene_of here.entry) (stack_of here.entry) (now_in moment progress.old))))) }
+        (tell_cleanup (tables_of here.entry) (cleaned_of cleanup.now) (scene_of here.entry) (stack_of here.entry)
+        (tell_handler (tables_of here.entry) (handled_of handler.now) (scene_of here.entry) (stack_of here.entry)
+        (tell (tables_of here.entry) body.now (scene_of here.entry) (stack_of here.entry) (now_in moment progress.old))))) }
 {
     let stretch = tell_steps(body.as_slice(), here, moment, progress)?;
     let stretch = tell_handler(handler, stretch, here, progress)?;
@@ -380,10 +518,10 @@ fn tell_handler<'a>(
     progress: &mut Progress,
 ) -> Result<Stretch, AllocError>
     requires in_range { IsInRangeHandler (handled_of handler.now) }
-    requires room { HasRoom (handled_size (handled_of handler.now)) here stretch.end }
+    requires room { CanWalk (handled_size (handled_of handler.now)) here stretch.end }
     ensures { IfOk result (λ w. (start : List HeldEvent) (a : Tale) → Tells here.entry.task.now start stretch progress.old a
         → Tells here.entry.task.now start w progress.new
-        (tell_handler (table_of here.entry) (handled_of handler.now) (scene_of here.entry) (stack_of here.entry) a)) }
+        (tell_handler (tables_of here.entry) (handled_of handler.now) (scene_of here.entry) (stack_of here.entry) a)) }
 {
     let Some(handler) = handler else {
         return Ok(stretch);
@@ -411,10 +549,10 @@ fn tell_cleanup<'a>(
     progress: &mut Progress,
 ) -> Result<Stretch, AllocError>
     requires in_range { IsInRangeCleanup (cleaned_of cleanup.now) }
-    requires room { HasRoom (cleaned_size (cleaned_of cleanup.now)) here stretch.end }
+    requires room { CanWalk (cleaned_size (cleaned_of cleanup.now)) here stretch.end }
     ensures { IfOk result (λ w. (start : List HeldEvent) (a : Tale) → Tells here.entry.task.now start stretch progress.old a
         → Tells here.entry.task.now start w progress.new
-        (tell_cleanup (table_of here.entry) (cleaned_of cleanup.now) (scene_of here.entry) (stack_of here.entry) a)) }
+        (tell_cleanup (tables_of here.entry) (cleaned_of cleanup.now) (scene_of here.entry) (stack_of here.entry) a)) }
 {
     let Some(cleanup) = cleanup else {
         return Ok(stretch);

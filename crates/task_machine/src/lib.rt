@@ -17,7 +17,6 @@ mod cancelling;
 mod entering;
 mod entry;
 mod events;
-mod exception_names;
 mod exiting;
 mod frame;
 mod labels;

@@ -32,12 +32,12 @@ ghost use Rattle.task_machine.specs.declared.stop.TaskState.TheVariants.{Queued}
 ghost use Rattle.task_machine.specs.declared.stop.Wake.TheVariants as wakes;
 
 use crate::entry::Entry;
-use crate::exception_names::{closed_resource, end_of_channel};
 use crate::frame::Frame;
 use crate::serving::Act;
 use crate::stop::{Moved, ObjectRequest, Stop, TaskState};
 use crate::task::Task;
 use crate::world::World;
+use block_exits::{closed_resource, end_of_channel};
 use cancel_scopes::{ScopeId, stacks_are_chains};
 use exceptions::{Exc, Label};
 use job_meaning::Clock;

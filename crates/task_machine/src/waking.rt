@@ -17,11 +17,10 @@ ghost use Rattle.task_machine.specs.Waiters.{SameWaiters};
 ghost use Rattle.task_machine.specs.Waking.{WakesFrom, wake_in, answer_in, settled_exc, IsInRangeTaskState, IsInRangePurpose};
 
 use crate::entry::Entry;
-use crate::exception_names::deadlock;
 use crate::stop::{Moved, Purpose, Stop, TaskState, Wake};
 use crate::task::Task;
 use crate::world::World;
-use block_exits::Kind;
+use block_exits::{Kind, deadlock};
 use cancel_scopes::stacks_are_chains;
 use exceptions::Exc;
 use input_lines::{Answer, Line};

@@ -5,21 +5,13 @@ use Rattle.job_tree.specs.Tree.{Steps}
 use Rattle.exceptions.specs.Exceptions.{Label, Exc}
 use Rattle.cancel_scopes.specs.Sight.{Level}
 use Rattle.job_meaning.specs.Log.{nil, followed_by, Result, Table}
-use Rattle.job_meaning.specs.Sharing.{Grants}
 use Rattle.job_meaning.specs.Moments.{Now, only_at}
+pub use Rattle.job_meaning.specs.Tables.{Tables, by_tables}
 use Rattle.job_meaning.specs.declared.clock.Clock.{Clock}
 use Rattle.job_meaning.specs.declared.clock.Clock.TheVariants.{ByTicks as by_ticks, ByRounds as by_rounds}
-use Rattle.job_meaning.specs.Walk.{Stack, no_stack, Mode, by_table, Here, label_if, done_at, with_own}
+use Rattle.job_meaning.specs.Walk.{Stack, no_stack, Here, label_if, done_at, with_own}
 use Rattle.turn_semantics.specs.Made.{SignedLabel, signed_in}
 use Rattle.job_meaning.specs.Rest.{Event, ChildOutcomes, fill, Frame, Stopped, finish, finished_from, rest_comes_to, rest_at_start}
-
--- The tables that a walk follows: from which moment each label is cancelled, or set, and what limiters and channels grant.
-pub record Tables : Type 0 where
-  pub cancelled_from : Table
-  pub granted : Grants
-
-abbrev pub by_tables : Tables → Mode
-by_tables tables = by_table tables.cancelled_from tables.granted
 
 -- a scope or nursery that encloses a task, or an event, a limiter or a channel; its from is in the world's table
 pub record Place : Type 0 where

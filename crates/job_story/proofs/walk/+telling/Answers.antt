@@ -21,7 +21,7 @@ use Rattle.job_story.specs.Tell.{now_of, story_of_one, tell, tell_block, tell_ea
 use Rattle.job_story.specs.declared.block.Block.{Block}
 use Rattle.job_story.specs.declared.stack.Level.{Level}
 use Rattle.job_story.specs.Stacks.{level_of}
-use Rattle.job_story.specs.Heres.{HasRoom, table_of, scene_of, scene_in, scopes_of, stack_of, here_of, label_in, inside, inside_event, started_tale, started_over}
+use Rattle.job_story.specs.Heres.{CanWalk, table_of, scene_of, scene_in, scopes_of, stack_of, here_of, label_in, inside, inside_event, started_tale, started_over}
 use Rattle.job_story.specs.Tales.{Tells, now_in}
 use Rattle.job_story.proofs.Adding.{adds_like, adds_nothing}
 use Rattle.job_story.proofs.Teller.{tells_joined}
@@ -43,7 +43,7 @@ tell_steps-tell_step-requires t c =
       omega (arith, weight, c.decreases),
       (
         at.in_range.0,
-        subst (λ (u : ℕ). HasRoom (size_in (step_of c.step-item.result)) c.args.here u) (sym c.end.ensures) (room_step _ _ _ _ _ _ _ _ at),
+        subst (λ (u : ℕ). CanWalk (size_in (step_of c.step-item.result)) c.args.here u) (sym c.end.ensures) (room_step _ _ _ _ _ _ _ _ at),
       ),
     )
 
@@ -187,7 +187,7 @@ tell_passes-tell_pass-requires t c = (
       c.passes-test.true,
       (
         c.requires.in_range,
-        subst (λ (u : ℕ). HasRoom (size_of c.args.body.now) c.args.here u) (sym c.end.ensures)
+        subst (λ (u : ℕ). CanWalk (size_of c.args.body.now) c.args.here u) (sym c.end.ensures)
             (room_pass _ _ _ _ _ _ _ _ _ c.passes.invariant c.passes-test.true),
       ),
     ),

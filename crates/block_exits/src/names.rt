@@ -1,10 +1,9 @@
-//! The names of the exceptions that limiters and channels raise.
 ghost use Rattle.std.specs.Prelude.{◌≡◌, codes};
 
 use job_tree::Name;
 
-// Raised by a task that sends to a closed channel.
-pub(crate) fn closed_resource() -> Name
+/// Returns `ClosedResource`, the name of the exception that a task raises which sends to a closed channel.
+pub fn closed_resource() -> Name
     ensures { result ≡ codes "ClosedResource" }
 {
     match Name::new(b"ClosedResource") {
@@ -13,8 +12,8 @@ pub(crate) fn closed_resource() -> Name
     }
 }
 
-// Raised by a task that receives from a channel that is closed and empty.
-pub(crate) fn end_of_channel() -> Name
+/// Returns `EndOfChannel`, the name of the exception that a task raises which receives from a closed channel in which nothing is left.
+pub fn end_of_channel() -> Name
     ensures { result ≡ codes "EndOfChannel" }
 {
     match Name::new(b"EndOfChannel") {
@@ -23,8 +22,8 @@ pub(crate) fn end_of_channel() -> Name
     }
 }
 
-// Raised by a task that has waited for a limiter or channel as long as `forever`.
-pub(crate) fn deadlock() -> Name
+/// Returns `Deadlock`, the name of the exception that a task raises which has waited for a limiter or channel as long as `forever`.
+pub fn deadlock() -> Name
     ensures { result ≡ codes "Deadlock" }
 {
     match Name::new(b"Deadlock") {
