@@ -280,14 +280,10 @@ by_granted label here b m (a_part lent) go le h = by_goes_on (was_granted Receiv
 by_granted label here b m closed_resource go le h = by_raised _ b (only_at m) le
 by_granted label here b m end_of_channel go le h = by_raised _ b (only_at m) le
 
--- no wait for a limiter or channel lasts longer than `forever`, or than a round
-pub last_grant_by : (clock : Clock) (m : ℕ) → last_grant clock m ≤ reach clock m + span clock
-last_grant_by by_ticks m = omega arith
-last_grant_by by_rounds m = omega arith
-
+-- no wait for a limiter or channel lasts longer than `forever`
 left_by : (clock : Clock) (from : Tick) (m : ℕ) → leaves_queue from (last_grant clock m) ≤ reach clock m + span clock
-left_by clock None m = last_grant_by clock m
-left_by clock (Some from) m = omega (arith, last_grant_by clock m)
+left_by clock None m = wakes_by clock (far - tick_of clock m) m (left_le far (tick_of clock m))
+left_by clock (Some from) m = omega (arith, wakes_by clock (far - tick_of clock m) m (left_le far (tick_of clock m)))
 
 -- b is a bound for the wait, and c for what follows it
 by_asking : (m : Mode) (st : Stack) (ask : Ask) (label : Option Label) (here : Here) (t : Now) (go : Here → Now → Result) (b c : ℕ) →

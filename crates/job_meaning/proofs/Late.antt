@@ -329,7 +329,7 @@ unseen_for own m ls e = by_cases (seen ls m) (λ h. lowering_shows ls (stack_for
 
 -- no wait for a limiter or channel ends before it begins
 pub last_after : (clock : Clock) (m : ℕ) → m ≤ last_grant clock m
-last_after clock m = omega arith
+last_after clock m = omega (arith, round_after clock m, wakes_after clock (far - tick_of clock m) m)
 
 -- where no cancellation is seen, a task leaves the queue no earlier than it asked
 pub leaves_after : (from : Tick) (m last : ℕ) → is_reached from m ≡ false → m ≤ last → m ≤ leaves_queue from last
