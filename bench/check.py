@@ -44,9 +44,12 @@ def below(crate, crates):
 
 
 def library(built, name):
-    """The library of a crate: as it was checked here, or else as it was built there."""
-    here = os.path.join(TOP, "crates", name, "out", "checked", name + ".rlib")
-    return here if os.path.exists(here) else os.path.join(built, "crates", name, "out", "rlib", name + ".rlib")
+    """The library of a crate: as it was checked here, or else as it was checked or built there."""
+    file = name + ".rlib"
+    here = os.path.join(TOP, "crates", name, "out", "checked", file)
+    there = os.path.join(built, "crates", name, "out")
+    places = [here, os.path.join(there, "checked", file), os.path.join(there, "rlib", file)]
+    return next((it for it in places if os.path.exists(it)), places[-1])
 
 
 def main():
