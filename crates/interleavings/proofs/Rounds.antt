@@ -9,10 +9,10 @@ use Rattle.exceptions.specs.Exceptions.{Label, Exc}
 use Rattle.cancel_scopes.specs.Sight.{Tick, Level, earlier, next, sight}
 use Rattle.job_meaning.specs.Log.{opens, asks, gives_back, closes, Log, Member, Result, Table, tick_if, same_label, from_by, entered_from, least_sign, deadline_of}
 use Rattle.job_meaning.specs.Sharing.{acts_in, by_moment, What, Granted, unopened, serve_acts, granted_if}
-use Rattle.job_meaning.specs.Moments.{clock_of, tick_of, a_round_after, far, wakes_at, Now, only_at}
+use Rattle.job_meaning.specs.Moments.{clock_of, tick_of, start_of, a_round_after, far, wakes_at, Now, only_at}
 use Rattle.job_meaning.specs.declared.clock.Clock.{Clock}
 use Rattle.job_meaning.specs.declared.clock.Clock.TheVariants.{ByTicks as by_ticks, ByRounds as by_rounds}
-use Rattle.job_meaning.proofs.MomentLemmas.{round_after}
+use Rattle.job_meaning.proofs.MomentLemmas.{round_after, last_grant_is}
 use Rattle.job_meaning.specs.Walk.{Stack, no_stack, Here, last_grant, leaves_queue, in_time, event_on, level_if, set_moment, latest}
 use Rattle.job_meaning.specs.Before.{upto}
 use Rattle.job_meaning.specs.Meaning.{root_here, root_log}
@@ -58,6 +58,16 @@ round_due n (suc ticks) since h =
     let t : ℕ = min 1099511627776 (since / 2097152 + suc ticks) in
     let b : round_of (t * 2097152) ≡ 0 = first_round t in
     round_of_max n (since + 1) (t * 2097152) (omega arith) (omega arith)
+
+-- what is asked can be granted until a round later, or until round 0 of the tick in which `forever` ends
+round_granted : (n since : ℕ) → round_of since < n → round_of (last_grant by_rounds since) ≤ n
+round_granted n since h = elim (last_grant_is by_rounds since) [ inl e ↦ next e | inr e ↦ at_far e ]
+  where
+    next : last_grant by_rounds since ≡ suc since → round_of (last_grant by_rounds since) ≤ n
+    next e = subst (λ (z : ℕ). round_of z ≤ n) (sym e) (omega arith)
+
+    at_far : last_grant by_rounds since ≡ start_of by_rounds far → round_of (last_grant by_rounds since) ≤ n
+    at_far e = subst (λ (z : ℕ). round_of z ≤ n) (sym e) (omega (arith, first_round far))
 
 -- the last of some ends, none of which has too great a round
 abbrev EachEnd : ℕ → List Member → Type 0
@@ -484,19 +494,23 @@ module _ (k : Tables) (f : Table) (job : Tree) (input : List ℕ) (settled : IsS
     stopped_in : (since : ℕ) → round_of q.stop.at < n → since ≡ q.stop.at → round_of since < n
     stopped_in since h e = subst (λ (z : ℕ). round_of z < n) (sym e) h
 
+    -- the earlier of two moments
+    either_below : (a b : ℕ) → (a ≡ t → round_of t ≤ n) → (b ≡ t → round_of t ≤ n) → min a b ≡ t → round_of t ≤ n
+    either_below a b h k e = by_order (smaller a b)
+      where
+        smaller : (x y : ℕ) → (min x y ≡ x) ⊎ (min x y ≡ y)
+        smaller x y = grind arith
+
+        by_order : (min a b ≡ a) ⊎ (min a b ≡ b) → round_of t ≤ n
+        by_order (inl g) = h (sym g ∙ e)
+        by_order (inr g) = k (sym g ∙ e)
+
     -- a wait for an event is over a round after it began, when the event is set, or when no wait lasts longer
     moment_below : (set : Tick) (since : ℕ) → round_of since < n → (set ≡ Some t → round_of t ≤ n) → set_moment q.here.clock set since ≡ t → round_of t ≤ n
     moment_below None since h from e = due_below (far - tick_of q.here.clock since) since h e
-    moment_below (Some u) since h from e = by_order (split u (wakes_at q.here.clock (far - tick_of q.here.clock since) since))
-      where
-        split : (a b : ℕ) → (min a b ≡ a) ⊎ (min a b ≡ b)
-        split a b = grind arith
-
-        by_order : (min u (wakes_at q.here.clock (far - tick_of q.here.clock since) since) ≡ u)
-            ⊎ (min u (wakes_at q.here.clock (far - tick_of q.here.clock since) since) ≡ wakes_at q.here.clock (far - tick_of q.here.clock since) since) →
-            round_of t ≤ n
-        by_order (inl g) = from (ap (λ (z : ℕ). Some z) (sym g ∙ e))
-        by_order (inr g) = due_below (far - tick_of q.here.clock since) since h (sym g ∙ e)
+    moment_below (Some u) since h from e =
+        either_below u (wakes_at q.here.clock (far - tick_of q.here.clock since) since) (λ g. from (ap (λ (z : ℕ). Some z) g))
+        (due_below (far - tick_of q.here.clock since) since h) e
 
     set_below : (event : List ℕ) (since : ℕ) → round_of since < n →
         GoesOnWaiting q.here.clock (ends_at q.here.clock k.cancelled_from event since q.places) since t (stack_at k.cancelled_from q.places) →
@@ -514,16 +528,23 @@ module _ (k : Tables) (f : Table) (job : Tree) (input : List ℕ) (settled : IsS
             set_moment q.here.clock l.from since ≡ t → round_of t ≤ n
         some l same lt g = moment_below l.from since h (λ x. from_below l.label (sym same ∙ x)) g
 
-    -- a task leaves a queue when it sees a cancellation, or when no wait lasts longer
+    -- a task leaves a queue when it sees a cancellation, or in the last moment of a grant
     left_below : (since : ℕ) → round_of since < n →
         leaves_queue (sight (stack_at k.cancelled_from q.places).scopes) (last_grant q.here.clock since) ≡ t → round_of t ≤ n
     left_below since h e =
         by_sight (sight (stack_at k.cancelled_from q.places).scopes)
         (λ x. sight_is k.cancelled_from t (round_of t ≤ n) from_below q.places x) e
       where
-        by_sight : (a : Tick) → (a ≡ Some t → round_of t ≤ n) → leaves_queue a (last_grant q.here.clock since) ≡ t → round_of t ≤ n
-        by_sight None cancelled_now g = moment_below None since h cancelled_now g
-        by_sight (Some u) cancelled_now g = moment_below (Some u) since h cancelled_now g
+        last : ℕ
+        last = last_grant q.here.clock since
+
+        last_below : last ≡ t → round_of t ≤ n
+        last_below g =
+            subst (λ (z : ℕ). round_of z ≤ n) (sym (ap (λ (c : Clock). last_grant c since) by) ∙ g) (round_granted n since h)
+
+        by_sight : (a : Tick) → (a ≡ Some t → round_of t ≤ n) → leaves_queue a last ≡ t → round_of t ≤ n
+        by_sight None cancelled_now g = last_below g
+        by_sight (Some u) cancelled_now g = either_below u last (λ e. cancelled_now (ap (λ (z : ℕ). Some z) e)) last_below g
 
     by_stop : (own : List Label) (wake : Wake) (s : Stopped) → StopBelow n q.stop.at s →
         WakesBy k q.outcomes (inside q.rest.frames q.here) q.stop (record { at = t; own = own }) wake s q.places →

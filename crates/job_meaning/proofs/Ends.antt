@@ -1,6 +1,6 @@
 -- By when a walk ends, and all that it does to limiters and channels: a step instance ends at most as many moments beyond the reach of its
 -- start as `span` says.
-use Rattle.std.proofs.Common.{◌≡◌, ℕ, zero, suc, ◌+◌, ◌-◌, ◌*◌, ◌/◌, ◌≤◌, min, max, Bool, true, false, ◌&&◌, Option, Some, None, List, [], ◌∷◌, ◌++◌, length, drop as dropped, length-drop, refl, arith, nat_le, nat_lt, if◌then◌else◌}
+use Rattle.std.proofs.Common.{◌≡◌, ℕ, zero, suc, ◌+◌, ◌-◌, ◌*◌, ◌/◌, ◌≤◌, min, max, Bool, true, false, ◌&&◌, Option, Some, None, List, [], ◌∷◌, ◌++◌, length, drop as dropped, length-drop, inl, inr, refl, arith, nat_le, nat_lt, if◌then◌else◌}
 use Rattle.std.proofs.lemmas.Bool.Decides.{nat_tests}
 use Rattle.std.proofs.lemmas.List.{length-take}
 use Rattle.std.proofs.Math.Nat.{mul-le-mul_right}
@@ -21,13 +21,14 @@ use Rattle.cancel_scopes.specs.Sight.{Tick, Level, is_reached, sight, seen}
 use Rattle.job_tree.specs.declared.object.Ask.TheVariants.{Acquire, Send, Receive}
 use Rattle.job_meaning.specs.Log.{Log, nil, entry, sign, entered, Act, act, task, followed_by, Member, Result, Entry, was_granted}
 use Rattle.job_meaning.specs.Sharing.{What, a_token, was_sent, a_part, closed_resource, end_of_channel, Granted, granted_if}
-use Rattle.job_meaning.specs.Moments.{clock_of, tick_of, a_round_after, wakes_at, gives_up_at, Now, only_at, far}
+use Rattle.job_meaning.specs.Moments.{clock_of, tick_of, start_of, a_round_after, wakes_at, gives_up_at, Now, only_at, far}
 use Rattle.job_meaning.specs.declared.clock.Clock.{Clock}
 use Rattle.job_meaning.specs.declared.clock.Clock.TheVariants.{ByTicks as by_ticks, ByRounds as by_rounds}
 use Rattle.job_meaning.specs.Meaning.{meaning, meaning_grants, root_walk, root_here}
 use Rattle.job_meaning.specs.Laws.{EndsByTheLastTick}
 use Rattle.job_meaning.specs.declared.limits.TheConstants.{MAX_INPUT}
 use Rattle.job_meaning.proofs.Late.{noted_at}
+use Rattle.job_meaning.proofs.MomentLemmas.{last_grant_is}
 use Rattle.job_meaning.specs.Walk.{Stack, no_stack, Mode, two_walks, grants_in, Here, walk, walk_step, walk_handler, walk_cleanup, done_at, raised_at, now_of, in_sequence, and_then, then_if, wait_by_sight, sleep_result, pace_result, wait_until, set_moment, wait_by, with_line_if, with_line, event_wait, pace_ticks, log_of_lines, lines_result, raise_result, need_result, sign_of, cancel_result, set_result, stack_for, Kind, from_of, block, event_block, with_act, close_result, with_token_back, last_grant, leaves_queue, in_time, left_result, goes_on, granted_result, asked_result, asks_in, ask_result, with_sign, sign_if, home_of, latest, nursery_result, child, each, passes, handler_result, handler_for, handler_if_any, cleanup_result}
 
 -- By rounds, the start of tick `far`, beyond which no sleep lasts. By ticks, where each sleep lasts as long as it is, 0.
@@ -57,6 +58,17 @@ wakes_by by_rounds (suc n) m le = capped (m / 2097152 + suc n)
   where
     capped : (tick : ℕ) → max (m + 1) (min 1099511627776 tick * 2097152) ≤ max m 2305843009213693952 + 2
     capped tick = omega arith
+
+last_grant_by : (clock : Clock) (m : ℕ) → last_grant clock m ≤ reach clock m + span clock
+last_grant_by clock m = elim (last_grant_is clock m) [ inl e ↦ next clock e | inr e ↦ at_far clock e ]
+  where
+    next : (clock : Clock) → last_grant clock m ≡ suc m → last_grant clock m ≤ reach clock m + span clock
+    next by_ticks e = omega (arith, e)
+    next by_rounds e = omega (arith, e)
+
+    at_far : (clock : Clock) → last_grant clock m ≡ start_of clock far → last_grant clock m ≤ reach clock m + span clock
+    at_far by_ticks e = omega (arith, e)
+    at_far by_rounds e = omega (arith, e)
 
 gives_up_by : (clock : Clock) (n m : ℕ) → gives_up_at clock n m ≤ m + span clock
 gives_up_by by_ticks n m = omega arith
@@ -280,10 +292,10 @@ by_granted label here b m (a_part lent) go le h = by_goes_on (was_granted Receiv
 by_granted label here b m closed_resource go le h = by_raised _ b (only_at m) le
 by_granted label here b m end_of_channel go le h = by_raised _ b (only_at m) le
 
--- no wait for a limiter or channel lasts longer than `forever`
+-- a wait for a limiter or channel
 left_by : (clock : Clock) (from : Tick) (m : ℕ) → leaves_queue from (last_grant clock m) ≤ reach clock m + span clock
-left_by clock None m = wakes_by clock (far - tick_of clock m) m (left_le far (tick_of clock m))
-left_by clock (Some from) m = omega (arith, wakes_by clock (far - tick_of clock m) m (left_le far (tick_of clock m)))
+left_by clock None m = last_grant_by clock m
+left_by clock (Some from) m = omega (arith, last_grant_by clock m)
 
 -- b is a bound for the wait, and c for what follows it
 by_asking : (m : Mode) (st : Stack) (ask : Ask) (label : Option Label) (here : Here) (t : Now) (go : Here → Now → Result) (b c : ℕ) →

@@ -11,9 +11,9 @@ use Rattle.cancel_scopes.specs.Sight.{Tick, Level, earlier, is_reached, sight, s
 use Rattle.job_tree.specs.declared.object.Ask.TheVariants.{Acquire, Send, Receive}
 use Rattle.job_meaning.specs.Log.{Log, nil, entry, waited, sign, entered, Act, act, task, followed_by, Member, Result, Entry, was_granted}
 use Rattle.job_meaning.specs.Sharing.{What, a_token, was_sent, a_part, closed_resource, end_of_channel, Granted, granted_if}
-use Rattle.job_meaning.specs.Moments.{tick_of, a_round_after, far, wakes_at, gives_up_at, Now, only_at}
+use Rattle.job_meaning.specs.Moments.{tick_of, a_round_after, wakes_at, gives_up_at, Now, only_at}
 use Rattle.job_meaning.specs.declared.clock.Clock.{Clock}
-use Rattle.job_meaning.proofs.MomentLemmas.{round_after, wakes_after, gives_up_after}
+use Rattle.job_meaning.proofs.MomentLemmas.{round_after, wakes_after, gives_up_after, last_grant_later}
 use Rattle.job_meaning.proofs.Ticks.{lowering_shows}
 use Rattle.job_meaning.specs.Laws.{AtMost, Lowered}
 use Rattle.job_meaning.specs.Walk.{Levels, Stack, Mode, grants_in, Here, walk, walk_step, walk_handler, walk_cleanup, done_at, raised_at, now_of, in_sequence, and_then, then_if, wait_by_sight, sleep_result, pace_result, wait_until, set_moment, wait_by, with_line_if, with_line, event_wait, log_of_lines, lines_result, raise_result, need_result, cancel_result, set_result, is_among, stack_for, Kind, from_of, block, event_block, with_act, close_result, with_token_back, last_grant, leaves_queue, in_time, left_result, goes_on, granted_result, asked_result, asks_in, ask_result, with_sign, sign_if, home_of, latest, nursery_result, child, each, passes, handler_result, handler_for, handler_if_any, cleanup_result}
@@ -329,7 +329,7 @@ unseen_for own m ls e = by_cases (seen ls m) (λ h. lowering_shows ls (stack_for
 
 -- no wait for a limiter or channel ends before it begins
 pub last_after : (clock : Clock) (m : ℕ) → m ≤ last_grant clock m
-last_after clock m = omega (arith, round_after clock m, wakes_after clock (far - tick_of clock m) m)
+last_after clock m = omega (arith, last_grant_later clock m)
 
 -- where no cancellation is seen, a task leaves the queue no earlier than it asked
 pub leaves_after : (from : Tick) (m last : ℕ) → is_reached from m ≡ false → m ≤ last → m ≤ leaves_queue from last

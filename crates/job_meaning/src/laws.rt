@@ -69,8 +69,8 @@ pub fn law_upgrade()
 {}
 
 /// Every job whose numbers are in their ranges ends by the last tick: `forever` sleeps until tick two to the 40, and a job has at
-/// most a million step instances. No wait for a limiter or channel lasts longer than `forever`. So a run that has no other limit
-/// always ends, and its tables are complete.
+/// most a million step instances. A wait for a limiter or channel ends when `forever` does, or else in the next moment. So a run that
+/// has no other limit always ends, and its tables are complete.
 pub fn law_end()
     ensures { EndsByTheLastTick }
 {}

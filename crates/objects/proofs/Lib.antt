@@ -5,3 +5,5 @@ pub mod Waiting
 pub mod TokenLemmas
 pub mod PartLemmas
 pub mod LentLemmas
+pub mod QueueLemmas
+pub mod ServeLemmas

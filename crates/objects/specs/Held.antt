@@ -182,10 +182,14 @@ PassesAll test tickets = All (λ (ticket : Ticket). test ticket ≡ true) ticket
 abbrev pub sender_of : held_sender.Sender → Ticket
 sender_of s = s.who
 
--- each ticket in the queues of an object passes a test
+-- each ticket in the queues of a channel passes a test
+abbrev pub AreInQueuesBy : (Ticket → Bool) → held_channel.Channel → Type 0
+AreInQueuesBy test c = PassesAll test (map sender_of c.senders.items) × PassesAll test c.receivers.items
+
+-- and in those of an object
 abbrev pub AreQueuedBy : (Ticket → Bool) → held_object.Object → Type 0
 AreQueuedBy test (objects.Limiter l) = PassesAll test l.waiting.items
-AreQueuedBy test (objects.Channel c) = PassesAll test (map sender_of c.senders.items) × PassesAll test c.receivers.items
+AreQueuedBy test (objects.Channel c) = AreInQueuesBy test c
 
 -- and so does the ticket of who asks
 abbrev pub IsAskedBy : (Ticket → Bool) → Operation → Type 0

@@ -1,9 +1,9 @@
-ghost use Rattle.std.specs.Prelude.{◌≡◌, Bool, List, ℕ, [], ◌∷◌, OnOk, map};
+ghost use Rattle.std.specs.Prelude.{◌≡◌, Bool, true, List, ℕ, [], ◌∷◌, OnOk, map};
 ghost use Rattle.std.specs.List.{filter};
 ghost use Rattle.input_lines.specs.Part.{buffer_of, range_of};
 ghost use Rattle.std.specs.Option.{ForSome, option_map};
 ghost use Rattle.objects.specs.Channels.{new_channel, put_part, send_to, meet_sender, await_part, receive_with, close_of, refuse_senders, end_receivers};
-ghost use Rattle.objects.specs.Held.{channel_in, sender_in, part_of, gets_by, waits_to_send, refilled, AreGivenOf, AreGranted, AreOf, IsOf, PartsServed, StaysOf, TakesFirst};
+ghost use Rattle.objects.specs.Held.{channel_in, sender_in, sender_of, part_of, gets_by, waits_to_send, refilled, AreGivenOf, AreGranted, AreInQueuesBy, AreOf, IsOf, PartsServed, PassesAll, StaysOf, TakesFirst};
 ghost use Rattle.objects.specs.declared.ticket.Ticket.{Ticket as TicketOf};
 
 use crate::given::{Given, Grant, give};
@@ -35,6 +35,7 @@ impl<'a> Channel<'a> {
     // Returns an open channel whose buffer has this number of places and is empty. Takes no memory.
     pub(crate) fn new(alloc: Global, places: u64) -> Channel<'a>
         ensures new { (waits : TicketOf → Bool) → channel_in waits result ≡ new_channel places }
+        ensures queued { (test : TicketOf → Bool) → AreInQueuesBy test result }
         ensures lent { (input : List ℕ) → IsOf input result }
     {
         Channel {
@@ -57,6 +58,7 @@ impl<'a> Channel<'a> {
     ) -> Result<(), AllocError>
         ensures serves { OnOk result (PartsServed (Q.waits queues.now)
             (send_to (channel_in (Q.waits queues.now) self.old) who (range_of part.entry)) self.new given.old.items given.new.items) }
+        ensures queued { OnOk result ((test : TicketOf → Bool) → AreInQueuesBy test self.old → test who ≡ true → AreInQueuesBy test self.new) }
         ensures lent { OnOk result (StaysOf (buffer_of part.entry ∷ []) self.old self.new given.old.items given.new.items) }
     {
         if self.is_closed {
@@ -78,6 +80,7 @@ impl<'a> Channel<'a> {
     ) -> Result<(), AllocError>
         ensures serves { OnOk result ((waits : TicketOf → Bool) → PartsServed waits
             (put_part (channel_in waits self.old) who (range_of part.entry)) self.new given.old.items given.new.items) }
+        ensures queued { OnOk result ((test : TicketOf → Bool) → AreInQueuesBy test self.old → test who ≡ true → AreInQueuesBy test self.new) }
         ensures lent { OnOk result (StaysOf (buffer_of part.entry ∷ []) self.old self.new given.old.items given.new.items) }
     {
         if self.buffer.len() as u64 >= self.places {
@@ -99,6 +102,7 @@ impl<'a> Channel<'a> {
         ensures serves { OnOk result (PartsServed (Q.waits queues.now)
             (receive_with (channel_in (Q.waits queues.now) self.old) (channel_in (Q.waits queues.now) self.old).buffer who) self.new
             given.old.items given.new.items) }
+        ensures queued { OnOk result ((test : TicketOf → Bool) → AreInQueuesBy test self.old → test who ≡ true → AreInQueuesBy test self.new) }
         ensures lent { OnOk result (StaysOf [] self.old self.new given.old.items given.new.items) }
     {
         let Some(part) = self.buffer.pop_front() else {
@@ -117,6 +121,7 @@ impl<'a> Channel<'a> {
         ensures serves { OnOk result (PartsServed (Q.waits queues.now)
             (refilled (channel_in (Q.waits queues.now) self.old) (channel_in (Q.waits queues.now) self.old).senders) self.new
             given.old.items given.new.items) }
+        ensures queued { OnOk result ((test : TicketOf → Bool) → AreInQueuesBy test self.old → AreInQueuesBy test self.new) }
         ensures lent { OnOk result (StaysOf [] self.old self.new given.old.items given.new.items) }
     {
         let Some(sender) = next_sender(&mut self.senders, queues) else {
@@ -136,6 +141,7 @@ impl<'a> Channel<'a> {
         ensures serves { OnOk result (PartsServed (Q.waits queues.now)
             (meet_sender (channel_in (Q.waits queues.now) self.old) (channel_in (Q.waits queues.now) self.old).senders who) self.new
             given.old.items given.new.items) }
+        ensures queued { OnOk result ((test : TicketOf → Bool) → AreInQueuesBy test self.old → test who ≡ true → AreInQueuesBy test self.new) }
         ensures lent { OnOk result (StaysOf [] self.old self.new given.old.items given.new.items) }
     {
         let Some(sender) = next_sender(&mut self.senders, queues) else {
@@ -149,6 +155,7 @@ impl<'a> Channel<'a> {
     fn await_part(&mut self, who: Ticket, given: &mut Vec<Given<'a>>) -> Result<(), AllocError>
         ensures serves { OnOk result ((waits : TicketOf → Bool) → PartsServed waits
             (await_part (channel_in waits self.old) who) self.new given.old.items given.new.items) }
+        ensures queued { OnOk result ((test : TicketOf → Bool) → AreInQueuesBy test self.old → test who ≡ true → AreInQueuesBy test self.new) }
         ensures lent { OnOk result (StaysOf [] self.old self.new given.old.items given.new.items) }
     {
         if self.is_closed {
@@ -166,6 +173,7 @@ impl<'a> Channel<'a> {
     ) -> Result<(), AllocError>
         ensures serves { OnOk result (PartsServed (Q.waits queues.now)
             (close_of (channel_in (Q.waits queues.now) self.old)) self.new given.old.items given.new.items) }
+        ensures queued { OnOk result ((test : TicketOf → Bool) → AreInQueuesBy test self.old → AreInQueuesBy test self.new) }
         ensures lent { OnOk result (StaysOf [] self.old self.new given.old.items given.new.items) }
     {
         self.is_closed = true;
@@ -178,6 +186,7 @@ impl<'a> Channel<'a> {
 fn next_sender<'a, Q: Queues>(senders: &mut VecDeque<Sender<'a>>, queues: &Q) -> Option<Sender<'a>>
     ensures first { TakesFirst (filter (waits_to_send (Q.waits queues.now)) (map sender_in senders.old.items)) (option_map sender_in result)
         (filter (waits_to_send (Q.waits queues.now)) (map sender_in senders.new.items)) }
+    ensures queued { (test : TicketOf → Bool) → PassesAll test (map sender_of senders.old.items) → PassesAll test (map sender_of senders.new.items) }
     ensures lent { (input : List ℕ) → AreOf input (map part_of senders.old.items) →
         AreOf input (map part_of senders.new.items) × ForSome result (λ sender. buffer_of sender.part ≡ input) }
 {
@@ -198,6 +207,8 @@ fn refuse_senders<'a, Q: Queues>(
     ensures empty { OnOk result (filter (waits_to_send (Q.waits queues.now)) (map sender_in senders.new.items) ≡ []) }
     ensures granted { OnOk result (AreGranted (map gets_by (refuse_senders (filter (waits_to_send (Q.waits queues.now)) (map sender_in senders.old.items))))
         given.old.items given.new.items) }
+    ensures queued { OnOk result ((test : TicketOf → Bool) → PassesAll test (map sender_of senders.old.items) →
+        PassesAll test (map sender_of senders.new.items)) }
     ensures lent { OnOk result ((input : List ℕ) → AreOf input (map part_of senders.old.items) → AreGivenOf input given.old.items →
         AreOf input (map part_of senders.new.items) × AreGivenOf input given.new.items) }
 {
@@ -216,6 +227,7 @@ fn end_receivers<'a, Q: Queues>(
     ensures empty { OnOk result (filter (Q.waits queues.now) receivers.new.items ≡ []) }
     ensures granted { OnOk result (AreGranted (map gets_by (end_receivers (filter (Q.waits queues.now) receivers.old.items)))
         given.old.items given.new.items) }
+    ensures queued { OnOk result ((test : TicketOf → Bool) → PassesAll test receivers.old.items → PassesAll test receivers.new.items) }
     ensures lent { OnOk result ((input : List ℕ) → AreGivenOf input given.old.items → AreGivenOf input given.new.items) }
 {
     'receivers: while let Some(who) = next_waiting(receivers, queues) {

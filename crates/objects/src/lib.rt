@@ -17,5 +17,5 @@ mod ticket;
 
 pub use given::{Given, Grant};
 pub use laws::{law_channels, law_limiters};
-pub use object::{Operation, Object};
+pub use object::{Object, Operation};
 pub use ticket::{Queues, Ticket};

@@ -1,7 +1,7 @@
-ghost use Rattle.std.specs.Prelude.{◌≡◌, ℕ, ◌+◌, Bool, List, [], ◌∷◌, OnOk};
+ghost use Rattle.std.specs.Prelude.{◌≡◌, ℕ, ◌+◌, Bool, true, List, [], ◌∷◌, OnOk};
 ghost use Rattle.std.specs.List.{filter};
 ghost use Rattle.objects.specs.Limiters.{acquire_of, give_back_to, new_limiter};
-ghost use Rattle.objects.specs.Held.{limiter_in, AreGivenOf, TakesFirst, TokensServed};
+ghost use Rattle.objects.specs.Held.{limiter_in, AreGivenOf, PassesAll, TakesFirst, TokensServed};
 ghost use Rattle.objects.specs.declared.ticket.Ticket.{Ticket as TicketOf};
 
 use crate::given::{Given, Grant, give};
@@ -19,7 +19,8 @@ pub struct Limiter {
 impl Limiter {
     // Returns a limiter with this number of tokens, which are free. Takes no memory.
     pub(crate) fn new(alloc: Global, tokens: u64) -> Limiter
-        ensures { (waits : TicketOf → Bool) → limiter_in waits result ≡ new_limiter tokens }
+        ensures new { (waits : TicketOf → Bool) → limiter_in waits result ≡ new_limiter tokens }
+        ensures queued { (test : TicketOf → Bool) → PassesAll test result.waiting.items }
     {
         Limiter {
             free: tokens,
@@ -35,6 +36,8 @@ impl Limiter {
     ) -> Result<(), AllocError>
         ensures serves { OnOk result ((waits : TicketOf → Bool) → TokensServed waits
             (acquire_of (limiter_in waits self.old).free (limiter_in waits self.old).waiting who) self.new given.old.items given.new.items) }
+        ensures queued { OnOk result ((test : TicketOf → Bool) → PassesAll test self.old.waiting.items → test who ≡ true →
+            PassesAll test self.new.waiting.items) }
         ensures lent { OnOk result ((input : List ℕ) → AreGivenOf input given.old.items → AreGivenOf input given.new.items) }
     {
         if self.free == 0 {
@@ -54,6 +57,7 @@ impl Limiter {
         ensures serves { OnOk result (TokensServed (Q.waits queues.now)
             (give_back_to (limiter_in (Q.waits queues.now) self.old).free (limiter_in (Q.waits queues.now) self.old).waiting) self.new
             given.old.items given.new.items) }
+        ensures queued { OnOk result ((test : TicketOf → Bool) → PassesAll test self.old.waiting.items → PassesAll test self.new.waiting.items) }
         ensures lent { OnOk result ((input : List ℕ) → AreGivenOf input given.old.items → AreGivenOf input given.new.items) }
     {
         let Some(who) = next_waiting(&mut self.waiting, queues) else {
@@ -76,7 +80,8 @@ impl Limiter {
 
 // Takes the first that still waits, if there is one, and those before it.
 pub(crate) fn next_waiting<Q: Queues>(waiting: &mut VecDeque<Ticket>, queues: &Q) -> Option<Ticket>
-    ensures { TakesFirst (filter (Q.waits queues.now) waiting.old.items) result (filter (Q.waits queues.now) waiting.new.items) }
+    ensures first { TakesFirst (filter (Q.waits queues.now) waiting.old.items) result (filter (Q.waits queues.now) waiting.new.items) }
+    ensures queued { (test : TicketOf → Bool) → PassesAll test waiting.old.items → PassesAll test waiting.new.items }
 {
     'tickets: while let Some(ticket) = waiting.pop_front() {
         if queues.waits(ticket) {

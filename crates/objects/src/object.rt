@@ -1,6 +1,6 @@
 ghost use Rattle.std.specs.Prelude.{◌≡◌, ℕ, Bool, List, OnOk};
 ghost use Rattle.objects.specs.Channels.{after_acts as after_parts};
-ghost use Rattle.objects.specs.Held.{channel_in, limiter_in, object_in, new_object, to_channel, to_limiter, AreGivenOf, AreQueuedBy, IsOperationOf, IsObjectOf, IsOf, PartsServed, Serves, TokensServed};
+ghost use Rattle.objects.specs.Held.{channel_in, limiter_in, object_in, new_object, to_channel, to_limiter, AreGivenOf, AreInQueuesBy, AreQueuedBy, IsAskedBy, IsOperationOf, IsObjectOf, IsOf, PartsServed, PassesAll, Serves, TokensServed};
 ghost use Rattle.objects.specs.Limiters.{after_acts as after_tokens};
 ghost use Rattle.objects.specs.declared.ticket.Ticket.{Ticket as TicketOf};
 
@@ -81,6 +81,8 @@ fn serve_tokens<'a, Q: Queues>(
 ) -> Result<(), AllocError>
     ensures serves { OnOk result (TokensServed (Q.waits queues.now)
         (after_tokens (limiter_in (Q.waits queues.now) limiter.old) (to_limiter operation.entry)) limiter.new given.old.items given.new.items) }
+    ensures queued { OnOk result ((test : TicketOf → Bool) → PassesAll test limiter.old.waiting.items → IsAskedBy test operation.entry →
+        PassesAll test limiter.new.waiting.items) }
     ensures lent { OnOk result ((input : List ℕ) → AreGivenOf input given.old.items → AreGivenOf input given.new.items) }
 {
     match operation {
@@ -103,6 +105,8 @@ fn serve_parts<'a, Q: Queues>(
 ) -> Result<(), AllocError>
     ensures serves { OnOk result (PartsServed (Q.waits queues.now)
         (after_parts (channel_in (Q.waits queues.now) channel.old) (to_channel operation.entry)) channel.new given.old.items given.new.items) }
+    ensures queued { OnOk result ((test : TicketOf → Bool) → AreInQueuesBy test channel.old → IsAskedBy test operation.entry →
+        AreInQueuesBy test channel.new) }
     ensures lent { OnOk result ((input : List ℕ) → IsOperationOf input operation.entry → IsOf input channel.old → AreGivenOf input given.old.items →
         IsOf input channel.new × AreGivenOf input given.new.items) }
 {

@@ -8,3 +8,9 @@ returns-clause-lent g c =
     let refused = c.in_ok-refuse_senders.ensures.lent input old.1 given in
     ((old.0, refused.0), ended input refused.1))
     c.end_receivers.ensures.lent
+
+pub returns-clause-queued : goal.returns-clause-queued
+returns-clause-queued g c =
+    on_ok_weaker c.end_receivers.result
+    (λ queued test old. (c.in_ok-refuse_senders.ensures.queued test old.0, queued test old.1))
+    c.end_receivers.ensures.queued

@@ -25,3 +25,11 @@ returns-clause-lent g c =
     let first = given_more input _ _ _ c.in_ok-give.ensures (queue.1 c.in-Some.sender refl) given in
     ((old.0, queue.0), given_more input _ _ _ more tt first))
     c.give-2.ensures
+
+pub returns-in_default-clause-queued : goal.returns-in_default-clause-queued
+returns-in_default-clause-queued g c =
+    on_ok_weaker c.await_part.result (λ queued test old. queued test (c.next_sender.ensures.queued test old.0, old.1)) c.await_part.ensures.queued
+
+pub returns-clause-queued : goal.returns-clause-queued
+returns-clause-queued g c =
+    on_ok_weaker c.give-2.result (λ more test old passes. (c.in-Some.ensures.queued test old.0, old.1)) c.give-2.ensures

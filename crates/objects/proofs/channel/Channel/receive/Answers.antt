@@ -17,3 +17,6 @@ returns-clause-lent g c =
     let buffer = subst (AreOf input) c.in-Some.ensures.items old.0 in
     stays input inputs (buffer.1, old.1) (given_more input _ _ _ c.in_ok-give.ensures buffer.0 given))
     c.refill.ensures.lent
+
+pub returns-clause-queued : goal.returns-clause-queued
+returns-clause-queued g c = on_ok_weaker c.refill.result (λ queued test old passes. queued test old) c.refill.ensures.queued

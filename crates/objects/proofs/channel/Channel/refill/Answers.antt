@@ -25,3 +25,10 @@ returns-clause-lent g c =
     let queue = c.in-Some.ensures.lent input old.1 in
     ((lent_more input _ _ _ c.in_ok-push_back.ensures.items (queue.1 c.in-Some.sender refl) old.0, queue.0), given_more input _ _ _ more tt given))
     c.give.ensures
+
+pub returns-in_default-clause-queued : goal.returns-in_default-clause-queued
+returns-in_default-clause-queued g c test old = (c.next_sender.ensures.queued test old.0, old.1)
+
+pub returns-clause-queued : goal.returns-clause-queued
+returns-clause-queued g c =
+    on_ok_weaker c.give.result (λ more test old. (c.in-Some.ensures.queued test old.0, old.1)) c.give.ensures

@@ -16,7 +16,7 @@ pub returns-clause-serves : goal.returns-clause-serves
 returns-clause-serves g c =
     on_ok_weaker c.give-3.result
     (part_passed (g.Q.Queues.waits c.args.queues.now) c.args.self.now _ c.in-Some.receiver c.args.who c.args.part _ _ _ c.if-self.false
-    c.in-Some.ensures refl refl refl refl c.in_ok-give.ensures)
+    c.in-Some.ensures.first refl refl refl refl c.in_ok-give.ensures)
     c.give-3.ensures
 
 pub returns-clause-lent : goal.returns-clause-lent
@@ -24,3 +24,11 @@ returns-clause-lent g c =
     on_ok_weaker c.give-3.result
     (λ more input part old given. (old, given_more input _ _ _ more tt (given_more input _ _ _ c.in_ok-give.ensures part.0 given)))
     c.give-3.ensures
+
+pub returns-in_default-clause-queued : goal.returns-in_default-clause-queued
+returns-in_default-clause-queued g c =
+    on_ok_weaker c.put.result (λ queued test old. queued test (old.0, c.next_waiting.ensures.queued test old.1)) c.put.ensures.queued
+
+pub returns-clause-queued : goal.returns-clause-queued
+returns-clause-queued g c =
+    on_ok_weaker c.give-3.result (λ more test old passes. (old.0, c.in-Some.ensures.queued test old.1)) c.give-3.ensures
