@@ -56,3 +56,4 @@ pub record IsNewRunState (job : Job) (input : List ℕ) (state : RunState) : Typ
   pub object : (l : Label) → state.object l ≡ None
   pub round : state.round ≡ []
   pub granted : (p : ℕ) → state.granted p ≡ None
+  pub grants : (object asker : Label) (u : ℕ) → state.grants object asker u ≡ None

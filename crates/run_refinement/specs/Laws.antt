@@ -1,13 +1,13 @@
 -- The laws of the tasks of the program. They are the contract of a function that does nothing.
 use Rattle.std.specs.Prelude.{◌≡◌, ℕ, suc, ◌+◌, ◌*◌, ◌<◌, ◌≤◌, Option, Some, None, IsSome, List, [], ◌∷◌, length}
 use Rattle.turn_semantics.specs.Lists.{IsAmong}
-use Rattle.exceptions.specs.Exceptions.{Exc}
+use Rattle.exceptions.specs.Exceptions.{Label, Exc}
 use Rattle.job_tree.specs.Tree.{Tree as Job}
 use Rattle.job_tree.specs.InRange.{IsInRange}
 use Rattle.job_tree.specs.Names.{GivesNamesOnce, size_of}
 use Rattle.job_tree.specs.Starting.{StartsInNurseries}
 use Rattle.job_meaning.specs.Moments.{clock_of, tick_of}
-use Rattle.job_meaning.specs.Meaning.{meaning_end}
+use Rattle.job_meaning.specs.Meaning.{meaning_end, meaning_grants}
 use Rattle.job_meaning.specs.declared.limits.TheConstants.{MAX_INPUT}
 use Rattle.turn_semantics.specs.Midway.{Tables}
 use Rattle.interleavings.specs.Laws.{IsSettledBy, meaning_tables}
@@ -91,6 +91,13 @@ RunStatesGoOn =
     (k : Tables) (job : Job) (input : List ℕ) (t m : ℕ) (state : RunState) → IsSettledBy k job input → GivesNamesOnce job → StartsInNurseries job →
     Refines k job input t m None state →
     (u : ℕ) → AllStay state u → (s : ℕ) (task : Task) → state.task s ≡ Some task → HasNext state
+
+-- When all tasks have ended, and what they did is served, all that was granted is what the limiters and channels of the meaning grant.
+abbrev pub GrantsAreTheMeaning : Type 0
+GrantsAreTheMeaning =
+    (job : Job) (input : List ℕ) → GivesNamesOnce job → StartsInNurseries job → (t m : ℕ) (state : RunState) →
+    Refines (meaning_tables job input) job input t m None state → state.through ≡ suc t → ((p : ℕ) → state.task p ≡ None) →
+    (object asker : Label) (u : ℕ) → state.grants object asker u ≡ meaning_grants job input object asker u
 
 -- While a task has not ended, the job does not end before the present tick.
 abbrev pub RunStatesAreInTime : Type 0

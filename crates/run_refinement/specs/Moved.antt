@@ -1,7 +1,10 @@
 -- The tasks of the program when the clock jumps, or when started tasks, events that were set, what was done to limiters and channels, or
 -- changed scopes are taken from the world: nothing else changes.
 use Rattle.std.specs.Prelude.{◌≡◌, ℕ, suc, Option, Some, None, List, []}
+use Rattle.std.specs.Borrow.{Bor}
 use Rattle.std.specs.Option.{option_map}
+use Rattle.job_tree.specs.Tree.{Steps}
+use Rattle.job_tree.specs.declared.object.Ask.{Ask}
 use Rattle.exceptions.specs.Exceptions.{Label}
 use Rattle.objects.specs.Held.{object_in}
 use Rattle.objects.specs.Whats.{What}
@@ -28,6 +31,7 @@ pub record SameObjects (old new : RunState) : Type 0 where
   pub object : (l : Label) → new.object l ≡ old.object l
   pub round : new.round ≡ old.round
   pub granted : (p : ℕ) → new.granted p ≡ old.granted p
+  pub grants : (object asker : Label) (u : ℕ) → new.grants object asker u ≡ old.grants object asker u
 
 -- what is granted to a task by what these acts did to the limiter or channel that it asked, which has this label
 abbrev pub granted_by : RunState → ℕ → List RoundAct → ℕ → ℕ → Option Label → Option What
@@ -43,6 +47,15 @@ abbrev pub granted_to : RunState → ℕ → List RoundAct → ℕ → Option Ta
 granted_to state t round s None = None
 granted_to state t round s (Some task) = granted_for state t round s task.task_state
 
+-- a task waits for what it asked of the limiter or channel of a label in a moment
+pub record WaitsFor (world : World) (task : Task) (object asker : Label) (u : ℕ) : Type 0 where
+  pub key : ℕ
+  pub ask : Ask
+  pub body : Bor Steps
+  pub task_state : task.task_state ≡ Queued key ask u body
+  pub labelled : label_at world key ≡ Some object
+  pub is : task.label ≡ asker
+
 -- What was done to limiters and channels in this moment is served, in the order of records, and it is known what is granted by that in the
 -- next one.
 pub record ServesRound (t : ℕ) (old new : RunState) : Type 0 where
@@ -57,6 +70,12 @@ pub record ServesRound (t : ℕ) (old new : RunState) : Type 0 where
   pub asked : (l : Label) → AreAskedBefore (suc t) (new.object l)
   pub round : new.round ≡ []
   pub granted : (s : ℕ) → new.granted s ≡ granted_to old t ordered s (old.task s)
+  -- it is recorded, and all else that was granted stays
+  pub recorded : (s : ℕ) (task : Task) (object asker : Label) (u : ℕ) (w : What) → old.task s ≡ Some task →
+      WaitsFor old.world task object asker u → new.granted s ≡ Some w → new.grants object asker u ≡ Some (record { at = suc t; what = w })
+  pub kept : (object asker : Label) (u : ℕ) →
+      ((s : ℕ) (task : Task) → old.task s ≡ Some task → WaitsFor old.world task object asker u → new.granted s ≡ None) →
+      new.grants object asker u ≡ old.grants object asker u
 
 -- the clock jumps from a moment in which all was served to a later one
 pub record PassesOn (t u : ℕ) (old new : RunState) : Type 0 where
@@ -66,6 +85,7 @@ pub record PassesOn (t u : ℕ) (old new : RunState) : Type 0 where
   pub round : new.round ≡ []
   pub none_done : old.round ≡ []
   pub granted : (s : ℕ) → new.granted s ≡ old.granted s
+  pub grants : (object asker : Label) (u : ℕ) → new.grants object asker u ≡ old.grants object asker u
 
 -- the world with another moment, other tasks that were started, events that were set and acts on limiters and channels that were not
 -- taken, and other scopes marked as changed

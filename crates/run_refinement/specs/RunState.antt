@@ -36,7 +36,7 @@ use Rattle.task_machine.specs.Tasks.{home_of, home_scope}
 use Rattle.task_machine.specs.Waking.{IsInRangeTaskState}
 use Rattle.task_machine.specs.Worlds.{label_at, event_at}
 use Rattle.turn_semantics.specs.Midway.{Tables, label_among}
-use Rattle.job_meaning.specs.Sharing.{by_moment, unopened, granted_before}
+use Rattle.job_meaning.specs.Sharing.{Grants, by_moment, unopened, granted_before}
 use Rattle.objects.specs.Held.{object_in}
 use Rattle.objects.specs.declared.object.Object.{Object}
 use Rattle.objects.specs.Whats.{What}
@@ -77,7 +77,8 @@ pub record EndedTask : Type 0 where
 
 -- The world of a run, how many turns its tasks had, and by its serial number each task that has not ended, and what is kept of
 -- each that has, with the tick in which each was started, the serial numbers of its children in order, and those from the root to it. Of
--- limiters and channels: the moment up to which they have served what was done to them; each of them by its label; what was done to them since, in the order of turns; and what was granted to each task that goes on in that moment.
+-- limiters and channels: the moment up to which they have served what was done to them; each of them by its label; what was done to them
+-- since, in the order of turns; what was granted to each task that goes on in that moment; and all that was granted up to it.
 pub record RunState : Type 0 where
   pub world : World
   pub turns : ℕ
@@ -90,6 +91,7 @@ pub record RunState : Type 0 where
   pub object : Label → Option Object
   pub round : List RoundAct
   pub granted : ℕ → Option What
+  pub grants : Grants
 
 -- ---- one task
 
@@ -258,6 +260,9 @@ pub record Shares (state : RunState) (tasks : List Started) (at : ℕ → Starte
       SameObject at state.through (option_map (object_in (waits_in state.task)) (state.object l)) (object_after unopened (by_moment (done_before state.through (acts_of_all l taken))))
   pub granted : (taken : List Started) → InOrder tasks (0 ∷ []) taken → (s : ℕ) → s < m → GrantedAt state taken s (at s) (at s).rest.stopped
   pub ungranted : (s : ℕ) → m ≤ s → state.granted s ≡ None
+  -- all that was granted up to that moment
+  pub grants : (taken : List Started) → InOrder tasks (0 ∷ []) taken → (object asker : Label) (u : ℕ) →
+      state.grants object asker u ≡ granted_before (suc state.through) (granted_so_far taken object asker u)
   -- only tasks of the run did something since
   pub known : (a : RoundAct) → IsAmong a state.round → a.serial < m
   -- who is in a queue asked before that moment

@@ -91,6 +91,7 @@ pub record TakesTurn (t m s : ℕ) (old new : RunState) (before after : Task) (w
   pub round_after : new.round ≡ old.round ++ (map (round_act s) new.world.acts.items ++ asked_by s after (label_at new.world) stop)
   pub granted_after : (p : ℕ) → p ≢ s → new.granted p ≡ old.granted p
   pub granted_task : new.granted s ≡ None
+  pub grants_after : (object asker : Label) (u : ℕ) → new.grants object asker u ≡ old.grants object asker u
 
 -- ---- what a stop says
 

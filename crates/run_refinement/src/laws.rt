@@ -2,6 +2,7 @@
 
 ghost use Rattle.std.specs.Prelude.{◌≡◌};
 ghost use Rattle.run_refinement.specs.Laws.{
+  GrantsAreTheMeaning,
   RunStatesAreInTime,
   RunStatesBegin,
   RunStatesEnd,
@@ -31,7 +32,8 @@ ghost use Rattle.run_refinement.specs.Laws.{
 ///   which no task continues. One has a moment in which it continues then, if one has not ended.
 /// * While a task has not ended, the job does not end before the present tick. There are at most twice as many turns as the
 ///   job has steps, plus one, and at most as many tasks that have not ended.
-/// * When all tasks have ended, what is kept of them is the records, the moments of cancellation and the end that the job means.
+/// * When all tasks have ended, what is kept of them is the records, the moments of cancellation and the end that the job means,
+///   and what was granted is what its limiters and channels grant.
 pub fn law_states()
     ensures begin { RunStatesBegin }
     ensures fit { TasksFit }
@@ -46,4 +48,5 @@ pub fn law_states()
     ensures turns { TurnsAreFew }
     ensures tasks { TasksAreFew }
     ensures over { RunStatesEnd }
+    ensures grants { GrantsAreTheMeaning }
 {}

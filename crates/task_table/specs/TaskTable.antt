@@ -18,6 +18,7 @@ use Rattle.task_machine.specs.Standing.{TurnsAs}
 use Rattle.task_machine.specs.Waking.{IsInRangeTaskState, WakesFrom}
 use Rattle.task_machine.specs.Waiters.{KeepsRest}
 use Rattle.exceptions.specs.Exceptions.{Label}
+use Rattle.job_meaning.specs.Sharing.{Grants}
 use Rattle.objects.specs.Whats.{What}
 use Rattle.objects.specs.declared.object.Object.{Object}
 use Rattle.run_refinement.specs.RunState.{RunState, EndedTask}
@@ -116,6 +117,7 @@ pub record Sharing : Type 0 where
   pub object : Label → Option Object
   pub round : List RoundAct
   pub granted : ℕ → Option What
+  pub grants : Grants
 
 -- the tasks of the program in this world, after the given number of turns
 abbrev pub run_state : TaskTable → World → ℕ → Sharing → RunState
@@ -132,6 +134,7 @@ run_state r world turns shared =
       object = shared.object;
       round = shared.round;
       granted = shared.granted;
+      grants = shared.grants;
     }
 
 -- ---- rows and ids agree
