@@ -2,7 +2,7 @@
 use Rattle.std.specs.Prelude.{ℕ, ◌-◌, ◌==◌, Bool, true, false, ◌&&◌, ◌||◌, Option, Some, None, List, [], ◌∷◌, ◌++◌, nat_le, nat_lt, is_some, replicate, if◌then◌else◌}
 use Rattle.job_meaning.specs.Clocks.{tick_of}
 use Rattle.job_meaning.specs.declared.clock.Clock.{Clock}
-use Rattle.job_story.specs.Story.{is_cancelled, misses, raises, sets}
+use Rattle.job_story.specs.Story.{is_cancelled, misses, raises, sets, finds_closed, deadlocks, closes_channel}
 use Rattle.job_story.specs.Events.{What, starts, happens, Event}
 use Rattle.chart.specs.Bars.{Bar}
 use Rattle.chart.specs.Columns.{Column, gap_less_to}
@@ -27,15 +27,18 @@ abbrev pub is_cross : What → Bool
 is_cross (happens (is_cancelled by during in_cleanup)) = true
 is_cross _ = false
 
--- whether the event is that a task raises an exception, by `raise` or by a `need` that finds no line
+-- whether the event is that a task raises an exception: by `raise`, by a `need` that finds no line, or in the queue of a limiter or channel
 abbrev pub is_dot : What → Bool
 is_dot (happens (misses name)) = true
 is_dot (happens (raises name)) = true
+is_dot (happens (finds_closed ask object at_once)) = true
+is_dot (happens (deadlocks ask object)) = true
 is_dot _ = false
 
--- whether the event is that a task sets an event of the job
+-- whether the event is that a task sets an event of the job, or closes a channel
 abbrev pub is_plus : What → Bool
 is_plus (happens (sets label)) = true
+is_plus (happens (closes_channel object)) = true
 is_plus _ = false
 
 -- the ticks of the events of a kind

@@ -43,7 +43,7 @@ pub(crate) struct Row {
     pub crosses: Vec<u64>,
     // The ticks at which it raises an exception.
     pub dots: Vec<u64>,
-    // The ticks at which it sets an event of the job.
+    // The ticks at which it sets an event of the job or closes a channel.
     pub pluses: Vec<u64>,
 }
 
@@ -129,7 +129,7 @@ fn push_dots(ticks: &mut Vec<u64>, clock: Clock, events: &[&Event]) -> Result<()
     Ok(())
 }
 
-// Appends the tick of each event with which a task sets an event of the job.
+// Appends the tick of each event with which a task sets an event of the job or closes a channel.
 fn push_pluses(ticks: &mut Vec<u64>, clock: Clock, events: &[&Event]) -> Result<(), AllocError>
     ensures { OnOk result (ticks.new.items ≡ ticks.old.items ++ ticks_where clock is_plus (map event_in events.now)) }
 {

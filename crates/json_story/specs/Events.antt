@@ -1,15 +1,19 @@
 -- The events of a story as JSON objects. Each has its `event`, its `task` and its `tick`, and its data under the names in this
 -- file. Each number that says when something happens is a tick.
-use Rattle.std.specs.Prelude.{ℕ, ◌+◌, Option, Some, None, List, map, codes, if◌then◌else◌}
+use Rattle.std.specs.Prelude.{ℕ, ◌+◌, is_some, Option, Some, None, List, map, codes, if◌then◌else◌}
 use Rattle.serde_json.specs.Data.{Data, null, boolean, object, Members, no_members, member, put}
 use Rattle.input_lines.specs.Lines.{Span}
+use Rattle.job_tree.specs.declared.object.Ask.{Ask}
+use Rattle.job_tree.specs.declared.object.ObjectKind.{ObjectKind}
+use Rattle.job_tree.specs.declared.object.ObjectKind.TheVariants.{Limiter, Channel}
+use Rattle.job_report.specs.Text.{ask_word}
 use Rattle.exceptions.specs.Exceptions.{Label, Exc}
 use Rattle.cancel_scopes.specs.Sight.{Tick}
 use Rattle.job_meaning.specs.Log.{Table}
 use Rattle.job_meaning.specs.Moments.{tick_of}
 use Rattle.job_meaning.specs.declared.clock.Clock.{Clock}
 use Rattle.job_meaning.specs.Walk.{Kind, a_scope, a_nursery}
-use Rattle.job_story.specs.Story.{During, at_checkpoint, sleeping, waiting_for, Happening, enters, enters_event, sleeps, is_cancelled, finds, misses, raises, cancels, sets, awaits, was_set, handles, cleans, replaces, waits, leaves}
+use Rattle.job_story.specs.Story.{During, at_checkpoint, sleeping, waiting_for, in_queue, before_asking, Asked, Happening, enters, enters_event, sleeps, is_cancelled, finds, misses, raises, cancels, sets, awaits, was_set, enters_object, queues, gets, finds_closed, deadlocks, gives_token_back, closes_channel, handles, cleans, replaces, waits, leaves}
 use Rattle.job_story.specs.Tell.{is_from}
 use Rattle.job_story.specs.Events.{What, starts, happens, ends, Event}
 use Rattle.job_story.specs.Causes.{Cause, by_deadline, by_task, by_set, by_failure, by_cancellation, cause_of}
@@ -78,6 +82,10 @@ kind_key a_nursery = codes "nursery"
 abbrev pub span_json : Span → Data
 span_json line = object (put (codes "length") (integer line.len) (put (codes "at") (integer line.at) no_members))
 
+abbrev pub object_word : ObjectKind → List ℕ
+object_word (Limiter tokens) = codes "enters_limiter"
+object_word (Channel places) = codes "enters_channel"
+
 abbrev pub happening_word : Happening → List ℕ
 happening_word (enters kind label deadline shield) = codes "enters"
 happening_word (enters_event label) = codes "enters_event"
@@ -90,18 +98,38 @@ happening_word (cancels label) = codes "cancels"
 happening_word (sets label) = codes "sets"
 happening_word (awaits event) = codes "waits_for_event"
 happening_word (was_set event) = codes "goes_on"
+happening_word (enters_object kind label) = object_word kind
+happening_word (queues ask object part left) = codes "queues"
+happening_word (gets ask object at_once) = codes "is_granted"
+happening_word (finds_closed ask object at_once) = codes "finds_closed"
+happening_word (deadlocks ask object) = codes "deadlocks"
+happening_word (gives_token_back object) = codes "gives_token_back"
+happening_word (closes_channel object) = codes "closes"
 happening_word (handles matched rest) = codes "handles"
 happening_word (cleans exc) = codes "cleanup"
 happening_word (replaces lost fresh) = codes "replaces"
 happening_word (waits nursery exc) = codes "waits"
 happening_word (leaves kind label inside caught outside) = codes "leaves"
 
--- since when a task slept or waited that is cancelled, or null at a checkpoint; and for which event it waited, if for one
+-- what is asked of a limiter or channel, and its label
+abbrev pub with_ask : Ask → List ℕ → Label → Members → Members
+with_ask ask key l ms = put key (label_json l) (put (codes "ask") (word (ask_word ask)) ms)
+
+-- how many tokens a limiter has, or places the buffer of a channel
+abbrev pub with_size : ObjectKind → Members → Members
+with_size (Limiter tokens) ms = put (codes "tokens") (integer tokens) ms
+with_size (Channel places) ms = put (codes "places") (integer places) ms
+
+-- Since when a task slept or waited that is cancelled, or null where it did neither; for which event it waited, if for one; and what it asked
+-- of a limiter or channel, or was to ask.
 abbrev pub with_during : Clock → During → Members → Members
 with_during clock at_checkpoint ms = put (codes "since") null ms
 with_during clock (sleeping since) ms = put (codes "since") (integer (tick_of clock since)) ms
 with_during clock (waiting_for event since) ms =
     put (codes "waiting_for") (label_json event) (put (codes "since") (integer (tick_of clock since)) ms)
+with_during clock (in_queue ask object since) ms =
+    with_ask ask (codes "waiting_for") object (put (codes "since") (integer (tick_of clock since)) ms)
+with_during clock (before_asking ask object) ms = with_ask ask (codes "before_asking") object (put (codes "since") null ms)
 
 -- the data of what happens in a moment, added to the members that are there
 abbrev pub with_happening : Clock → Table → List Event → ℕ → Happening → Members → Members
@@ -121,6 +149,15 @@ with_happening clock table es t (sets label) ms =
     put (codes "from") (moment_json clock (cancel_from table label t)) (put (codes "label") (label_or_null label) ms)
 with_happening clock table es t (awaits event) ms = put (codes "label") (label_json event) ms
 with_happening clock table es t (was_set event) ms = put (codes "label") (label_json event) ms
+with_happening clock table es t (enters_object kind label) ms = put (codes "label") (label_json label) (with_size kind ms)
+with_happening clock table es t (queues ask object part left) ms = with_ask ask (codes "label") object ms
+with_happening clock table es t (gets ask object at_once) ms =
+    put (codes "at_once") (boolean (is_some at_once)) (with_ask ask (codes "label") object ms)
+with_happening clock table es t (finds_closed ask object at_once) ms =
+    put (codes "at_once") (boolean (is_some at_once)) (with_ask ask (codes "label") object ms)
+with_happening clock table es t (deadlocks ask object) ms = with_ask ask (codes "label") object ms
+with_happening clock table es t (gives_token_back object) ms = put (codes "label") (label_json object) ms
+with_happening clock table es t (closes_channel object) ms = put (codes "label") (label_or_null object) ms
 with_happening clock table es t (handles matched rest) ms =
     put (codes "rest") (exc_or_null rest) (put (codes "matched") (exc_json matched) ms)
 with_happening clock table es t (cleans exc) ms = put (codes "exception") (exc_or_null exc) ms

@@ -4,17 +4,17 @@ use Rattle.serde_json.specs.Data.{Data, null, object, Members, no_members, put}
 use Rattle.exceptions.specs.Exceptions.{Label}
 use Rattle.job_meaning.specs.Moments.{tick_of}
 use Rattle.job_meaning.specs.declared.clock.Clock.{Clock}
-use Rattle.job_story.specs.Story.{sleeps, awaits, waits}
+use Rattle.job_story.specs.Story.{sleeps, awaits, queues, waits}
 use Rattle.job_story.specs.Events.{What, happens, Event}
 use Rattle.json_story.specs.Values.{integer, word, label_json}
-use Rattle.json_story.specs.Events.{moment_json}
+use Rattle.json_story.specs.Events.{with_ask, moment_json}
 use Rattle.job_story.specs.Limit.{last_event}
 
 -- nothing that a task waits for
 abbrev pub with_idle : Members → Members
 with_idle ms = put (codes "doing") null ms
 
--- what a task is doing after this has happened in a moment: it sleeps, or waits for a nursery or an event
+-- what a task is doing after this has happened in a moment: it sleeps, or waits for a nursery or an event, or in a queue
 abbrev pub with_doing : Clock → ℕ → What → Members → Members
 with_doing clock t (happens (sleeps until)) ms =
     put (codes "until") (moment_json clock until) (put (codes "since") (integer (tick_of clock t))
@@ -25,6 +25,8 @@ with_doing clock t (happens (waits nursery exc)) ms =
 with_doing clock t (happens (awaits event)) ms =
     put (codes "event") (label_json event) (put (codes "since") (integer (tick_of clock t))
     (put (codes "doing") (word (codes "waiting")) ms))
+with_doing clock t (happens (queues ask object part left)) ms =
+    with_ask ask (codes "object") object (put (codes "since") (integer (tick_of clock t)) (put (codes "doing") (word (codes "waiting")) ms))
 with_doing clock t _ ms = with_idle ms
 
 abbrev pub with_last : Clock → Option Event → Members → Members

@@ -5,7 +5,7 @@ use Rattle.serde_json.specs.Data.{Data, null, boolean, number, unsigned, string,
 use Rattle.serde_json.specs.View.{items_of}
 use Rattle.serde_json.specs.Written.{compact_text}
 use Rattle.exceptions.specs.Exceptions.{Label, Whose, by_nursery, by_handler, Exc, cancelled, raised, too_slow, group, Excs, no_parts, part}
-use Rattle.job_meaning.specs.Shown.{Shown, line_shown, scope_shown, nursery_shown, wait_shown, Ending, well, by_cancellation, with_exception, Row}
+use Rattle.job_meaning.specs.Shown.{Shown, line_shown, scope_shown, nursery_shown, wait_shown, grant_shown, Ending, well, by_cancellation, with_exception, Row}
 use Rattle.job_report.specs.Text.{byte_text, last_tick}
 use Rattle.exceptions.specs.Texts.{index_text}
 
@@ -63,7 +63,7 @@ exception_json by_cancellation = exc_json cancelled
 exception_json (with_exception e) = exc_json e
 
 -- `{"line":{"at":N,"length":N,"text":TEXT}}`, or `{"caught":B,"exit":T,"scope":LABEL}`, or the same with `nursery`, or
--- `{"tick":T,"wait":LABEL}`
+-- `{"tick":T,"wait":LABEL}`, or `{"acquire":LABEL,"tick":T}`, or the same with `send` or `receive`
 abbrev pub entry_json : Shown → Data
 entry_json (line_shown at text) =
     object (member (codes "line") (object (member (codes "at") (integer at) (member (codes "length") (integer (length text))
@@ -75,6 +75,8 @@ entry_json (nursery_shown label tick caught) =
     object (member (codes "caught") (boolean caught) (member (codes "exit") (integer tick)
     (member (codes "nursery") (label_json label) no_members)))
 entry_json (wait_shown label tick) = object (member (codes "tick") (integer tick) (member (codes "wait") (label_json label) no_members))
+entry_json (grant_shown ask label tick) =
+    object (member (ask_word ask) (label_json label) (member (codes "tick") (integer tick) no_members))
 
 abbrev pub row_json : Row → Data
 row_json r =

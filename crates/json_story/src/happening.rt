@@ -10,6 +10,7 @@ ghost use Rattle.json_story.specs.Events.{moment_json, label_or_null, exc_or_nul
 ghost use Rattle.json_story.specs.Known.{clock_in, events_in, cancelled_from_in};
 
 use crate::acts::why_value;
+use crate::asks::{object_word, put_ask, put_size};
 use crate::known::Known;
 use crate::optional::{exc_or_null, label_or_null, moment_value};
 use crate::{exc_value, label_value, text_value};
@@ -35,6 +36,13 @@ pub(crate) fn happening_word(happening: &Happening) -> &'static str
         Happening::Sets { .. } => "sets",
         Happening::Awaits { .. } => "waits_for_event",
         Happening::WasSet { .. } => "goes_on",
+        Happening::EntersObject { kind, .. } => object_word(*kind),
+        Happening::Queues { .. } => "queues",
+        Happening::Gets { .. } => "is_granted",
+        Happening::FindsClosed { .. } => "finds_closed",
+        Happening::Deadlocks { .. } => "deadlocks",
+        Happening::GivesTokenBack { .. } => "gives_token_back",
+        Happening::ClosesChannel { .. } => "closes",
         Happening::Handles { .. } => "handles",
         Happening::Cleans { .. } => "cleanup",
         Happening::Replaces { .. } => "replaces",
@@ -84,6 +92,31 @@ pub(crate) fn put_happening(
         }
         Happening::Awaits { event } | Happening::WasSet { event } => {
             put_label(members, alloc, event)
+        }
+        Happening::EntersObject { kind, label } => {
+            put_size(members, alloc, *kind)?;
+            put_label(members, alloc, label)
+        }
+        Happening::Queues { ask, object, .. } | Happening::Deadlocks { ask, object } => {
+            put_ask(members, alloc, *ask, "label", object)
+        }
+        Happening::Gets {
+            ask,
+            object,
+            at_once,
+        }
+        | Happening::FindsClosed {
+            ask,
+            object,
+            at_once,
+        } => {
+            put_ask(members, alloc, *ask, "label", object)?;
+            put(members, alloc, "at_once", Value::Bool(at_once.is_some()))
+        }
+        Happening::GivesTokenBack { object } => put_label(members, alloc, object),
+        Happening::ClosesChannel { object } => {
+            let label = label_or_null(alloc, object)?;
+            put(members, alloc, "label", label)
         }
         Happening::Handles { matched, rest } => put_handles(members, alloc, matched, rest),
         Happening::Cleans { exc } => {
@@ -161,7 +194,7 @@ fn put_cancelled(
     put(members, alloc, "in_cleanup", Value::Bool(in_cleanup))
 }
 
-// Adds since when a task slept or waited that is cancelled, and for which event it waited, if for one.
+// Adds since when a task slept or waited that is cancelled, for which event it waited, if for one, and what it asked or was to ask.
 fn put_during(
     members: &mut Map<String, Value>,
     alloc: Global,
@@ -175,6 +208,14 @@ fn put_during(
         During::Checkpoint => put(members, alloc, "since", Value::Null),
         During::Sleeping { since } => put_since(members, alloc, clock, *since),
         During::Waiting { event, since } => put_waiting(members, alloc, clock, event, *since),
+        During::InQueue { ask, object, since } => {
+            put_since(members, alloc, clock, *since)?;
+            put_ask(members, alloc, *ask, "waiting_for", object)
+        }
+        During::BeforeAsking { ask, object } => {
+            put(members, alloc, "since", Value::Null)?;
+            put_ask(members, alloc, *ask, "before_asking", object)
+        }
     }
 }
 
@@ -207,7 +248,7 @@ fn put_since(
     put(members, alloc, "since", Value::from(clock.tick_of(since)))
 }
 
-// Adds the label of an event of the job.
+// Adds the label of an event of the job, a limiter or a channel.
 fn put_label(
     members: &mut Map<String, Value>,
     alloc: Global,

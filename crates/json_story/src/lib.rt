@@ -13,6 +13,7 @@
 #![tactic(auto)]
 
 mod acts;
+mod asks;
 mod event;
 mod exc;
 mod found;

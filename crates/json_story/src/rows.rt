@@ -3,7 +3,7 @@ ghost use Rattle.serde_json.specs.Data.{Members, member};
 ghost use Rattle.serde_json.specs.View.{view};
 ghost use Rattle.serde_json.specs.Written.{compact_text, members_text};
 ghost use Rattle.input_lines.specs.Part.{span_of, line_text};
-ghost use Rattle.job_meaning.specs.Shown.{line_shown, scope_shown, nursery_shown, wait_shown};
+ghost use Rattle.job_meaning.specs.Shown.{line_shown, scope_shown, nursery_shown, wait_shown, grant_shown};
 ghost use Rattle.task_machine.specs.Noted.{entry_of};
 ghost use Rattle.task_table.specs.Records.{ending_in, row_in};
 ghost use Rattle.json_story.specs.Values.{entry_json, exception_json, list_of, outcome_json, row_json, word};
@@ -16,6 +16,7 @@ use basics::push_number;
 use exceptions::{Exc, Label};
 use input_lines::Line;
 use job_runner::{Entry, Outcome, Record};
+use job_tree::Ask;
 use serde_json::{Value, json};
 use std::alloc::{AllocError, Global};
 
@@ -36,6 +37,7 @@ fn push_entry(alloc: Global, out: &mut Vec<u8>, entry: &Entry<'_>) -> Result<(),
             caught,
         } => push_nursery(alloc, out, label, *tick, *caught),
         Entry::Wait { label, tick } => push_wait(alloc, out, label, *tick),
+        Entry::Granted { ask, label, tick } => push_granted(alloc, out, *ask, label, *tick),
     }
 }
 
@@ -111,6 +113,37 @@ fn push_wait(alloc: Global, out: &mut Vec<u8>, label: &Label, tick: u64) -> Resu
 {
     let value = wait_value(alloc, label, tick)?;
     push_value(alloc, out, &value)
+}
+
+// Appends what a task was granted as a JSON object.
+fn push_granted(
+    alloc: Global,
+    out: &mut Vec<u8>,
+    ask: Ask,
+    label: &Label,
+    tick: u64,
+) -> Result<(), AllocError>
+    ensures { OnOk result (out.new.items ≡ out.old.items ++ compact_text (entry_json (grant_shown ask label.now tick))) }
+{
+    let value = granted_value(alloc, ask, label, tick)?;
+    push_value(alloc, out, &value)
+}
+
+// Returns what a task was granted as a JSON object.
+fn granted_value(
+    alloc: Global,
+    ask: Ask,
+    label: &Label,
+    tick: u64,
+) -> Result<Value, AllocError>
+    ensures { IfOk result (λ value. view value ≡ entry_json (grant_shown ask label.now tick)) }
+{
+    let object = label_value(alloc, label)?;
+    match ask {
+        Ask::Acquire => json!(in alloc; {"acquire": object, "tick": tick}),
+        Ask::Send => json!(in alloc; {"send": object, "tick": tick}),
+        Ask::Receive => json!(in alloc; {"receive": object, "tick": tick}),
+    }
 }
 
 // Appends the entries of a task as a JSON array.

@@ -11,6 +11,7 @@ ghost use Rattle.story_index.specs.Lasts.{seen_last};
 ghost use Rattle.json_story.specs.Running.{with_idle, with_doing, with_last, task_json};
 ghost use Rattle.story_index.specs.Tasks.{sorted_in, walked_in};
 
+use crate::asks::put_ask;
 use crate::label_value;
 use crate::optional::moment_value;
 use exceptions::Label;
@@ -89,7 +90,7 @@ fn put_last(
     }
 }
 
-// Adds what a task is doing after an event: it sleeps, or it waits for a nursery or an event of the job.
+// Adds what a task is doing after an event: it sleeps, or it waits for a nursery or an event of the job, or in a queue.
 fn put_doing(
     members: &mut Map<String, Value>,
     alloc: Global,
@@ -132,6 +133,10 @@ fn put_doing_in(
             put_state(members, alloc, "waiting", clock.tick_of(moment))?;
             let label = label_value(alloc, event)?;
             put(members, alloc, "event", label)
+        }
+        Happening::Queues { ask, object, .. } => {
+            put_state(members, alloc, "waiting", clock.tick_of(moment))?;
+            put_ask(members, alloc, *ask, "object", object)
         }
         _ => put_idle(members, alloc),
     }

@@ -2,7 +2,7 @@
 use Rattle.std.specs.Prelude.{ℕ, Bool, true, false, ◌&&◌, ◌||◌, not, Option, Some, None, List, [], ◌∷◌, ◌++◌, if◌then◌else◌}
 use Rattle.std.specs.Str.{bytes_eq}
 use Rattle.exceptions.specs.Exceptions.{Label, Exc, cancelled, raised, too_slow, group, Excs, no_parts, part}
-use Rattle.job_story.specs.Story.{sleeps, is_cancelled, raises, awaits, handles, replaces}
+use Rattle.job_story.specs.Story.{sleeps, is_cancelled, raises, awaits, queues, handles, replaces}
 use Rattle.job_story.specs.Events.{What, happens, ends, Event}
 use Rattle.job_story.specs.Limit.{is_start, start_if, last_event}
 use Rattle.job_story.specs.Focus.{is_among}
@@ -13,6 +13,7 @@ use Rattle.job_story.specs.Focus.{is_among}
 abbrev pub is_endless : What → Bool
 is_endless (happens (sleeps None)) = true
 is_endless (happens (awaits event)) = true
+is_endless (happens (queues ask object lent left)) = true
 is_endless _ = false
 
 -- that is the last event of a task

@@ -14,7 +14,8 @@ use story_index::LastEvents;
 
 /// Returns the tasks that sleep forever after these events. The events are those of a story in the order of the walk, and may end
 /// at some moment. A task sleeps forever if it was started, and its last event is that it fell asleep without a moment at which
-/// it is due, or that it began to wait for an event of the job, which is not set in the time of these events. The tasks are in
+/// it is due, or that it began to wait for an event of the job, which is not set in the time of these events, or
+/// in the queue of a limiter or channel, which it does not leave in that time. The tasks are in
 /// the order in which the walk starts them. The only error is that memory runs out.
 pub fn sleeping_forever<'e>(
     alloc: Global,
@@ -48,7 +49,7 @@ fn note_sleeping<'e>(
     Ok(())
 }
 
-// Returns whether the last event of a task is that it fell asleep forever, or began to wait for an event.
+// Returns whether the last event of a task is that it fell asleep forever, or began to wait for an event or in a queue.
 fn sleeps_forever(last: Option<&Event>) -> bool
     ensures { result ≡ sleeps_forever (seen_last last.entry) }
 {
@@ -58,6 +59,7 @@ fn sleeps_forever(last: Option<&Event>) -> bool
     match &event.what {
         What::Happens(Happening::Sleeps { until }) => until.is_none(),
         What::Happens(Happening::Awaits { .. }) => true,
+        What::Happens(Happening::Queues { .. }) => true,
         _ => false,
     }
 }

@@ -2,8 +2,10 @@
 use Rattle.std.specs.Prelude.{ℕ, ◌==◌, ◌&&◌, Bool, true, false, if◌then◌else◌, List, [], ◌∷◌, ◌++◌, codes}
 use Rattle.std.specs.Bool.{beq}
 use Rattle.std.specs.Str.{bytes_eq}
+use Rattle.job_tree.specs.declared.object.Ask.{Ask}
+use Rattle.job_tree.specs.declared.object.Ask.TheVariants.{Acquire, Send, Receive}
 use Rattle.exceptions.specs.Labels.{same_label}
-use Rattle.job_meaning.specs.Shown.{Shown, line_shown, scope_shown, nursery_shown, wait_shown, Ending, well, by_cancellation, with_exception}
+use Rattle.job_meaning.specs.Shown.{Shown, line_shown, scope_shown, nursery_shown, wait_shown, grant_shown, Ending, well, by_cancellation, with_exception}
 use Rattle.outcomes.specs.Groups.{sans_text}
 
 -- how a task ended, without ticks
@@ -12,13 +14,20 @@ outcome_text well = codes "done"
 outcome_text by_cancellation = codes "cancelled"
 outcome_text (with_exception e) = codes "raised " ++ sans_text e
 
+abbrev pub same_ask : Ask → Ask → Bool
+same_ask Acquire Acquire = true
+same_ask Send Send = true
+same_ask Receive Receive = true
+same_ask _ _ = false
+
 -- two entries are the same line, or exits of the same scope or nursery that both caught or both did not, or waits for the same
--- event
+-- event, or grants of the same
 abbrev pub same_entry : Shown → Shown → Bool
 same_entry (line_shown at text) (line_shown at' text') = at == at' && bytes_eq text text'
 same_entry (scope_shown l t caught) (scope_shown l' t' caught') = same_label l l' && beq caught caught'
 same_entry (nursery_shown l t caught) (nursery_shown l' t' caught') = same_label l l' && beq caught caught'
 same_entry (wait_shown l t) (wait_shown l' t') = same_label l l'
+same_entry (grant_shown ask l t) (grant_shown ask' l' t') = same_ask ask ask' && same_label l l'
 same_entry _ _ = false
 
 -- two lists have equal entries in one order

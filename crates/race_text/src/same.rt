@@ -34,6 +34,14 @@ fn is_same_entry(a: &Entry<'_>, b: &Entry<'_>) -> bool
             },
         ) => is_same_exit(label, *caught, other, *also),
         (Entry::Wait { label, .. }, Entry::Wait { label: other, .. }) => label == other,
+        (
+            Entry::Granted { ask, label, .. },
+            Entry::Granted {
+                ask: other_ask,
+                label: other,
+                ..
+            },
+        ) => ask == other_ask && label == other,
         _ => false,
     }
 }

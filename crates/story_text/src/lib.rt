@@ -7,6 +7,7 @@
 #![tactic(auto)]
 
 mod answers;
+mod asks;
 mod known;
 mod label;
 mod limit;

@@ -10,6 +10,7 @@ ghost use Rattle.story_index.specs.Tasks.{sorted_in, walked_in};
 ghost use Rattle.story_index.specs.Lasts.{seen_last};
 ghost use Rattle.story_index.specs.Seen.{event_in};
 
+use crate::asks::push_ask;
 use crate::known::Known;
 use crate::label::push_padded;
 use crate::lines::{label_width, push_lines};
@@ -151,7 +152,7 @@ fn push_last(
     }
 }
 
-// Appends what a task is doing after an event: it sleeps, or it waits for a nursery or an event of the job.
+// Appends what a task is doing after an event: it sleeps, or it waits for a nursery or an event of the job, or in a queue.
 fn push_doing(
     out: &mut Vec<u8>,
     clock: Clock,
@@ -191,6 +192,11 @@ fn push_doing_in(
         Happening::Awaits { event } => {
             push_waiting(out, b"waiting for event ", event, clock, moment)?;
             push_unset(out, cancelled_from.of(event))
+        }
+        Happening::Queues { ask, object, .. } => {
+            out.extend_from_slice(b"waiting ")?;
+            push_ask(out, *ask, object)?;
+            push_since(out, clock, moment)
         }
         _ => Ok(()),
     }

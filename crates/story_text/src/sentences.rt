@@ -11,6 +11,10 @@ ghost use Rattle.job_meaning.specs.declared.clock.Clock.{Clock};
 ghost use Rattle.story_index.specs.Found.{entering_in_code, cause_in_code};
 ghost use Rattle.story_text.specs.Known.{clock_in, events_in, cancelled_from_in};
 
+use crate::asks::{
+    push_ask, push_closed, push_closes, push_deadlocks, push_enters_object, push_gets, push_queues,
+    push_token_back,
+};
 use crate::known::Known;
 use crate::ticks::next_from;
 use basics::push_number;
@@ -77,6 +81,17 @@ fn push_happening(
         Happening::Sets { label } => push_sets(out, known, label, moment),
         Happening::Awaits { event } => push_labelled(out, b"waits for event ", event),
         Happening::WasSet { event } => push_was_set(out, event),
+        Happening::EntersObject { kind, label } => push_enters_object(out, *kind, label),
+        Happening::Queues { ask, object, .. } => push_queues(out, *ask, object),
+        Happening::Gets {
+            ask,
+            object,
+            at_once,
+        } => push_gets(out, *ask, object, at_once),
+        Happening::FindsClosed { ask, object, .. } => push_closed(out, *ask, object),
+        Happening::Deadlocks { ask, object } => push_deadlocks(out, *ask, object),
+        Happening::GivesTokenBack { object } => push_token_back(out, object),
+        Happening::ClosesChannel { object } => push_closes(out, object),
         Happening::Handles { matched, rest } => push_handles(out, matched, rest),
         Happening::Cleans { exc } => push_cleans(out, exc),
         Happening::Replaces { lost, fresh } => push_replaces(out, lost, fresh),
@@ -100,7 +115,7 @@ fn push_verb(out: &mut Vec<u8>, verb: &[u8], name: Name) -> Result<(), AllocErro
 }
 
 // Appends some words, and a label after them.
-fn push_labelled(out: &mut Vec<u8>, words: &[u8], label: &Label) -> Result<(), AllocError>
+pub(crate) fn push_labelled(out: &mut Vec<u8>, words: &[u8], label: &Label) -> Result<(), AllocError>
     ensures { OnOk result (out.new.items ≡ out.old.items ++ (words.now ++ label_text label.now)) }
 {
     out.extend_from_slice(words)?;
@@ -221,7 +236,7 @@ fn push_cleanup(out: &mut Vec<u8>, in_cleanup: bool) -> Result<(), AllocError>
     }
 }
 
-// Appends what a task did that is cancelled: it was at a checkpoint, or slept or waited for an event, since a tick.
+// Appends what a task did that is cancelled: it was at a checkpoint, slept or waited since a tick, or was to ask for something.
 fn push_during(out: &mut Vec<u8>, clock: Clock, during: &During) -> Result<(), AllocError>
     ensures { OnOk result (out.new.items ≡ out.old.items ++ during_text clock (during_of during.now)) }
 {
@@ -233,6 +248,15 @@ fn push_during(out: &mut Vec<u8>, clock: Clock, during: &During) -> Result<(), A
         }
         During::Waiting { event, since } => {
             push_waiting(out, b" while waiting for event ", event, clock, *since)
+        }
+        During::InQueue { ask, object, since } => {
+            out.extend_from_slice(b" while waiting ")?;
+            push_ask(out, *ask, object)?;
+            push_since(out, clock, *since)
+        }
+        During::BeforeAsking { ask, object } => {
+            out.extend_from_slice(b" before it asks ")?;
+            push_ask(out, *ask, object)
         }
     }
 }
