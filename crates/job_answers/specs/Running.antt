@@ -7,6 +7,7 @@ use Rattle.job_meaning.specs.Log.{Table}
 use Rattle.job_meaning.specs.Moments.{clock_of}
 use Rattle.job_meaning.specs.declared.clock.Clock.{Clock}
 use Rattle.job_meaning.specs.Meaning.{meaning_end, meaning_table}
+use Rattle.job_meaning.specs.Tables.{meaning_tables}
 use Rattle.job_story.specs.Events.{Event, in_order}
 use Rattle.job_story.specs.Sentences.{label_width}
 use Rattle.job_story.specs.Limit.{running_in, running_text, walked_to}
@@ -17,7 +18,8 @@ running_lines clock table walked = running_text clock table (label_width (in_ord
 
 -- the lines of a job that ends later than the limit, with what its tasks are doing that have not ended by then
 pub record IsJobRunning (job : Tree) (input : List ℕ) (limit : ℕ) (lines : List ℕ) : Type 0 where
-  pub late : limit < meaning_end job input → lines ≡ running_lines (clock_of job.format) (meaning_table job input) (walked_to (meaning_table job input) limit job input)
+  pub late : limit < meaning_end job input →
+      lines ≡ running_lines (clock_of job.format) (meaning_table job input) (walked_to (meaning_tables job input) limit job input)
   pub in_time : meaning_end job input ≤ limit → lines ≡ []
 
 -- these lines for the job that a text spells, and no lines where the text is refused

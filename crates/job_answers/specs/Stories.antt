@@ -2,7 +2,8 @@
 use Rattle.std.specs.Prelude.{◌≡◌, ℕ, Bool, true, false, nat_le, Option, Some, None, List, [], IsSome}
 use Rattle.job_tree.specs.Tree.{Tree}
 use Rattle.exceptions.specs.Exceptions.{Label}
-use Rattle.job_meaning.specs.Meaning.{root_label, meaning_end, meaning_table}
+use Rattle.job_meaning.specs.Meaning.{root_label, meaning_end}
+use Rattle.job_meaning.specs.Tables.{meaning_tables}
 use Rattle.job_story.specs.Tell.{story_by}
 use Rattle.job_story.specs.Events.{Event, events_of}
 use Rattle.job_story.specs.Sentences.{story_text}
@@ -15,13 +16,13 @@ use Rattle.story_index.specs.Nearest.{nearest_in}
 
 -- the story, or the part of it that concerns a task
 abbrev pub whole_story : Tree → List ℕ → Option Label → List ℕ
-whole_story job input None = story_text (meaning_table job input) job input
-whole_story job input (Some task) = story_of_task (meaning_table job input) job input task
+whole_story job input None = story_text (meaning_tables job input) job input
+whole_story job input (Some task) = story_of_task (meaning_tables job input) job input task
 
 -- the story up to a limit, or the part of it that concerns a task
 abbrev pub front_story : ℕ → Tree → List ℕ → Option Label → List ℕ
-front_story limit job input None = story_to (meaning_table job input) limit job input
-front_story limit job input (Some task) = story_of_task_to (meaning_table job input) limit job input task
+front_story limit job input None = story_to (meaning_tables job input) limit job input
+front_story limit job input (Some task) = story_of_task_to (meaning_tables job input) limit job input task
 
 -- the whole story where the job ends by the limit, and the story up to the limit otherwise
 abbrev pub story_if : Bool → ℕ → Tree → List ℕ → Option Label → List ℕ
@@ -43,8 +44,8 @@ meaning_story limit job input task = story_if (nat_le (meaning_end job input) li
 
 -- the events of the story, in the order of the walk
 abbrev pub story_events_if : Bool → ℕ → Tree → List ℕ → List Event
-story_events_if true limit job input = events_of (root_label job.name) (story_by (meaning_table job input) job input)
-story_events_if false limit job input = walked_to (meaning_table job input) limit job input
+story_events_if true limit job input = events_of (root_label job.name) (story_by (meaning_tables job input) job input)
+story_events_if false limit job input = walked_to (meaning_tables job input) limit job input
 
 abbrev pub story_events : ℕ → Tree → List ℕ → List Event
 story_events limit job input = story_events_if (nat_le (meaning_end job input) limit) limit job input

@@ -1,6 +1,7 @@
 ghost use Rattle.std.specs.Prelude.{◌≡◌, ◌≤◌, length, map, IfOk};
 ghost use Rattle.job_meaning.specs.declared.limits.TheConstants.{MAX_INPUT};
-ghost use Rattle.job_meaning.specs.Meaning.{meaning_table};
+ghost use Rattle.job_meaning.specs.GrantTable.{AreGrantsOf, grants_made};
+ghost use Rattle.job_meaning.specs.Meaning.{meaning_grants, meaning_table};
 ghost use Rattle.job_runner.specs.Runs.{rows_of};
 ghost use Rattle.job_story.specs.CancelledFrom.{table_in};
 ghost use Rattle.job_meaning.specs.Clocks.{clock_of};
@@ -12,7 +13,7 @@ ghost use Rattle.job_answers.specs.Tellings.{verdict_of, events_shown};
 
 use crate::story_verdict::StoryVerdict;
 use crate::table::table_of;
-use job_meaning::Clock;
+use job_meaning::{Clock, GrantTable};
 use job_reader::Job;
 use job_report::Question;
 use job_runner::{Gate, Pick, Run, run_to_end};
@@ -87,8 +88,8 @@ pub fn story_of<R: Threads + Sync, P: Pick, G: Gate + Sync>(
     ensures until { IfOk result (λ story. story.until ≡ shown_until question.now.settings.limit job.now question.now.input.now) }
     ensures events { IfOk result (λ story. events_shown story ≡ story_events question.now.settings.limit job.now question.now.input.now) }
 {
-    let (ending, table) = meaning_of(rt, alloc, job, question, picker, gate)?;
-    let events = tell(alloc, job, question.input, &table)?;
+    let (ending, table, grants) = meaning_of(rt, alloc, job, question, picker, gate)?;
+    let events = tell(alloc, job, question.input, &table, &grants)?;
     Ok(Story {
         ending,
         clock: Clock::of(job.text_format()),
@@ -98,20 +99,22 @@ pub fn story_of<R: Threads + Sync, P: Pick, G: Gate + Sync>(
     })
 }
 
-// Returns how the meaning of a job ends, compared with the limit, and the moments from which its scopes and nurseries are
-// cancelled and its events set.
+// Returns how the meaning of a job ends, compared with the limit, the moments from which its scopes and nurseries are cancelled and
+// its events set, and what its limiters and channels grant.
 #[tactic(auto, using(crate::proofs::Stories::is_ending, crate::proofs::Tables::is_of_meaning))]
-fn meaning_of<R: Threads + Sync, P: Pick, G: Gate + Sync>(
+fn meaning_of<'a, R: Threads + Sync, P: Pick, G: Gate + Sync>(
     rt: &R,
     alloc: Global,
-    job: &Job,
-    question: &Question<'_>,
+    job: &'a Job,
+    question: &Question<'a>,
     picker: &mut P,
     gate: &G,
-) -> Result<(Ending, CancelledFrom), AllocError>
+) -> Result<(Ending, CancelledFrom, GrantTable<'a>), AllocError>
     requires { length question.now.input.now ≤ MAX_INPUT }
     ensures ending { IfOk result (λ r. IsEnding job.now question.now.input.now question.now.settings.limit r.0) }
     ensures table { IfOk result (λ r. table_in r.1 ≡ meaning_table job.now question.now.input.now) }
+    ensures granted { IfOk result (λ r. grants_made r.2 ≡ meaning_grants job.now question.now.input.now) }
+    ensures lent { IfOk result (λ r. AreGrantsOf question.now.input.now r.2) }
 {
     law_cancelled_from_of_meaning();
     let run = run_to_end(
@@ -124,8 +127,9 @@ fn meaning_of<R: Threads + Sync, P: Pick, G: Gate + Sync>(
         gate,
     )?;
     let ending = ending_of(&run, question.settings.limit());
-    let table = table_of(alloc, run)?;
-    Ok((ending, table))
+    let (cancelled_from, grants) = run.into_tables();
+    let table = table_of(alloc, cancelled_from)?;
+    Ok((ending, table, grants))
 }
 
 // Returns the limit if the story of a job that ends so is cut off at it, and `None` otherwise.

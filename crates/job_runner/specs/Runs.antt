@@ -2,7 +2,10 @@
 use Rattle.std.specs.Prelude.{◌≡◌, ℕ, ◌<◌, Bool, true, false, List, [], ◌∷◌, map}
 use Rattle.job_tree.specs.Tree.{Tree}
 use Rattle.job_meaning.specs.Moments.{clock_of}
-use Rattle.job_meaning.specs.Meaning.{From, root_log, records_of, all_entered, cancelled_from_by, meaning_end, meaning_cancelled_from}
+use Rattle.job_meaning.specs.Meaning.{From, root_log, records_of, all_entered, cancelled_from_by, meaning_end, meaning_cancelled_from, meaning_grants}
+use Rattle.job_meaning.specs.GrantTable.{AreGrantsOf, grants_made}
+use Rattle.job_meaning.specs.Sharing.{Grants}
+use Rattle.job_meaning.specs.declared.grant_table.GrantTable.{GrantTable}
 use Rattle.job_meaning.specs.Follow.{follow}
 use Rattle.turn_semantics.specs.Midway.{Tables}
 use Rattle.interleavings.specs.Laws.{IsSettledBy}
@@ -43,6 +46,13 @@ root_end (r ∷ rs) = r.end
 abbrev pub cancelled_from_in : Run → List ScopeFrom
 cancelled_from_in run = run.cancelled_from.items
 
+-- what the limiters and channels granted
+abbrev pub granted_in : Run → GrantTable
+granted_in run = run.grants
+
+abbrev pub grants_of : Run → Grants
+grants_of run = grants_made run.grants
+
 abbrev pub turns_of : Run → ℕ
 turns_of run = run.turns
 
@@ -56,6 +66,8 @@ pub record IsRun (job : Tree) (input : List ℕ) (run : Run) : Type 0 where
   pub rows : rows_of run ≡ meaning_rows job input
   pub slices : AreSlices input (records_in run)
   pub cancelled_from : scopes_cancelled_from_of run ≡ meaning_cancelled_from job input
+  pub granted : grants_of run ≡ meaning_grants job input
+  pub lent : AreGrantsOf input (granted_in run)
 
 -- And it is the result of following tables: its records, and the moments of cancellation in the first table.
 pub record IsFollowed (k : Tables) (job : Tree) (input : List ℕ) (run : Run) : Type 0 where

@@ -1,3 +1,4 @@
+use job_meaning::GrantTable;
 use job_tree::Name;
 use task_machine::ScopeFrom;
 use task_table::{Outcome, Record};
@@ -8,29 +9,33 @@ pub struct Run<'a> {
     name: Name,
     records: Vec<Record<'a>>,
     cancelled_from: Vec<ScopeFrom>,
+    grants: GrantTable<'a>,
     turns: u64,
 }
 
 impl<'a> Run<'a> {
     ghost use Rattle.std.specs.Prelude.{◌≡◌};
-    ghost use Rattle.job_runner.specs.Runs.{name_of, records_in, rows_of, cancelled_from_in, turns_of, root_is_well, root_end};
+    ghost use Rattle.job_runner.specs.Runs.{name_of, records_in, rows_of, cancelled_from_in, granted_in, turns_of, root_is_well, root_end};
 
     // A run of these parts.
     pub(crate) fn new(
         name: Name,
         records: Vec<Record<'a>>,
         cancelled_from: Vec<ScopeFrom>,
+        grants: GrantTable<'a>,
         turns: u64,
     ) -> Run<'a>
         ensures name { name_of result ≡ name }
         ensures records { records_in result ≡ records.entry.items }
         ensures cancelled_from { cancelled_from_in result ≡ cancelled_from.items }
+        ensures grants { granted_in result ≡ grants.entry }
         ensures turns { turns_of result ≡ turns }
     {
         Run {
             name,
             records,
             cancelled_from,
+            grants,
             turns,
         }
     }
@@ -77,12 +82,17 @@ impl<'a> Run<'a> {
         self.cancelled_from.as_slice()
     }
 
-    /// Returns the same as `cancelled_from`, without the records.
-    pub fn into_cancelled_from(self) -> Vec<ScopeFrom>
-        ensures { result.items ≡ cancelled_from_in self.entry }
+    /// Returns the same as `cancelled_from`, and what the limiters and channels granted, without the records.
+    pub fn into_tables(self) -> (Vec<ScopeFrom>, GrantTable<'a>)
+        ensures cancelled_from { result.0.items ≡ cancelled_from_in self.entry }
+        ensures grants { result.1 ≡ granted_in self }
     {
-        let Run { cancelled_from, .. } = self;
-        cancelled_from
+        let Run {
+            cancelled_from,
+            grants,
+            ..
+        } = self;
+        (cancelled_from, grants)
     }
 
     /// Returns the number of turns of all tasks.

@@ -1,7 +1,8 @@
 ghost use Rattle.std.specs.Prelude.{◌≡◌, ◌+◌, ◌*◌, ◌<◌, ◌≤◌, IfOk, IfErr, length};
 ghost use Rattle.job_meaning.specs.declared.limits.TheConstants.{MAX_INPUT};
 ghost use Rattle.job_meaning.specs.Clocks.{clock_of};
-ghost use Rattle.job_meaning.specs.Meaning.{meaning_end, meaning_cancelled_from};
+ghost use Rattle.job_meaning.specs.GrantTable.{AreGrantsOf};
+ghost use Rattle.job_meaning.specs.Meaning.{meaning_end, meaning_cancelled_from, meaning_grants};
 ghost use Rattle.job_meaning.specs.Shown.{meaning_rows};
 ghost use Rattle.job_tree.specs.Names.{size_of};
 ghost use Rattle.task_table.specs.Records.{AreSlices};
@@ -9,7 +10,7 @@ ghost use Rattle.job_runner.specs.declared.runner.Phase.TheVariants.{Ready};
 ghost use Rattle.job_runner.specs.Limits.{last_tick};
 ghost use Rattle.job_runner.specs.Phases.{phase_of};
 ghost use Rattle.job_runner.specs.declared.limits.TheConstants.{MAX_WORKERS};
-ghost use Rattle.job_runner.specs.Runs.{IsRun, name_of, rows_of, records_in, scopes_cancelled_from_of, turns_of, IsLate};
+ghost use Rattle.job_runner.specs.Runs.{IsRun, name_of, rows_of, records_in, scopes_cancelled_from_of, grants_of, granted_in, turns_of, IsLate};
 ghost use Rattle.job_runner.specs.Shelves.{IsSameJob, IsUnderway};
 
 use crate::fault::RunFault;
@@ -44,6 +45,8 @@ pub fn run<'a, R: Threads + Sync, P: Pick, G: Gate + Sync>(
     ensures records { IfOk result (λ run. rows_of run ≡ meaning_rows job.now input.now) }
     ensures lines { IfOk result (λ run. AreSlices input.now (records_in run)) }
     ensures cancelled_from { IfOk result (λ run. scopes_cancelled_from_of run ≡ meaning_cancelled_from job.now input.now) }
+    ensures granted { IfOk result (λ run. grants_of run ≡ meaning_grants job.now input.now) }
+    ensures lent { IfOk result (λ run. AreGrantsOf input.now (granted_in run)) }
     ensures turns { IfOk result (λ run. turns_of run ≤ 2 * size_of job.now.steps + 1) }
     ensures in_time { IfOk result (λ _. meaning_end job.now input.now ≤ settings.limit) }
     ensures late { IfErr result (IsLate job.now input.now settings.limit) }
@@ -81,6 +84,8 @@ pub fn run_to_end<'a, R: Threads + Sync, P: Pick, G: Gate + Sync>(
     ensures lines { IfOk result (λ run. AreSlices input.now (records_in run)) }
     ensures turns { IfOk result (λ run. turns_of run ≤ 2 * size_of job.now.steps + 1) }
     ensures cancelled_from { IfOk result (λ run. scopes_cancelled_from_of run ≡ meaning_cancelled_from job.now input.now) }
+    ensures granted { IfOk result (λ run. grants_of run ≡ meaning_grants job.now input.now) }
+    ensures lent { IfOk result (λ run. AreGrantsOf input.now (granted_in run)) }
 {
     spelled_jobs_are_sound();
     let _steps = job.steps();

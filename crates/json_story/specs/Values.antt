@@ -6,7 +6,7 @@ use Rattle.serde_json.specs.View.{items_of}
 use Rattle.serde_json.specs.Written.{compact_text}
 use Rattle.exceptions.specs.Exceptions.{Label, Whose, by_nursery, by_handler, Exc, cancelled, raised, too_slow, group, Excs, no_parts, part}
 use Rattle.job_meaning.specs.Shown.{Shown, line_shown, scope_shown, nursery_shown, wait_shown, grant_shown, Ending, well, by_cancellation, with_exception, Row}
-use Rattle.job_report.specs.Text.{byte_text, last_tick}
+use Rattle.job_report.specs.Text.{ask_word, byte_text, last_tick}
 use Rattle.exceptions.specs.Texts.{index_text}
 
 abbrev pub integer : ℕ → Data

@@ -7,7 +7,8 @@ use Rattle.job_reader.specs.Kinds.{number_of}
 use Rattle.job_reader.specs.declared.fault.JobFault.{JobFault}
 use Rattle.job_meaning.specs.Moments.{clock_of}
 use Rattle.job_meaning.specs.declared.clock.Clock.{Clock}
-use Rattle.job_meaning.specs.Meaning.{root_label, meaning, meaning_end, meaning_table}
+use Rattle.job_meaning.specs.Meaning.{root_label, meaning, meaning_end}
+use Rattle.job_meaning.specs.Tables.{meaning_tables}
 use Rattle.job_meaning.specs.Shown.{Ending, well, by_cancellation, with_exception, Row, meaning_rows}
 use Rattle.job_story.specs.Tell.{story_by}
 use Rattle.job_story.specs.Events.{Event, events_of, in_order}
@@ -28,7 +29,7 @@ pub data JobOutcome : Type 0 where
 
 -- the events of the story of a job's meaning, in the order of the walk
 abbrev pub walked_events : Tree → List ℕ → List Event
-walked_events job input = events_of (root_label job.name) (story_by (meaning_table job input) job input)
+walked_events job input = events_of (root_label job.name) (story_by (meaning_tables job input) job input)
 
 abbrev pub cancelled_if : Ending → Label → List Label → List Label
 cancelled_if well l ls = ls

@@ -50,8 +50,9 @@ pub fn summary_of<R: Threads + Sync>(
     let end = run.end();
     let exc = exc_of_root(alloc, &run)?;
     let cancelled = cancelled_tasks(alloc, run.records())?;
-    let table = table_of(alloc, run)?;
-    let events = tell(alloc, job, input, &table)?;
+    let (cancelled_from, grants) = run.into_tables();
+    let table = table_of(alloc, cancelled_from)?;
+    let events = tell(alloc, job, input, &table, &grants)?;
     Ok(Summary {
         clock,
         end,
