@@ -1,7 +1,7 @@
 -- What the jump of the clock returns.
 use Rattle.std.proofs.Common.{◌≡◌, ℕ, List, Option, Some, None, min, refl, ap, ◌∙◌, inl, inr, arith}
 use Rattle.std.proofs.lemmas.Bool.{cases_lt}
-use Rattle.clock.specs.Ticks.{IsSame}
+use Rattle.clock.specs.Ticks.{IsSame, HasNone}
 use Rattle.clock.specs.KeptTimers.{earlier_of, IsEarliest}
 use Rattle.clock.specs.Clock.{Clock, IsUnchanged, IsNext}
 
@@ -26,4 +26,13 @@ first_is_next c (Some n) due first =
       ];
       by_cancel = λ cancel e. let same : n ≡ cancel = cc in omega arith;
       by_timers = λ other tick has. let le = first.earliest other tick has in omega arith;
+    }
+
+-- with no timer the next cancellation is the next tick
+pub cancel_is_next : (c : Clock) (next_cancel : Option ℕ) (cancel : ℕ) → HasNone c.timers → next_cancel ≡ Some cancel → IsNext c next_cancel cancel
+cancel_is_next c next_cancel cancel none is_cancel =
+    record {
+      is_one = inl is_cancel;
+      by_cancel = λ other e. let same : cancel ≡ other = cc in omega arith;
+      by_timers = λ task due has. absurd (cc (none task));
     }

@@ -1,3 +1,4 @@
 pub mod Tries
 pub mod Taken
 pub mod Parted
+pub mod SiteLemmas

@@ -48,11 +48,11 @@ impl Plan {
         ensures { IfOk result (λ changes. changes.items ≡ changes_by self.now step fault) }
     {
         match fault {
-            Fault::Fails(name) => single_change(alloc, raising(&step, name)),
-            Fault::FailsLate(name) => single_change(alloc, raising_late(&step, name)),
-            Fault::Hangs => single_change(alloc, hanging(&step)),
+            Fault::Fails(name) => single_change(alloc, &raising(&step, name)),
+            Fault::FailsLate(name) => single_change(alloc, &raising_late(&step, name)),
+            Fault::Hangs => single_change(alloc, &hanging(&step)),
             Fault::Cancelled => self.cancel_changes(alloc, step),
-            Fault::Misses(name) => single_change(alloc, raising(&step, name)),
+            Fault::Misses(name) => single_change(alloc, &raising(&step, name)),
         }
     }
 
@@ -155,10 +155,11 @@ fn insertion_after(at: usize, piece: Piece) -> Change
 }
 
 // Returns a single change.
-fn single_change(alloc: Global, change: Change) -> Result<Vec<Change>, AllocError>
-    ensures { IfOk result (λ changes. changes.items ≡ change ∷ []) }
+fn single_change(alloc: Global, change: &Change) -> Result<Vec<Change>, AllocError>
+    ensures { IfOk result (λ changes. changes.items ≡ change.now ∷ []) }
 {
     let mut changes = Vec::new(alloc);
-    changes.push(change)?;
+    let Change { from, to, piece } = *change;
+    changes.push(Change { from, to, piece })?;
     Ok(changes)
 }

@@ -4,7 +4,7 @@ ghost use Rattle.job_meaning.specs.Shown.{line_shown};
 ghost use Rattle.std.specs.List.{flat_map};
 ghost use Rattle.task_machine.specs.Noted.{entry_of};
 ghost use Rattle.task_table.specs.Records.{ending_in, row_in};
-ghost use Rattle.job_report.specs.Text.{shown_text, ending_text, row_text, caught_text};
+ghost use Rattle.job_report.specs.Text.{ask_word, shown_text, ending_text, row_text, caught_text};
 
 use crate::escape::push_escaped;
 use basics::push_number;
