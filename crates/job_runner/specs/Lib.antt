@@ -9,3 +9,4 @@ pub mod Steps
 pub mod Turns
 pub mod Jumps
 pub mod Rounds
+pub mod Grants

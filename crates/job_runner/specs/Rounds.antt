@@ -1,5 +1,5 @@
 -- How long a run continues: turns are left, or a jump before the next one.
-use Rattle.std.specs.Prelude.{◌≡◌, ℕ, suc, ◌+◌, ◌*◌, ◌-◌, []}
+use Rattle.std.specs.Prelude.{ℕ, ◌+◌, ◌*◌, ◌-◌}
 use Rattle.job_tree.specs.Names.{size_of}
 use Rattle.job_runner.specs.declared.runner.Phase.{Phase}
 use Rattle.job_runner.specs.declared.runner.Phase.TheVariants.{Ready, Blocked, Over}
@@ -15,22 +15,6 @@ jumps_before Over = 0
 -- the maximum number of turns of the run
 abbrev pub most_turns : Runner → ℕ
 most_turns r = 2 * size_of r.job.now.steps + 1
-
--- What was done to limiters and channels in the present moment was served, and the tasks that were granted something continue a round
--- later.
-pub record ServesRound (old new : Runner) : Type 0 where
-  pub through : new.through ≡ suc old.world.tick
-  pub none_done : new.round.items ≡ []
-  pub rest :
-      new
-      ≡ record old {
-        objects = new.objects;
-        through = new.through;
-        round = new.round;
-        clock = new.clock;
-        sleepers = new.sleepers;
-        later = new.later;
-      }
 
 -- each round uses one of the turns that are left, or makes the jump before one
 abbrev pub rounds_left : Runner → ℕ

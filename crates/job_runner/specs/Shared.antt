@@ -2,12 +2,10 @@
 use Rattle.std.specs.Prelude.{◌≡◌, ◌==◌, ◌&&◌, ℕ, Bool, true, false, Option, Some, None, List, [], ◌∷◌, ◌++◌, map}
 use Rattle.exceptions.specs.Exceptions.{Label}
 use Rattle.indexmap.specs.IndexMap.{get}
-use Rattle.input_lines.specs.Part.{range_of}
-use Rattle.objects.specs.Held.{what_in, IsGrantOf, IsOperationOf}
+use Rattle.input_lines.specs.Part.{buffer_of, range_of}
+use Rattle.objects.specs.Held.{what_in, IsGrantOf}
 use Rattle.objects.specs.Whats.{What}
 use Rattle.objects.specs.declared.object.Object.{Object}
-use Rattle.objects.specs.declared.object.Operation.{Operation}
-use Rattle.objects.specs.declared.object.Operation.TheVariants.{Asks, GivesBack, Closes}
 use Rattle.job_meaning.specs.Log.{Act, opens, asks, gives_back, closes, same_label}
 use Rattle.run_refinement.specs.Sharing.{RoundAct}
 use Rattle.task_table.specs.declared.entry.Call.{Call}
@@ -23,7 +21,7 @@ use Rattle.task_table.specs.TaskTable.{Sharing, running_at, id_of}
 use Rattle.job_runner.specs.declared.objects_by_label.ObjectTable.{ObjectTable}
 use Rattle.job_runner.specs.declared.serving.RoundAct as held
 use Rattle.job_runner.specs.declared.serving.Done.{Done}
-use Rattle.job_runner.specs.declared.serving.Done.TheVariants.{Opens, Does}
+use Rattle.job_runner.specs.declared.serving.Done.TheVariants.{Opens, Asks, GivesBack, Closes}
 use Rattle.job_runner.specs.declared.runner.Runner.{Runner}
 
 -- the limiter or channel of a label, if it was opened
@@ -31,14 +29,11 @@ abbrev pub object_at : ObjectTable → Label → Option Object
 object_at objects label = get same_label objects.by_label label
 
 -- what is done, in the terms of the definitions
-abbrev pub act_by : Operation → Act
-act_by (Asks who ask part) = asks ask (range_of part) None
-act_by GivesBack = gives_back
-act_by Closes = closes
-
 abbrev pub act_of : Done → Act
 act_of (Opens kind) = opens kind
-act_of (Does operation) = act_by operation
+act_of (Asks ask part) = asks ask (range_of part) None
+act_of GivesBack = gives_back
+act_of Closes = closes
 
 abbrev pub round_act_of : held.RoundAct → RoundAct
 round_act_of a = record { serial = a.row; object = a.object; act = act_of a.done }
@@ -93,8 +88,8 @@ call_by _ = Begin
 -- ---- of which input the parts are
 
 abbrev pub IsDoneOf : List ℕ → Done → Type 0
-IsDoneOf input (Opens kind) = Unit {0}
-IsDoneOf input (Does operation) = IsOperationOf input operation
+IsDoneOf input (Asks ask part) = buffer_of part ≡ input
+IsDoneOf input _ = Unit {0}
 
 abbrev pub IsCallOf : List ℕ → Call → Type 0
 IsCallOf input (Granted grant) = IsGrantOf input grant

@@ -100,13 +100,17 @@ abbrev pub IsAsleepIn : World → Option ℕ → ℕ → Type 0
 IsAsleepIn world scope since =
     (since ≤ world.tick) × ((seen (outer_of world.scopes scope) world.tick ≡ false) ⊎ ((world.clock ≡ by_rounds) × (since ≡ world.tick)))
 
--- that of a task that sleeps, or waits for an event
+-- and one in the queue of a limiter or channel does not, or asked in this moment
+abbrev pub IsQueuedIn : World → Option ℕ → ℕ → Type 0
+IsQueuedIn world scope since = (since ≤ world.tick) × ((seen (outer_of world.scopes scope) world.tick ≡ false) ⊎ (since ≡ world.tick))
+
+-- that of a task that sleeps, or waits for an event, a limiter or a channel
 abbrev pub DozesIn : World → Option ℕ → TaskState → Type 0
 DozesIn world scope (ToBegin at) = Unit {0}
 DozesIn world scope (Asked kernel purpose) = Unit {0}
 DozesIn world scope (Asleep paced ticks since) = IsAsleepIn world scope since
 DozesIn world scope (Waiting event since) = IsAsleepIn world scope since
-DozesIn world scope (Queued object ask since body) = IsAsleepIn world scope since
+DozesIn world scope (Queued object ask since body) = IsQueuedIn world scope since
 DozesIn world scope (GivingUp since) = Unit {0}
 DozesIn world scope (Awaits id since) = Unit {0}
 DozesIn world scope Over = Unit {0}

@@ -1,9 +1,8 @@
 //! The limiters and channels of a run.
 ghost use Rattle.std.specs.Prelude.{◌≡◌, ℕ, List, None, OnOk};
-ghost use Rattle.std.specs.Option.{ForSome};
 ghost use Rattle.exceptions.specs.Exceptions.{Label as LabelOf};
-ghost use Rattle.objects.specs.Held.{AreGivenOf, IsObjectOf, IsOperationOf};
-ghost use Rattle.job_runner.specs.Serving.{Opens, ServesAt};
+ghost use Rattle.objects.specs.Held.{IsOperationOf};
+ghost use Rattle.job_runner.specs.Serving.{Opens, ServesAt, StayLent};
 ghost use Rattle.job_runner.specs.Shared.{object_at};
 
 use exceptions::Label;
@@ -52,13 +51,13 @@ impl<'a> ObjectTable<'a> {
         given: &mut Vec<Given<'a>>,
     ) -> Result<(), AllocError>
         ensures serves { OnOk result (ServesAt (Q.waits queues.now) operation.entry label.now self.old self.new given.old.items given.new.items) }
-        ensures lent { OnOk result ((input : List ℕ) → ((l : LabelOf) → ForSome (object_at self.old l) (IsObjectOf input)) →
-            IsOperationOf input operation.entry → AreGivenOf input given.old.items →
-            ((l : LabelOf) → ForSome (object_at self.new l) (IsObjectOf input)) × AreGivenOf input given.new.items) }
+        ensures lent { OnOk result ((input : List ℕ) → IsOperationOf input operation.entry →
+            StayLent input self.old self.new given.old.items given.new.items) }
     {
-        match self.by_label.get_mut(label) {
-            Some(object) => object.serve(operation, queues, given),
-            None => Ok(()),
-        }
+        let Some(object) = self.by_label.get_mut(label) else {
+            return Ok(());
+        };
+        object.serve(operation, queues, given)?;
+        Ok(())
     }
 }

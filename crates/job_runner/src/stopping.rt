@@ -108,7 +108,8 @@ impl<'a> Runner<'a> {
         ensures comes { OnOk result (ComesOf id (Queue request.entry) self.old self.new) }
         ensures same { OnOk result (IsSameTurn self.old self.new) }
     {
-        self.keep_ask(row, &request)?;
+        let ObjectRequest { object, ask, part } = request;
+        self.keep_ask(row, object, ask, part)?;
         let next = self.world.now() + 1;
         let last = self.world.clock().start_of(FAR).max(next);
         self.put_to_sleep(id, last)?;
