@@ -87,7 +87,7 @@ def stub_source(path):
     """Replaces the bodies in one file of a crate's source."""
     with open(path, encoding="utf-8") as file:
         # a list of names over several lines becomes one line
-        text = re.sub(r"(?m)^(\s*use [\w:]+::\{)([^}]*)\};", lambda it: it[1] + ", ".join(re.findall(r"[\w ]*\w", it[2])) + "};", file.read())
+        text = re.sub(r"(?m)^(\s*use [\w:]+::\{)([^}]*)\};", lambda it: it[1] + ", ".join(re.findall(r"\w[\w ]*", it[2])) + "};", file.read())
     text = "\n".join(without_bodies(text.split("\n")))
     text = re.sub(r"\nimpl[^\n]*\{\n(\s*ghost use [^\n]*\n|\s*\n)*\}\n", "\n", text)
     if os.path.basename(path) == "lib.rt":
