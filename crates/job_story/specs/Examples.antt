@@ -4,7 +4,8 @@ use Rattle.std.specs.Prelude.{◌≡◌, ℕ, true, List, [], ◌∷◌, ◌++�
 use Rattle.std.specs.Fmt.{digits}
 use Rattle.job_tree.specs.declared.format.Format.TheVariants.{Two, Three}
 use Rattle.job_tree.specs.Tree.{Step, sleep, forever, find, need, raise, repeat, Tree}
-use Rattle.job_meaning.specs.Meaning.{meaning, meaning_table}
+use Rattle.job_meaning.specs.Meaning.{meaning}
+use Rattle.job_meaning.specs.Tables.{meaning_tables}
 use Rattle.job_meaning.specs.Walk.{walk, and_then, sleep_result, lines_result, raise_result, need_result, cancel_result, set_result, event_wait, block, event_block, with_sign, nursery_result, child, handler_result, cleanup_result}
 use Rattle.job_meaning.specs.Examples.{block_of, nursery_of, start_of, timed_shield, try_finally}
 use Rattle.job_story.specs.Tell.{tell, then_tale, tell_sleep, tell_lines, tell_need, tell_raise, tell_cancel, tell_set, tell_event_wait, tell_block, tell_event, tell_wait, tell_gathered, tell_child, tell_handled, tell_cleaned, tale_by}
@@ -22,7 +23,7 @@ lines_of (l ∷ ls) = l ++ codes "\n" ++ lines_of ls
 -- the story of the meaning
 unfoldable pub text_of_story : Tree → List ℕ → List ℕ
 unfolding meaning walk and_then sleep_result lines_result raise_result need_result cancel_result set_result event_wait block event_block with_sign nursery_result child handler_result cleanup_result tell then_tale tell_sleep tell_lines tell_need tell_raise tell_cancel tell_set tell_event_wait tell_block tell_event tell_wait tell_gathered tell_child tell_handled tell_cleaned tale_by
-text_of_story job input = story_text (meaning_table job input) job input
+text_of_story job input = story_text (meaning_tables job input) job input
 
 -- job supervisor { nursery workers {
 --   start reader { try { forever; } finally { scope flush after 5 shield { sleep 3; } } }

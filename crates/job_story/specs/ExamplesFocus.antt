@@ -4,7 +4,8 @@ use Rattle.std.specs.Fmt.{digits}
 use Rattle.job_tree.specs.Tree.{Tree}
 use Rattle.exceptions.specs.Exceptions.{Label}
 use Rattle.job_meaning.specs.Examples.{label_named}
-use Rattle.job_meaning.specs.Meaning.{meaning, meaning_table}
+use Rattle.job_meaning.specs.Meaning.{meaning}
+use Rattle.job_meaning.specs.Tables.{meaning_tables}
 use Rattle.job_meaning.specs.Walk.{walk, and_then, sleep_result, lines_result, raise_result, need_result, cancel_result, block, with_sign, nursery_result, child, handler_result, cleanup_result}
 use Rattle.job_story.specs.Examples.{lines_of}
 use Rattle.job_story.specs.ExamplesCauses.{race}
@@ -15,7 +16,7 @@ use Rattle.job_story.specs.Tell.{tell, then_tale, tell_sleep, tell_lines, tell_n
 unfoldable pub text_of_story_for : Tree → List ℕ → Label → List ℕ
 unfolding meaning walk and_then sleep_result lines_result raise_result need_result cancel_result block with_sign nursery_result child handler_result cleanup_result tell then_tale tell_sleep tell_lines tell_need tell_raise tell_cancel tell_block tell_wait tell_gathered tell_child tell_handled tell_cleaned tale_by
 text_of_story_for job input task =
-    story_of_task (meaning_table job input) job input task
+    story_of_task (meaning_tables job input) job input task
 
 -- the task `late` of the race, which is cancelled by `stop`
 pub who_cancelled_late :

@@ -3,7 +3,8 @@ use Rattle.std.specs.Prelude.{◌≡◌, ℕ, List, [], ◌∷◌, codes, refl}
 use Rattle.std.specs.Fmt.{digits}
 use Rattle.job_tree.specs.Tree.{sleep, forever, Tree}
 use Rattle.job_meaning.specs.Examples.{nursery_of, start_of}
-use Rattle.job_meaning.specs.Meaning.{meaning, meaning_table}
+use Rattle.job_meaning.specs.Meaning.{meaning}
+use Rattle.job_meaning.specs.Tables.{meaning_tables}
 use Rattle.job_meaning.specs.Walk.{walk, and_then, sleep_result, lines_result, raise_result, need_result, cancel_result, set_result, event_wait, block, event_block, with_sign, nursery_result, child, handler_result, cleanup_result}
 use Rattle.job_story.specs.Examples.{job_named, lines_of}
 use Rattle.job_story.specs.Tell.{tell, then_tale, tell_sleep, tell_lines, tell_need, tell_raise, tell_cancel, tell_set, tell_event_wait, tell_block, tell_event, tell_wait, tell_gathered, tell_child, tell_handled, tell_cleaned, tale_by}
@@ -12,7 +13,7 @@ use Rattle.job_story.specs.Limit.{story_to}
 -- the story of the meaning up to a limit
 unfoldable pub text_of_story_to : ℕ → Tree → List ℕ → List ℕ
 unfolding meaning walk and_then sleep_result lines_result raise_result need_result cancel_result set_result event_wait block event_block with_sign nursery_result child handler_result cleanup_result tell then_tale tell_sleep tell_lines tell_need tell_raise tell_cancel tell_set tell_event_wait tell_block tell_event tell_wait tell_gathered tell_child tell_handled tell_cleaned tale_by
-text_of_story_to limit job input = story_to (meaning_table job input) limit job input
+text_of_story_to limit job input = story_to (meaning_tables job input) limit job input
 
 -- job m { nursery n { start a { forever; } start b { sleep 5; } } }
 abbrev pub endless : Tree

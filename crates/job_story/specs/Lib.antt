@@ -20,6 +20,7 @@ pub mod ExamplesCauses
 pub mod ExamplesLimit
 pub mod ExamplesFocus
 pub mod ExamplesEvents
+pub mod ExamplesObjects
 pub mod Rooms
 pub mod Stacks
 pub mod Heres
