@@ -2,18 +2,20 @@
 ghost use Rattle.std.specs.Prelude.{◌≡◌, ◌++◌, ◌==◌, if◌then◌else◌, OnOk, codes, decimal};
 ghost use Rattle.std.specs.Option.{option_map};
 ghost use Rattle.exceptions.specs.Texts.{label_text};
+ghost use Rattle.job_meaning.specs.Clocks.{tick_of};
 ghost use Rattle.job_story.specs.Held.{asked_of};
 ghost use Rattle.job_story.specs.Sentences.{ask_text, at_once_text, close_text, closed_text, gets_text, object_text};
 
-use crate::sentences::push_labelled;
+use crate::sentences::{push_labelled, push_since};
 use basics::push_number;
 use exceptions::{Label, push_label};
+use job_meaning::Clock;
 use job_story::Asked;
 use job_tree::{Ask, ObjectKind};
 use std::alloc::AllocError;
 
 // Appends what a task asks of a limiter or channel.
-pub(crate) fn push_ask(out: &mut Vec<u8>, ask: Ask, object: &Label) -> Result<(), AllocError>
+fn push_ask(out: &mut Vec<u8>, ask: Ask, object: &Label) -> Result<(), AllocError>
     ensures { OnOk result (out.new.items ≡ out.old.items ++ ask_text ask object.now) }
 {
     match ask {
@@ -23,12 +25,33 @@ pub(crate) fn push_ask(out: &mut Vec<u8>, ask: Ask, object: &Label) -> Result<()
     }
 }
 
-// Appends that a task waits for what it asked.
-pub(crate) fn push_queues(out: &mut Vec<u8>, ask: Ask, object: &Label) -> Result<(), AllocError>
-    ensures { OnOk result (out.new.items ≡ out.old.items ++ (codes "waits " ++ ask_text ask object.now)) }
+// Appends some words, and what a task asks after them.
+pub(crate) fn push_asking(
+    out: &mut Vec<u8>,
+    words: &[u8],
+    ask: Ask,
+    object: &Label,
+) -> Result<(), AllocError>
+    ensures { OnOk result (out.new.items ≡ out.old.items ++ (words.now ++ ask_text ask object.now)) }
 {
-    out.extend_from_slice(b"waits ")?;
+    out.extend_from_slice(words)?;
     push_ask(out, ask, object)
+}
+
+// Appends some words, what a task asks, and since when it waits for that.
+pub(crate) fn push_asked(
+    out: &mut Vec<u8>,
+    words: &[u8],
+    ask: Ask,
+    object: &Label,
+    clock: Clock,
+    since: u64,
+) -> Result<(), AllocError>
+    ensures { OnOk result (out.new.items
+        ≡ out.old.items ++ (words.now ++ ask_text ask object.now ++ codes " since " ++ decimal (tick_of clock since))) }
+{
+    push_asking(out, words, ask, object)?;
+    push_since(out, clock, since)
 }
 
 // Appends that a task enters a limiter or channel.
@@ -108,8 +131,7 @@ pub(crate) fn push_deadlocks(out: &mut Vec<u8>, ask: Ask, object: &Label) -> Res
     ensures { OnOk result (out.new.items
         ≡ out.old.items ++ (codes "has waited " ++ ask_text ask object.now ++ codes " as long as forever, and raises Deadlock")) }
 {
-    out.extend_from_slice(b"has waited ")?;
-    push_ask(out, ask, object)?;
+    push_asking(out, b"has waited ", ask, object)?;
     out.extend_from_slice(b" as long as forever, and raises Deadlock")
 }
 

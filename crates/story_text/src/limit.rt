@@ -10,7 +10,7 @@ ghost use Rattle.story_index.specs.Tasks.{sorted_in, walked_in};
 ghost use Rattle.story_index.specs.Lasts.{seen_last};
 ghost use Rattle.story_index.specs.Seen.{event_in};
 
-use crate::asks::push_ask;
+use crate::asks::push_asked;
 use crate::known::Known;
 use crate::label::push_padded;
 use crate::lines::{label_width, push_lines};
@@ -194,9 +194,7 @@ fn push_doing_in(
             push_unset(out, cancelled_from.of(event))
         }
         Happening::Queues { ask, object, .. } => {
-            out.extend_from_slice(b"waiting ")?;
-            push_ask(out, *ask, object)?;
-            push_since(out, clock, moment)
+            push_asked(out, b"waiting ", *ask, object, clock, moment)
         }
         _ => Ok(()),
     }

@@ -12,7 +12,7 @@ ghost use Rattle.story_index.specs.Found.{entering_in_code, cause_in_code};
 ghost use Rattle.story_text.specs.Known.{clock_in, events_in, cancelled_from_in};
 
 use crate::asks::{
-    push_ask, push_closed, push_closes, push_deadlocks, push_enters_object, push_gets, push_queues,
+    push_asked, push_asking, push_closed, push_closes, push_deadlocks, push_enters_object, push_gets,
     push_token_back,
 };
 use crate::known::Known;
@@ -82,7 +82,7 @@ fn push_happening(
         Happening::Awaits { event } => push_labelled(out, b"waits for event ", event),
         Happening::WasSet { event } => push_was_set(out, event),
         Happening::EntersObject { kind, label } => push_enters_object(out, *kind, label),
-        Happening::Queues { ask, object, .. } => push_queues(out, *ask, object),
+        Happening::Queues { ask, object, .. } => push_asking(out, b"waits ", *ask, object),
         Happening::Gets {
             ask,
             object,
@@ -250,13 +250,10 @@ fn push_during(out: &mut Vec<u8>, clock: Clock, during: &During) -> Result<(), A
             push_waiting(out, b" while waiting for event ", event, clock, *since)
         }
         During::InQueue { ask, object, since } => {
-            out.extend_from_slice(b" while waiting ")?;
-            push_ask(out, *ask, object)?;
-            push_since(out, clock, *since)
+            push_asked(out, b" while waiting ", *ask, object, clock, *since)
         }
         During::BeforeAsking { ask, object } => {
-            out.extend_from_slice(b" before it asks ")?;
-            push_ask(out, *ask, object)
+            push_asking(out, b" before it asks ", *ask, object)
         }
     }
 }
