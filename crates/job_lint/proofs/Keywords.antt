@@ -22,8 +22,8 @@ use Rattle.job_lint.specs.Fitting.{kept_as, kept_by, kept_if, keywords_from, ope
 
 -- the opening keywords of tokens, given whether one may stand at the first
 abbrev along : Bool → List Piece → List Keyword
-along opens [] = []
-along opens (p ∷ ps) = kept_if opens (word_in p.shape) (along (opens_after p.shape) ps)
+along may_open [] = []
+along may_open (p ∷ ps) = kept_if may_open (word_in p.shape) (along (opens_after p.shape) ps)
 
 -- each keyword is read as itself
 read_as_itself : (k : Keyword) → keyword_of (spelling_of k) ≡ Some k
@@ -41,14 +41,14 @@ same_shape : (t : Token) (p : Piece) (ts : List Token) (ps : List Piece) → sha
     (t.shape ≡ p.shape) × (shapes_of ts ≡ shapes_in ps)
 same_shape t p ts ps e = (cc, cc)
 
-keywords_along : (opens : Bool) (ts : List Token) (ps : List Piece) → shapes_of ts ≡ shapes_in ps → keywords_from opens ts ≡ along opens ps
-keywords_along opens [] [] e = refl
-keywords_along opens [] (p ∷ ps) e = absurd cc
-keywords_along opens (t ∷ ts) [] e = absurd cc
-keywords_along opens (t ∷ ts) (p ∷ ps) e =
+keywords_along : (may_open : Bool) (ts : List Token) (ps : List Piece) → shapes_of ts ≡ shapes_in ps → keywords_from may_open ts ≡ along may_open ps
+keywords_along may_open [] [] e = refl
+keywords_along may_open [] (p ∷ ps) e = absurd cc
+keywords_along may_open (t ∷ ts) [] e = absurd cc
+keywords_along may_open (t ∷ ts) (p ∷ ps) e =
     let two = same_shape t p ts ps e in
-    ap (λ (others : List Keyword). kept_if opens (word_in t.shape) others) (keywords_along (opens_after t.shape) ts ps two.1)
-    ∙ ap (λ (s : Shape). kept_if opens (word_in s) (along (opens_after s) ps)) two.0
+    ap (λ (others : List Keyword). kept_if may_open (word_in t.shape) others) (keywords_along (opens_after t.shape) ts ps two.1)
+    ∙ ap (λ (s : Shape). kept_if may_open (word_in s) (along (opens_after s) ps)) two.0
 
 -- there are as many places as keywords
 as_many_kept : (o : Option Keyword) (at : ℕ) (places : List ℕ) (others : List Keyword) → length places ≡ length others →
@@ -65,15 +65,15 @@ as_many_by : (o : Option (List ℕ)) (at : ℕ) (places : List ℕ) (others : Li
 as_many_by None at places others e = e
 as_many_by (Some name) at places others e = as_many_kept (keyword_of name) at places others e
 
-as_many_if : (opens : Bool) (shape : Shape) (at : ℕ) (places : List ℕ) (others : List Keyword) → length places ≡ length others →
-    length (with_place (begins opens shape) at places) ≡ length (kept_if opens (word_in shape) others)
+as_many_if : (may_open : Bool) (shape : Shape) (at : ℕ) (places : List ℕ) (others : List Keyword) → length places ≡ length others →
+    length (with_place (begins may_open shape) at places) ≡ length (kept_if may_open (word_in shape) others)
 as_many_if false shape at places others e = e
 as_many_if true shape at places others e = as_many_by (word_in shape) at places others e
 
-as_many_from : (opens : Bool) (ts : List Token) → length (places_from opens ts) ≡ length (keywords_from opens ts)
-as_many_from opens [] = refl
-as_many_from opens (t ∷ ts) =
-    as_many_if opens t.shape t.at (places_from (opens_after t.shape) ts) (keywords_from (opens_after t.shape) ts)
+as_many_from : (may_open : Bool) (ts : List Token) → length (places_from may_open ts) ≡ length (keywords_from may_open ts)
+as_many_from may_open [] = refl
+as_many_from may_open (t ∷ ts) =
+    as_many_if may_open t.shape t.at (places_from (opens_after t.shape) ts) (keywords_from (opens_after t.shape) ts)
     (as_many_from (opens_after t.shape) ts)
 
 pub as_many_places : (ts : List Token) → length (opening_places ts) ≡ length (opening_keywords ts)
