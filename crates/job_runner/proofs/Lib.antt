@@ -31,3 +31,4 @@ pub mod Finishing
 pub mod Opening
 pub mod Telling
 pub mod Lasting
+pub mod RecordOrder
