@@ -34,21 +34,21 @@ is_less xs ys = is_lt (slice_cmp nat_cmp xs ys)
 not_after : (xs ys : List ℕ) → is_less ys xs ≡ false → precedes xs ys ≡ true
 not_after [] ys e = refl
 not_after (x ∷ xs) [] e = absurd (let f : true ≡ false = e in cc)
-not_after (x ∷ xs) (y ∷ ys) e = by_order (cases_lt x y)
+not_after (x ∷ xs) (y ∷ ys) e = by_order (cases_lt x y) (not_after xs ys)
   where
     at : (b c : Bool) → nat_lt y x ≡ b → (y == x) ≡ c → is_lt (ordering_then (cond b Less (cond c Equal Greater)) (slice_cmp nat_cmp ys xs)) ≡ false
     at b c f g =
         ap (λ (d : Bool). is_lt (ordering_then (cond d Less (cond c Equal Greater)) (slice_cmp nat_cmp ys xs))) (sym f)
         ∙ (ap (λ (d : Bool). is_lt (ordering_then (cond (nat_lt y x) Less (cond d Equal Greater)) (slice_cmp nat_cmp ys xs))) (sym g) ∙ e)
 
-    later : (x ≡ y) ⊎ (x ≢ y) → y ≤ x → precedes (x ∷ xs) (y ∷ ys) ≡ true
-    later (inl same) le =
+    later : (x ≡ y) ⊎ (x ≢ y) → y ≤ x → (is_less ys xs ≡ false → precedes xs ys ≡ true) → precedes (x ∷ xs) (y ∷ ys) ≡ true
+    later (inl same) le more =
         let less : nat_lt y x ≡ false = grind (arith, nat_tests) in
         let less_too : nat_lt x y ≡ false = grind (arith, nat_tests) in
         ap (λ (b : Bool). b || (x == y && precedes xs ys)) less_too
         ∙ (ap (λ (b : Bool). b && precedes xs ys) (eq-eqb x y same)
-        ∙ not_after xs ys (at false true less (eq-eqb y x (sym same))))
-    later (inr differs) le =
+        ∙ more (at false true less (eq-eqb y x (sym same))))
+    later (inr differs) le more =
         absurd (let less : nat_lt y x ≡ true = (let lt : y < x = lesser in grind (arith, nat_tests)) in
         let f : true ≡ false = at true (y == x) less refl in cc)
       where
@@ -58,10 +58,10 @@ not_after (x ∷ xs) (y ∷ ys) e = by_order (cases_lt x y)
           | inr more ↦ absurd (differs (omega (arith, le, more)))
         ]
 
-    by_order : (x < y) ⊎ (y ≤ x) → precedes (x ∷ xs) (y ∷ ys) ≡ true
-    by_order (inl lt) =
+    by_order : (x < y) ⊎ (y ≤ x) → (is_less ys xs ≡ false → precedes xs ys ≡ true) → precedes (x ∷ xs) (y ∷ ys) ≡ true
+    by_order (inl lt) more =
         ap (λ (b : Bool). b || (x == y && precedes xs ys)) (let less : nat_lt x y ≡ true = grind (arith, nat_tests) in less)
-    by_order (inr le) = later (cases_eq x y) le
+    by_order (inr le) more = later (cases_eq x y) le more
 
 -- two of which none is after the other are the same
 same_lists : (xs ys : List ℕ) → is_less xs ys ≡ false → is_less ys xs ≡ false → xs ≡ ys
@@ -123,32 +123,32 @@ module _ {X : Type 0} where
   -- where none passes a test, each fails it
   none_pass : (p : X → Bool) (xs : List X) → filter p xs ≡ [] → All (λ (x : X). p x ≡ false) xs
   none_pass p [] e = All-nil (λ (x : X). p x ≡ false)
-  none_pass p (x ∷ xs) e = by_test (p x) refl
+  none_pass p (x ∷ xs) e = by_test (p x) refl (none_pass p xs)
     where
-      by_test : (b : Bool) → p x ≡ b → All (λ (y : X). p y ≡ false) (x ∷ xs)
-      by_test true f =
+      by_test : (b : Bool) → p x ≡ b → (filter p xs ≡ [] → All (λ (y : X). p y ≡ false) xs) → All (λ (y : X). p y ≡ false) (x ∷ xs)
+      by_test true f more =
           absurd (let g : x ∷ filter p xs ≡ [] = sym (ap (λ (b : Bool). cond b (x ∷ filter p xs) (filter p xs)) f) ∙ e in
           let n : suc (length (filter p xs)) ≡ 0 = ap length g in omega (arith, n))
-      by_test false f =
+      by_test false f more =
           All-cons (λ (y : X). p y ≡ false) x xs f
-          (none_pass p xs (sym (ap (λ (b : Bool). cond b (x ∷ filter p xs) (filter p xs)) f) ∙ e))
+          (more (sym (ap (λ (b : Bool). cond b (x ∷ filter p xs) (filter p xs)) f) ∙ e))
 
   -- one that passes it has what each has
   one_passes : (P : X → Type 0) (p : X → Bool) (xs ys : List X) (y : X) → All P xs → filter p xs ≡ y ∷ ys → (x : X) × P x × (p x ≡ true)
   one_passes P p [] ys y all e = absurd (let n : 0 ≡ suc (length ys) = ap length e in omega (arith, n))
-  one_passes P p (x ∷ xs) ys y all e = by_test (p x) refl
+  one_passes P p (x ∷ xs) ys y all e = by_test (p x) refl (one_passes P p xs ys y (All-tail P x xs all))
     where
-      by_test : (b : Bool) → p x ≡ b → (z : X) × P z × (p z ≡ true)
-      by_test true f = (x, All-head P x xs all, f)
-      by_test false f =
-          one_passes P p xs ys y (All-tail P x xs all) (sym (ap (λ (b : Bool). cond b (x ∷ filter p xs) (filter p xs)) f) ∙ e)
+      by_test : (b : Bool) → p x ≡ b → (filter p xs ≡ y ∷ ys → (z : X) × P z × (p z ≡ true)) → (z : X) × P z × (p z ≡ true)
+      by_test true f more = (x, All-head P x xs all, f)
+      by_test false f more =
+          more (sym (ap (λ (b : Bool). cond b (x ∷ filter p xs) (filter p xs)) f) ∙ e)
 
 -- ---- acts that were sorted
 
 abbrev act_at : PlacedAct → round_act
 act_at p = round_act_of p.act
 
-abbrev comes_before : PlacedAct → PlacedAct → Bool
+abbrev pub comes_before : PlacedAct → PlacedAct → Bool
 comes_before x y = is_less x.path.items y.path.items
 
 ranked : IsStrictWeakOrder comes_before
@@ -222,7 +222,12 @@ module _ (table : TaskTable) where
     Rises x zs = All (λ (z : PlacedAct). comes_before z x ≡ false) zs
 
     next : (x z : PlacedAct) (zs : List PlacedAct) → IsSortedBy comes_before (x ∷ z ∷ zs) → IsSortedBy comes_before (z ∷ zs)
-    next x z zs up k d from less = up (suc k) d (omega arith) (omega (arith, less))
+    next x z zs up k d from less =
+        let h = up (k + 1) d (omega arith) (omega (arith, less)) in
+        let one : k + 1 ≡ suc k = omega arith in
+        let two : k + 1 + 1 ≡ suc (k + 1) = omega arith in
+        subst (λ (n : ℕ). comes_before (slice_index_or (z ∷ zs) (k + 1) d) (slice_index_or (x ∷ z ∷ zs) n d) ≡ false) one
+        (subst (λ (m : ℕ). comes_before (slice_index_or (x ∷ z ∷ zs) m d) (slice_index_or (x ∷ z ∷ zs) (k + 1) d) ≡ false) two h)
 
     rises : (x : PlacedAct) (zs : List PlacedAct) → IsSortedBy comes_before (x ∷ zs) → Rises x zs
     rises x [] up = All-nil (λ (z : PlacedAct). comes_before z x ≡ false)
@@ -242,24 +247,26 @@ module _ (table : TaskTable) where
       precedes_all x zs e (All-tail IsPlaced z zs all) (All-tail (λ (y : PlacedAct). comes_before y x ≡ false) z zs up),
     )
 
+    up_rest : (z : PlacedAct) (ws : List PlacedAct) → IsSortedBy comes_before (z ∷ ws) → IsSortedBy comes_before ws
+    up_rest z [] up = λ k d from less. absurd (omega (arith, less))
+    up_rest z (w ∷ ws) up = next z w ws up
+
     sorted_acts : (zs : List PlacedAct) → All IsPlaced zs → IsSortedBy comes_before zs →
         AreSorted (path_of table) (map round_act_of (map act_of_placed zs))
     sorted_acts [] all up = tt
     sorted_acts (z ∷ zs) all up = (
       precedes_all z zs (All-head IsPlaced z zs all) (All-tail IsPlaced z zs all) (rises z zs up),
-      sorted_acts zs (All-tail IsPlaced z zs all) (rest zs up),
+      sorted_acts zs (All-tail IsPlaced z zs all) (up_rest z zs up),
     )
-      where
-        rest : (ws : List PlacedAct) → IsSortedBy comes_before (z ∷ ws) → IsSortedBy comes_before ws
-        rest [] up k d from less = absurd (omega (arith, less))
-        rest (w ∷ ws) up = next z w ws up
 
     -- so they are in the order of records
-    pub in_order : {round : List RoundAct} → map act_of_placed xs ≡ round → IsStableBy comes_before xs ys → IsSortedBy comes_before ys →
+    pub in_order : {round : List RoundAct} (Compares : (PlacedAct → PlacedAct → Bool) → Type 0) → map act_of_placed xs ≡ round →
+        ((lt : PlacedAct → PlacedAct → Bool) → IsStrictWeakOrder lt → Compares lt → IsSortedBy lt ys) →
+        ((lt : PlacedAct → PlacedAct → Bool) → IsStrictWeakOrder lt → Compares lt → IsStableBy lt xs ys) → Compares comes_before →
         AreOrdered table round ys
-    in_order e stable up =
+    in_order Compares e up stable compares =
         subst (λ (round : List RoundAct). AreOrdered table round ys) e
-        (record { same = same_acts stable; sorted = sorted_acts ys placed_too up })
+        (record { same = same_acts (stable comes_before ranked compares); sorted = sorted_acts ys placed_too (up comes_before ranked compares) })
 
     -- with the parts that they had
     pub order_lent : {round : List RoundAct} → map act_of_placed xs ≡ round → (input : List ℕ) → All (IsActOf input) round →
@@ -288,9 +295,9 @@ placing_next {table} {round} {left} {rest} {placed} {more} act p h e is path pus
     record {
       acts =
           ap (λ (ps : List PlacedAct). map act_of_placed ps ++ rest) pushed
-          ∙ (ap (λ (as : List RoundAct). as ++ rest) (map-append act_of_placed placed (p ∷ []))
+          ∙ (ap (λ (xs : List RoundAct). xs ++ rest) (map-append act_of_placed placed (p ∷ []))
           ∙ (append_assoc (map act_of_placed placed) (p.act ∷ []) rest
           ∙ (ap (λ (a : RoundAct). map act_of_placed placed ++ a ∷ rest) is
-          ∙ (ap (λ (as : List RoundAct). map act_of_placed placed ++ as) (sym e) ∙ h.acts))));
+          ∙ (ap (λ (xs : List RoundAct). map act_of_placed placed ++ xs) (sym e) ∙ h.acts))));
       paths = rw pushed (All-push (IsPlaced table) placed p h.paths (path ∙ ap (λ (a : RoundAct). path_of table a.row) (sym is)));
     }
