@@ -32,3 +32,5 @@ pub mod Opening
 pub mod Telling
 pub mod Lasting
 pub mod RecordOrder
+pub mod Served
+pub mod ServedRunner
