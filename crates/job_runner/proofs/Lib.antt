@@ -34,3 +34,4 @@ pub mod Lasting
 pub mod RecordOrder
 pub mod Served
 pub mod ServedRunner
+pub mod GrantsMade
