@@ -44,7 +44,7 @@ use Rattle.job_runner.specs.Limits.{last_of}
 use Rattle.clock.specs.Sleeping.{IsFirst}
 use Rattle.task_table.specs.TaskTable.{running_at, task_of, ended_task_of, id_of, task_count, run_state, IsTaskTable}
 use Rattle.job_runner.specs.Shared.{what_of, granted_among, later_calls, ready_calls, round_act_of, sharing_of}
-use Rattle.job_runner.specs.Shelves.{left_in, moment_of, GoesBy, ContinuesLater, IsCalledAdded, IsCalledLater, IsServed, IsServedIf, IsConsistent, IsAsleepIn, DozesIn, Stays, sleep_slot_of, wait_slot_of, timer_times, settled_times, task_state_times, running_times, times_shelved, state_in, IsUnderway}
+use Rattle.job_runner.specs.Shelves.{left_in, moment_of, GoesBy, ContinuesLater, IsCalledAdded, IsCalledLater, IsServed, IsServedIf, IsConsistent, IsAsleepIn, IsQueuedIn, DozesIn, Stays, sleep_slot_of, wait_slot_of, timer_times, settled_times, task_state_times, running_times, times_shelved, state_in, IsUnderway}
 use Rattle.task_table.specs.Entries.{Added}
 use Rattle.task_table.specs.declared.entry.Entry.{Entry}
 use Rattle.task_table.specs.Rows.{times}
@@ -107,6 +107,19 @@ slept_now c u t s since saw is before to (inr now) =
       | inr le ↦ omega (arith, le, to, next, same)
     ]
 
+-- and one in a queue asked in it
+queued_now : (u t s since : ℕ) (saw : Bool) → nat_le s t ≡ saw → s < u → u ≤ max (suc t) s → (saw ≡ false) ⊎ (since ≡ t) → u ≤ suc since
+queued_now u t s since saw is before to (inl unseen) =
+    elim (leb_tells s t) [
+      | inl h ↦ absurd (let f : true ≡ false = sym h.0 ∙ (is ∙ unseen) in cc)
+      | inr h ↦ absurd (let lt : t < s = h.1 in omega (arith, lt, before, to))
+    ]
+queued_now u t s since saw is before to (inr now) =
+    elim (cases_lt t s) [
+      | inl lt ↦ absurd (omega (arith, lt, before, to))
+      | inr le ↦ omega (arith, le, to, now)
+    ]
+
 -- one that dozes fell asleep before each later moment
 dozed_before : (world : World) (scope : Option ℕ) (t : ℕ) (task_state : TaskState) → world.tick < t → DozesIn world scope task_state →
     BeganBefore t task_state
@@ -118,11 +131,6 @@ dozed_before world scope t (Queued object ask since body) later h = let le : sin
 dozed_before world scope t (GivingUp since) later h = tt
 dozed_before world scope t (Awaits id since) later h = tt
 dozed_before world scope t Over later h = tt
-
--- a round lasts until the next moment at most
-round_most : (c : Clock) (since : ℕ) → a_round_after c since ≤ suc since
-round_most by_ticks since = omega arith
-round_most by_rounds since = omega arith
 
 -- a task that is among some has what each of these has
 one_among : (P : Added → Type 0) (id : ℕ) (xs : List Added) → All P xs → 1 ≤ times_next id xs → (a : Added) × P a × (a.0 ≡ id)
@@ -284,10 +292,19 @@ module _ {r : Runner} (w : IsUnderway r) (none : r.batch.current ≡ []) where
           let to = served.through in
           omega (arith, le, to))
 
-      in_queue : (since : ℕ) → (upto u (sight (outer_of r.world.scopes (scope_of task))) ≡ u) ⊎ (u ≤ a_round_after r.world.clock since) →
-          (upto u (sight (outer_of r.world.scopes (scope_of task))) ≡ u) ⊎ (u ≤ suc since)
-      in_queue since (inl h) = inl h
-      in_queue since (inr h) = inr (let most = round_most r.world.clock since in omega (arith, h, most))
+      -- nor does one in a queue, or has been there for a round at most
+      in_queue : (since : ℕ) (a : KeptAs task) → IsQueuedIn r.world (scope_of task) since →
+          sight_asleep r.world (scope_of task) task.task_state ≡ sight (outer_of r.world.scopes (scope_of task)) →
+          (c : Tick) → sight (outer_of r.world.scopes (scope_of task)) ≡ c → (upto u c ≡ u) ⊎ (u ≤ suc since)
+      in_queue since a dozes as_asleep None g = inl refl
+      in_queue since a dozes as_asleep (Some s) g =
+          elim (cases_lt s u) [
+            | inl lt ↦
+                inr (queued_now u r.world.tick s since (seen (outer_of r.world.scopes (scope_of task)) r.world.tick)
+                (sym (ap (λ (c : Tick). is_reached c r.world.tick) g)) lt
+                (within s a (as_asleep ∙ g)) dozes.1)
+            | inr le ↦ inl (let f : min u s ≡ u = omega (arith, le) in f)
+          ]
 
       by_task_state : (task_state : TaskState) → task.task_state ≡ task_state →
           StaysTo r.world r.through ((state_in r).granted p) u (scope_of task) task_state
@@ -310,8 +327,8 @@ module _ {r : Runner} (w : IsUnderway r) (none : r.batch.current ≡ []) where
           let a = as_kept (Queued object ask since body) h refl in (
             ungranted (later_calls r) refl,
             by_moment (Queued object ask since body) h a (last_grant r.world.clock since) refl,
-            in_queue since (by_sight since a (subst (DozesIn r.world (scope_of task)) h a.stays.dozes)
-                (ap (sight_asleep r.world (scope_of task)) h) (sight (outer_of r.world.scopes (scope_of task))) refl),
+            in_queue since a (subst (DozesIn r.world (scope_of task)) h a.stays.dozes) (ap (sight_asleep r.world (scope_of task)) h)
+                (sight (outer_of r.world.scopes (scope_of task))) refl,
           )
       by_task_state (GivingUp since) h = by_moment (GivingUp since) h (as_kept (GivingUp since) h refl) (suc since) refl
       by_task_state (Awaits id since) h =

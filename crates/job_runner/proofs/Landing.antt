@@ -1,6 +1,6 @@
 -- A runner whose clock jumped: whether it may, and its state when the tasks that may continue
 -- are ready.
-use Rattle.std.proofs.Common.{◌≡◌, ◌≢◌, ℕ, suc, ◌<◌, ◌≤◌, ◌^◌, Option, Some, None, List, [], ◌∷◌, ◌++◌, length, map, refl, ap, sym, ◌∙◌, subst, arith}
+use Rattle.std.proofs.Common.{◌≡◌, ◌≢◌, ℕ, Bool, true, false, suc, ◌<◌, ◌≤◌, ◌^◌, Option, Some, None, List, [], ◌∷◌, ◌++◌, length, map, refl, ap, sym, ◌∙◌, subst, arith}
 use Rattle.std.specs.Prelude.{◌⊎◌, All, IsSome}
 use Rattle.std.proofs.lemmas.List.{append-nil}
 use Rattle.std.proofs.lemmas.List.Elements.{All-map, All-nil}
@@ -19,7 +19,7 @@ use Rattle.task_machine.specs.declared.world.World.{World}
 use Rattle.run_refinement.specs.RunState.{EndedTask}
 use Rattle.job_runner.specs.declared.runner.Phase.TheVariants as phases
 use Rattle.job_runner.specs.declared.runner.Runner.{Runner}
-use Rattle.job_runner.specs.Jumps.{IsNextRound, IsNextMoment, IsPast, IsWaking, WakesOnly}
+use Rattle.job_runner.specs.Jumps.{AddsUngranted, IsNextRound, IsNextMoment, IsPast, IsWaking, WakesOnly}
 use Rattle.job_runner.specs.Limits.{last_of}
 use Rattle.job_runner.specs.Shared.{what_of, granted_among, later_calls, ready_calls}
 use Rattle.job_runner.specs.Phases.{phase_by, phase_of}
@@ -94,6 +94,12 @@ turned_parts {r} batch h current next = record {
   next = rw next (All-nil (IsAddedOf r.input.now));
   later = h.later;
 }
+
+-- where a batch has nothing for later, nothing was added
+pub none_next : (has : Bool) (added : List Added) → (added ≢ [] → has ≡ true) → has ≡ false → added ≡ []
+none_next has [] tells e = refl
+none_next has (a ∷ added) tells e =
+    absurd (let f : true ≡ false = sym (tells (λ g. (let n : suc (length added) ≡ 0 = ap length g in omega (arith, n)))) ∙ e in cc)
 
 -- ---- a run that is blocked
 
@@ -260,3 +266,28 @@ module _ {r : Runner} (w : IsUnderway r) (blocked : phase_of r ≡ phases.Blocke
         -- first those that see a cancellation are woken, and then those whose moment has come
         pub both_woken : (seen woken : Runner) → WakesOnly there seen → WakesOnly seen woken → WakesOnly there woken
         both_woken seen woken a b = only_again there seen woken a b
+
+        -- what the steps of a jump lead to: `rested` has the batch of those that continue a round later, then those are woken that see a
+        -- cancellation, and then those whose moment has come
+        module _ {rested : Runner} (is : rested ≡ there) where
+          pub rested_waking : IsWaking rested
+          rested_waking = subst IsWaking (sym is) jumped
+
+          module _ {seen woken : Runner} (only_seen : WakesOnly rested seen) (only_woken : WakesOnly seen woken) where
+            pub woken_moment : IsNextMoment r woken.world.tick
+            woken_moment =
+                next_moment woken
+                (ap (λ (x : Runner). x.world) only_woken ∙ ap (λ (x : Runner). x.world) only_seen ∙ ap (λ (x : Runner). x.world) is)
+
+            pub woken_underway : AddsUngranted rested seen → AddsUngranted seen woken → AreShelved None woken → woken.batch.current ≡ [] →
+                woken.batch.next ≢ [] → (turned : Batches) → turned.current ≡ map without_answer woken.batch.next → turned.next ≡ [] →
+                NonePlaced turned.current → IsUnderway (record woken { batch = turned })
+            woken_underway first more shelved over some turned current next fresh =
+                landed woken (both_woken seen woken (subst (λ (x : Runner). WakesOnly x seen) is only_seen) only_woken)
+                (λ id. more.granted id ∙ first.granted id ∙ ap (λ (x : Runner). granted_among id (ready_calls x)) is)
+                (more.parts r.input.now (first.parts r.input.now ready_parts)) shelved over some turned current next fresh
+              where
+                ready_parts : All (IsAddedOf r.input.now) rested.batch.next
+                ready_parts =
+                    subst (λ (x : Runner). All (IsAddedOf r.input.now) x.batch.next) (sym is)
+                    (subst (λ (b : Batches). All (IsAddedOf r.input.now) b.next) (sym is_batch) w.going.lent.later)

@@ -31,3 +31,7 @@ pub mod Finishing
 pub mod Opening
 pub mod Telling
 pub mod Lasting
+pub mod RecordOrder
+pub mod Served
+pub mod ServedRunner
+pub mod GrantsMade

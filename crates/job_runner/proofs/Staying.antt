@@ -21,7 +21,7 @@ use Rattle.task_machine.specs.Labels.{Events}
 use Rattle.task_machine.specs.Tasks.{scope_of, lent_of}
 use Rattle.task_machine.specs.Worlds.{event_at}
 use Rattle.task_table.specs.declared.entry.Call.{Call}
-use Rattle.job_runner.specs.Shelves.{left_in, moment_of, IsAsleepIn, DozesIn, Stays, ContinuesBy, ContinuesLater, settled_times, task_state_times}
+use Rattle.job_runner.specs.Shelves.{left_in, moment_of, IsAsleepIn, IsQueuedIn, DozesIn, Stays, ContinuesBy, ContinuesLater, settled_times, task_state_times}
 use Rattle.job_runner.proofs.Goes.{left_is, left_settled}
 
 -- ---- how often a task is kept that has a moment
@@ -89,6 +89,15 @@ asleep_still old new scope since clock tick same h = (let le = h.0 in omega (ari
     by_either (inl unseen) = inl (same ∙ unseen)
     by_either (inr now) = inr (clock ∙ now.0, now.1 ∙ sym tick)
 
+queued_still : (old new : World) (scope : Option ℕ) (since : ℕ) → new.tick ≡ old.tick →
+    seen (outer_of new.scopes scope) new.tick ≡ seen (outer_of old.scopes scope) old.tick → IsQueuedIn old scope since → IsQueuedIn new scope since
+queued_still old new scope since tick same h = (let le = h.0 in omega (arith, le, tick), by_either h.1)
+  where
+    by_either : (seen (outer_of old.scopes scope) old.tick ≡ false) ⊎ (since ≡ old.tick) →
+        (seen (outer_of new.scopes scope) new.tick ≡ false) ⊎ (since ≡ new.tick)
+    by_either (inl unseen) = inl (same ∙ unseen)
+    by_either (inr now) = inr (now ∙ sym tick)
+
 pub dozes_still : (old new : World) (scope : Option ℕ) (task_state : TaskState) → new.clock ≡ old.clock → new.tick ≡ old.tick →
     seen (outer_of new.scopes scope) new.tick ≡ seen (outer_of old.scopes scope) old.tick → DozesIn old scope task_state →
     DozesIn new scope task_state
@@ -96,7 +105,7 @@ dozes_still old new scope (ToBegin at) clock tick same h = tt
 dozes_still old new scope (Asked kernel purpose) clock tick same h = tt
 dozes_still old new scope (Asleep paced ticks since) clock tick same h = asleep_still old new scope since clock tick same h
 dozes_still old new scope (Waiting event since) clock tick same h = asleep_still old new scope since clock tick same h
-dozes_still old new scope (Queued object ask since body) clock tick same h = asleep_still old new scope since clock tick same h
+dozes_still old new scope (Queued object ask since body) clock tick same h = queued_still old new scope since tick same h
 dozes_still old new scope (GivingUp since) clock tick same h = tt
 dozes_still old new scope (Awaits id since) clock tick same h = tt
 dozes_still old new scope Over clock tick same h = tt

@@ -63,7 +63,7 @@ impl<'a> Runner<'a> {
 
     // Each task that continues a round later is ready.
     fn wake_later(&mut self)
-        requires none_ready { (self.old.batch.current ≡ []) × (self.old.batch.next ≡ []) }
+        requires { (self.old.batch.current ≡ []) × (self.old.batch.next ≡ []) }
         ensures ready { self.new.batch ≡ self.old.later }
         ensures none { self.new.later ≡ self.old.batch }
         ensures rest { self.new ≡ record self.old { batch = self.new.batch; later = self.new.later } }

@@ -1,7 +1,7 @@
 use Rattle.std.proofs.Common.{refl, ap, ◌∙◌}
 use Rattle.task_table.specs.TaskTable.{ended_task_of}
 use Rattle.job_runner.specs.declared.runner.Runner.{Runner}
-use Rattle.job_runner.proofs.Landing.{none_due, some_moment, next_round_later, past_limit, past_next, next_moment, not_too_late, no_earlier, jumped, both_woken, landed, none_ready, ready_some}
+use Rattle.job_runner.proofs.Landing.{none_due, some_moment, next_round_later, past_limit, past_next, not_too_late, no_earlier, none_ready, ready_some, rested_waking, woken_moment, woken_underway}
 use Rattle.job_runner.proofs.States.{moment_bounded}
 use Rattle.job_runner.proofs.Waking.{adds_more}
 use Rattle.job_runner.proofs.runner.Runner.jump.Goals as goal
@@ -31,13 +31,27 @@ set_now-requires-clause-later c = no_earlier c.requires.underway c.requires.bloc
 pub set_now-requires-clause-bounded : goal.set_now-requires-clause-bounded
 set_now-requires-clause-bounded c = not_too_late c.requires.underway c.requires.blocked c.next_round-next.ensures c.in-To.ensures
 
-pub wake_later-requires-clause-none_ready : goal.wake_later-requires-clause-none_ready
-wake_later-requires-clause-none_ready c = none_ready c.requires.underway c.requires.blocked c.next_round-next.ensures
+pub wake_later-requires : goal.wake_later-requires
+wake_later-requires c = none_ready c.requires.underway c.requires.blocked c.next_round-next.ensures
 
 pub wake_seen-requires : goal.wake_seen-requires
 wake_seen-requires c =
-    jumped c.requires.underway c.requires.blocked c.next_round-next.ensures c.in-To.ensures c.set_now.new.self c.set_now.ensures
-    c.wake_later.new.self.batch c.wake_later.new.self.later c.wake_later.ensures.ready c.wake_later.ensures.none
+    rested_waking c.requires.underway c.requires.blocked c.next_round-next.ensures c.in-To.ensures c.set_now.new.self c.set_now.ensures
+    c.wake_later.new.self.batch c.wake_later.new.self.later c.wake_later.ensures.ready c.wake_later.ensures.none c.wake_later.ensures.rest
+
+pub returns-clause-underway : goal.returns-clause-underway
+returns-clause-underway c =
+    woken_underway c.requires.underway c.requires.blocked c.next_round-next.ensures c.in-To.ensures c.set_now.new.self c.set_now.ensures
+    c.wake_later.new.self.batch c.wake_later.new.self.later c.wake_later.ensures.ready c.wake_later.ensures.none c.wake_later.ensures.rest
+    c.in_ok-wake_seen-in-To.ensures.rest c.in_ok-wake_due-in-To.ensures.rest c.in_ok-wake_seen-in-To.ensures.added
+    c.in_ok-wake_due-in-To.ensures.added c.in_ok-wake_due-in-To.ensures.shelved c.in_ok-wake_due-in-To.ensures.current
+    c.in_ok-wake_due-in-To.ensures.some c.turn_over.new.self c.turn_over.ensures.current c.turn_over.ensures.next c.turn_over.ensures.unplaced
+
+pub returns-clause-moment : goal.returns-clause-moment
+returns-clause-moment c =
+    woken_moment c.requires.underway c.requires.blocked c.next_round-next.ensures c.in-To.ensures c.set_now.new.self c.set_now.ensures
+    c.wake_later.new.self.batch c.wake_later.new.self.later c.wake_later.ensures.ready c.wake_later.ensures.none c.wake_later.ensures.rest
+    c.in_ok-wake_seen-in-To.ensures.rest c.in_ok-wake_due-in-To.ensures.rest
 
 pub returns-clause-ready : goal.returns-clause-ready
 returns-clause-ready c = ready_some c.turn_over.new.self.current c.wake_due.new.self.batch.next (ended_task_of c.wake_due.new.self.task_table 0)
