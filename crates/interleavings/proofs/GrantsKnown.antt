@@ -1,14 +1,17 @@
 -- What limiters and channels grant up to the present moment is what they grant by what the tasks of a run did to them before.
-use Rattle.std.proofs.Common.{◌≡◌, ℕ, suc, ◌<◌, ◌≤◌, min, Bool, true, false, Option, Some, None, List, [], ◌∷◌, ◌++◌, refl, sym, ap, ◌∙◌, inl, inr, arith, append_assoc, nat_lt, if◌then◌else◌}
+use Rattle.std.proofs.Common.{◌≡◌, ℕ, suc, ◌+◌, ◌<◌, ◌≤◌, min, Bool, true, false, Option, Some, None, List, [], ◌∷◌, ◌++◌, refl, sym, ap, ◌∙◌, inl, inr, arith, append_assoc, nat_le, nat_lt, if◌then◌else◌}
 use Rattle.std.proofs.lemmas.Bool.{le-ltb}
+use Rattle.std.proofs.lemmas.Bool.Decides.{nat_tests}
 use Rattle.std.proofs.lemmas.List.{append-nil}
 use Rattle.turn_semantics.specs.Lists.{IsAmong}
 use Rattle.job_tree.specs.Tree.{Tree}
+use Rattle.job_tree.specs.Names.{GivesNamesOnce}
+use Rattle.job_tree.specs.Starting.{StartsInNurseries}
 use Rattle.input_lines.specs.Lines.{Range}
 use Rattle.exceptions.specs.Exceptions.{Label}
 use Rattle.cancel_scopes.specs.Sight.{Tick}
 use Rattle.job_meaning.specs.Log.{Act, opens, asks, gives_back, closes, Log, nil, entry, sign, entered, act, task, followed_by, Result, Table, same_label}
-use Rattle.job_meaning.specs.Sharing.{Done, done_if, own_acts, acts_in, by_moment, unopened, serve_acts, Granted, find_given, grants_of, granted_before}
+use Rattle.job_meaning.specs.Sharing.{Done, done_if, own_acts, acts_in, by_moment, unopened, serve_acts, Granted, granted_if, find_given, grants_of, granted_before}
 use Rattle.job_meaning.specs.Walk.{Here}
 use Rattle.job_meaning.specs.Meaning.{root_label, root_log}
 use Rattle.job_meaning.specs.Follow.{follow}
@@ -18,11 +21,12 @@ use Rattle.job_meaning.proofs.Distinct.{same_label_itself}
 use Rattle.job_meaning.proofs.Late.{Timed, Late}
 use Rattle.job_meaning.proofs.GrantsBefore.{Each, near_grants}
 use Rattle.turn_semantics.specs.Midway.{Place, label_among, Tables, by_tables, stack_at}
-use Rattle.interleavings.specs.Interleaving.{Started, StartsChild, Kid, RunInvariant, AllFrom}
+use Rattle.interleavings.specs.Interleaving.{Started, StartsChild, Kid, RunInvariant, live, AllFrom}
 use Rattle.interleavings.specs.Going.{root_result}
 use Rattle.interleavings.specs.Rows.{children_made}
-use Rattle.interleavings.specs.Acts.{acts_made, asked_on, acts_pending, acts_of, acts_of_all, InOrder, all_taken, next_taken}
-use Rattle.interleavings.specs.Laws.{GrantsAreKnown}
+use Rattle.interleavings.specs.Acts.{acts_made, asked_on, acts_pending, acts_of, acts_of_all, InOrder, all_taken, next_taken, granted_so_far}
+use Rattle.interleavings.specs.Laws.{IsSettledBy, GrantsAreKnown}
+use Rattle.interleavings.specs.Runs.{Reached}
 use Rattle.interleavings.proofs.KnownActs.{act_timed, own_acts_each, acts_each}
 use Rattle.interleavings.proofs.Queues.{PendingOn, LeftFrom}
 use Rattle.interleavings.proofs.Lateness.{left_rest}
@@ -409,3 +413,30 @@ grants_are_known k job input names nurseries settled f t m qs r v from taken ord
         whole_acts k f whole qs interleaving v from (one_serial k job input f t m qs r)
         (kids_named k job input names nurseries settled f t m qs r) object (root_label job.name)
         (root_named k job input f t m qs r interleaving.root.root interleaving.root.among interleaving.root.first) taken order
+
+-- ---- all that was granted
+
+-- in its moment a grant is known
+known_by : (g : Granted) (v : ℕ) → g.at ≤ v → granted_before (suc v) (Some g) ≡ Some g
+known_by g v le = ap (λ (b : Bool). granted_if b g None) early
+  where
+    early : nat_le (g.at + 1) (suc v) ≡ true
+    early = grind (arith, nat_tests)
+
+-- so what is known in all moments determines it
+known_determines : (a b : Option Granted) → ((v : ℕ) → granted_before (suc v) a ≡ granted_before (suc v) b) → a ≡ b
+known_determines None None h = refl
+known_determines None (Some y) h = h y.at ∙ known_by y y.at (omega arith)
+known_determines (Some x) None h = sym (known_by x x.at (omega arith)) ∙ h x.at
+known_determines (Some x) (Some y) h =
+    sym (known_by x (x.at + y.at) (omega arith)) ∙ (h (x.at + y.at) ∙ known_by y (x.at + y.at) (omega arith))
+
+-- when all tasks of a run have ended, what tables grant is what was granted by what they did
+pub all_granted : (k : Tables) (job : Tree) (input : List ℕ) → GivesNamesOnce job → StartsInNurseries job → IsSettledBy k job input →
+    (f : Table) (t m : ℕ) (qs : List Started) → Reached k job input f t m qs → ((q : Started) → IsAmong q qs → live q.rest.stopped ≡ false) →
+    (taken : List Started) → InOrder qs (0 ∷ []) taken → (object asker : Label) (since : ℕ) →
+    k.granted object asker since ≡ granted_so_far taken object asker since
+all_granted k job input names nurseries settled f t m qs r ended taken order object asker since =
+    known_determines (k.granted object asker since) (granted_so_far taken object asker since)
+    (λ v. grants_are_known k job input names nurseries settled f t m qs r v (λ q i lives. absurd (let e : false ≡ true = sym (ended q i) ∙ lives in cc)) taken order
+    object asker since)

@@ -176,9 +176,9 @@ pub state_begins : (k : Tables) (job : Job) (input : List ℕ) (state : RunState
     IsNewWorld job state.world → IsRootTask job input root → state.task 0 ≡ Some root → ((p : ℕ) → state.task (suc p) ≡ None) →
     ((p : ℕ) → state.ended_task p ≡ None) → state.start 0 ≡ 0 →
     state.children 0 ≡ [] → state.turns ≡ 0 → state.path 0 ≡ 0 ∷ [] → state.through ≡ 0 → ((l : Label) → state.object l ≡ None) → state.round ≡ [] →
-    ((p : ℕ) → state.granted p ≡ None) → BeginsAs k job input state
+    ((p : ℕ) → state.granted p ≡ None) → ((object asker : Label) (u : ℕ) → state.grants object asker u ≡ None) → BeginsAs k job input state
 unfolding begun_interleaving
-state_begins k job input state root in_range starting names small world r first others ended_task start children turns path through objects round granted =
+state_begins k job input state root in_range starting names small world r first others ended_task start children turns path through objects round granted grants =
     record {
       is =
           record {
@@ -205,7 +205,7 @@ state_begins k job input state root in_range starting names small world r first 
             path_of_root = path;
             path_of_child = λ s c lt i. absurd (no_child s c lt i);
             shares = shares_none state (root_task k job input ∷ []) (λ s. root_task k job input) 1 (λ l q i. by_root l q i) (λ s lt. (inl refl, refl, refl))
-                objects round granted;
+                objects round granted grants;
           };
       at = refl;
     }
@@ -250,6 +250,6 @@ pub state_begun : (k : Tables) (job : Job) (input : List ℕ) (state : RunState)
     IsNewWorld job state.world → IsRootTask job input root → state.task 0 ≡ Some root → ((p : ℕ) → state.task (suc p) ≡ None) →
     ((p : ℕ) → state.ended_task p ≡ None) → state.start 0 ≡ 0 →
     state.children 0 ≡ [] → state.turns ≡ 0 → state.path 0 ≡ 0 ∷ [] → state.through ≡ 0 → ((l : Label) → state.object l ≡ None) → state.round ≡ [] →
-    ((p : ℕ) → state.granted p ≡ None) → Refines k job input 0 1 None state
-state_begun k job input state root in_range starting names small world r first others ended_task start children turns path through objects round granted =
-    (state_begins k job input state root in_range starting names small world r first others ended_task start children turns path through objects round granted).is
+    ((p : ℕ) → state.granted p ≡ None) → ((object asker : Label) (u : ℕ) → state.grants object asker u ≡ None) → Refines k job input 0 1 None state
+state_begun k job input state root in_range starting names small world r first others ended_task start children turns path through objects round granted grants =
+    (state_begins k job input state root in_range starting names small world r first others ended_task start children turns path through objects round granted grants).is

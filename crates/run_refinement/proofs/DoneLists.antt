@@ -1,11 +1,13 @@
 -- Lists of what was done: before a moment and from it on, in the order of moments.
-use Rattle.std.proofs.Common.{◌≡◌, inl, inr, ℕ, ◌+◌, ◌<◌, ◌≤◌, Bool, true, false, List, [], ◌∷◌, ◌++◌, refl, ap, sym, ◌∙◌, subst, arith, nat_lt, nat_le, append_assoc, if◌then◌else◌}
+use Rattle.std.proofs.Common.{◌≡◌, inl, inr, ℕ, suc, ◌+◌, ◌<◌, ◌≤◌, Bool, true, false, List, [], ◌∷◌, ◌++◌, refl, ap, sym, ◌∙◌, subst, arith, nat_lt, nat_le, append_assoc, if◌then◌else◌}
 use Rattle.std.proofs.lemmas.Bool.Decides.{nat_tests}
 use Rattle.std.proofs.lemmas.List.Elements.{filter-append}
 use Rattle.std.specs.List.{filter}
+use Rattle.exceptions.specs.Exceptions.{Label}
 use Rattle.turn_semantics.specs.Lists.{Each, IsAmong}
-use Rattle.job_meaning.specs.Sharing.{Done, Object, Given, by_moment, insert_by_moment, serve_act, serve_acts}
+use Rattle.job_meaning.specs.Sharing.{Done, Object, unopened, Given, find_given, granted_before, by_moment, insert_by_moment, serve_act, serve_acts}
 use Rattle.run_refinement.specs.Sharing.{done_before, done_from, object_after}
+use Rattle.run_refinement.proofs.Grants.{given_soon, found_soon}
 
 -- ---- elements that pass a test
 
@@ -90,3 +92,12 @@ serves_append o [] ys = refl
 serves_append o (d ∷ xs) ys =
     ap (λ (gs : List Given). (serve_act o d).given ++ gs) (serves_append (serve_act o d).object xs ys)
     ∙ sym (append_assoc (serve_act o d).given (serve_acts (serve_act o d).object xs) (serve_acts (object_after (serve_act o d).object xs) ys))
+
+-- ---- what is granted
+
+-- what is granted by acts of a moment or before is known in the next one
+pub known_soon : (t v : ℕ) (asker : Label) (since : ℕ) (ds : List Done) → Each (λ (d : Done). d.at ≤ t) ds → suc t < v →
+    granted_before v (find_given asker since (serve_acts unopened (by_moment ds))) ≡ find_given asker since (serve_acts unopened (by_moment ds))
+known_soon t v asker since ds h late =
+    found_soon t v asker since (serve_acts unopened (by_moment ds))
+    (given_soon t unopened (by_moment ds) (sorted_each (λ (d : Done). d.at ≤ t) ds h)) late

@@ -13,7 +13,7 @@ use Rattle.job_meaning.specs.Before.{act_before, left_before}
 use Rattle.job_meaning.specs.Sharing.{Done, done_if, Asker, Given, Granted, granted_if, granted_before, find_given, Object, unopened, a_limiter, a_channel, by_moment, insert_by_moment, serve_acts}
 use Rattle.job_meaning.specs.Walk.{Here}
 use Rattle.job_meaning.specs.Rest as rest
-use Rattle.job_meaning.specs.Rest.{Event, noted, signs, enters, acts, starts, Frame, Stopped, queued, inside}
+use Rattle.job_meaning.specs.Rest.{Event, noted, signs, enters, acts, starts, Stopped, queued, inside}
 use Rattle.job_meaning.proofs.Distinct.{same_label_equal}
 use Rattle.job_meaning.proofs.ServedAlike.{sender_by}
 use Rattle.turn_semantics.specs.Lists.{Each, IsAmong}
@@ -398,3 +398,23 @@ none_queued job t l n q name ask since body w taken is label before one once gra
         let f : count p (askers_in (acts_of_all l taken)) ≤ 0 =
         subst (λ (z : Bool). count p (askers_in (acts_of_all l taken)) ≤ (if z then count (λ (x : Started). same_label q.here.task x.here.task) taken else 0)) i d in
         omega (arith, a, b, c, e, f)
+
+-- a task in a queue to which a limiter or channel grants something is in the queue of that one
+pub granted_own : (l n : Label) (q : Started) (name : List ℕ) (ask : Ask) (since : ℕ) (body : Steps) (taken : List Started) (g : Granted) →
+    q.rest.stopped ≡ queued name ask since body → label_among true name q.places ≡ Some n → AsksBefore since q.made →
+    ((x : Started) → IsAmong x taken → x.here.task ≡ q.here.task → x ≡ q) → granted_so_far taken l q.here.task since ≡ Some g → l ≡ n
+granted_own l n q name ask since body taken g is label before one found =
+    let a = given_count q.here.task since (serve_acts unopened (by_moment (acts_of_all l taken))) g found in
+    let b = acts_give (asked_then q.here.task since) unopened (by_moment (acts_of_all l taken)) in
+    let c = sorted_count (of_asker (asked_then q.here.task since)) (acts_of_all l taken) in
+    by_label (same_label l n) refl (all_count l n q name ask since body is label before taken one) (omega (arith, a, b, c))
+  where
+    asked : ℕ
+    asked = count (of_asker (asked_then q.here.task since)) (askers_in (acts_of_all l taken))
+
+    by_label : (b : Bool) → same_label l n ≡ b → asked ≤ (if same_label l n then count (λ (x : Started). same_label q.here.task x.here.task) taken else 0) →
+        1 ≤ asked → l ≡ n
+    by_label true e h some = same_label_equal l n e
+    by_label false e h some =
+        absurd (let none : asked ≤ 0 =
+        subst (λ (z : Bool). asked ≤ (if z then count (λ (x : Started). same_label q.here.task x.here.task) taken else 0)) e h in omega (arith, none, some))

@@ -242,7 +242,13 @@ state_takes k job input t m leaving old new same objects world c =
     (subst (λ (v : ℕ). (v ≡ t) ⊎ (v ≡ suc t)) (sym objects.through) c.through)
     (shares_kept old (record new { world = moved_world old.world t new.world }) c.interleaving.tasks c.interleaving.at m
     (λ ticket. ap (λ (o : Option Task). waits_by o ticket.since) (same.task ticket.row)) (sym c.tick)
-    (record { through = objects.through; object = objects.object; round = objects.round; granted = objects.granted }) c.shares)
+    (record {
+      through = objects.through;
+      object = objects.object;
+      round = objects.round;
+      granted = objects.granted;
+      grants = objects.grants;
+    }) c.shares)
 
 -- what was done in a moment is served
 pub state_serves : (k : Tables) (job : Job) (input : List ℕ) (t m : ℕ) (old new : RunState) → SameTasks old new → new.world ≡ old.world →

@@ -19,7 +19,7 @@ use Rattle.objects.specs.declared.object.Object.{Object as HeldObject}
 use Rattle.job_meaning.specs.Log.{Act, opens, asks, gives_back, closes, Table}
 use Rattle.job_meaning.specs.declared.clock.Clock.{Clock}
 use Rattle.job_meaning.specs.Before.{upto}
-use Rattle.job_meaning.specs.Sharing.{Done, Asker, Granted, Object, unopened, a_limiter, a_channel, stays_at, granted_if, granted_before, by_moment, serve_acts}
+use Rattle.job_meaning.specs.Sharing.{Done, Asker, Granted, Object, unopened, a_limiter, a_channel, stays_at, granted_if, granted_before, by_moment}
 use Rattle.job_meaning.specs.Walk.{Here, last_grant, leaves_queue, in_time}
 use Rattle.job_meaning.specs.Rest as rest
 use Rattle.job_meaning.specs.Rest.{Stopped, queued, inside}
@@ -48,8 +48,8 @@ use Rattle.run_refinement.specs.Sharing.{RoundAct, done_by, done_before, done_fr
 use Rattle.run_refinement.proofs.ActsKeep.{not_both}
 use Rattle.run_refinement.proofs.Blocks.{state_blocked, sight_known, all_stay_less}
 use Rattle.run_refinement.proofs.Counts.{one_if, count, count_append, in_object, sender_passes, asker_in, askers_in, acts_count}
-use Rattle.run_refinement.proofs.DoneLists.{all_before, none_from, each_weaker, sorted_each}
-use Rattle.run_refinement.proofs.Grants.{granted_in, given_soon, found_soon, leaves_from}
+use Rattle.run_refinement.proofs.DoneLists.{all_before, none_from, each_weaker, sorted_each, known_soon}
+use Rattle.run_refinement.proofs.Grants.{granted_in, leaves_from}
 use Rattle.run_refinement.proofs.LabelsApart.{below_of}
 use Rattle.run_refinement.proofs.Jumped.{state_jumps}
 use Rattle.run_refinement.proofs.RunFacts.{IsBy, DoneBy, LeftBy, ActBy, StopBy, all_by, acts_by_now, all_acts_by}
@@ -247,15 +247,19 @@ module _ (k : Tables) (job : Job) (input : List ℕ) (t u m : ℕ) (old : RunSta
     asked_by_now : (s : ℕ) → s < m → (name : List ℕ) (wanted : Ask) (since : ℕ) (body : Steps) → (at s).rest.stopped ≡ queued name wanted since body → since ≤ t
     asked_by_now s below name wanted since body is = (subst (StopBy k t (at s).places) is (by_now s below).stop).0
 
+    -- all that was granted so far is known in the next moment
+    all_known : (taken : List Started) → InOrder qs (0 ∷ []) taken → (v : ℕ) → (object asker : Label) (since : ℕ) → suc t < v →
+        granted_before v (granted_so_far taken object asker since) ≡ granted_so_far taken object asker since
+    all_known taken order v object asker since late =
+        known_soon t v asker since (acts_of_all object taken)
+        (each_weaker (DoneBy t) (λ d. d.at ≤ t) (acts_of_all object taken) (λ d h. h.0) (done_now taken order object)) late
+
     -- what was granted so far to a task in a queue is what the state says
     so_far : (taken : List Started) → InOrder qs (0 ∷ []) taken → (s : ℕ) → s < m → (name : List ℕ) (wanted : Ask) (since : ℕ) (body : Steps) →
         (at s).rest.stopped ≡ queued name wanted since body → (l : Label) → label_among true name (at s).places ≡ Some l →
         granted_so_far taken l (at s).here.task since ≡ granted_in (suc t) (old.granted s)
     so_far taken order s below name wanted since body is l e =
-        sym (found_soon t (suc (suc t)) (at s).here.task since (serve_acts unopened (by_moment (acts_of_all l taken)))
-        (given_soon t unopened (by_moment (acts_of_all l taken))
-        (each_weaker (DoneBy t) (λ d. d.at ≤ t) (by_moment (acts_of_all l taken)) (λ d h. h.0)
-        (sorted_each (DoneBy t) (acts_of_all l taken) (done_now taken order l)))) (omega arith))
+        sym (all_known taken order (suc (suc t)) l (at s).here.task since (omega arith))
         ∙ subst (λ (v : ℕ). granted_before (suc v) (granted_so_far taken l (at s).here.task since) ≡ granted_in v (old.granted s)) served
         ((subst (GrantedAt old taken s (at s)) is (c.shares.granted taken order s below)).0
         (subst (λ (v : ℕ). since < v) (sym served) (let a = asked_by_now s below name wanted since body is in omega (arith, a))) l e)
@@ -443,6 +447,13 @@ module _ (k : Tables) (job : Job) (input : List ℕ) (t u m : ℕ) (old : RunSta
                 (λ i ticket. ap (λ (o : Option Task). waits_by o ticket.since) (sym (same.task ticket.row)) i) (object_then taken order l)));
             granted = λ taken order s below. granted_then taken order s below (at s).rest.stopped refl (c.shares.granted taken order s below);
             ungranted = λ s le. passes.granted s ∙ c.shares.ungranted s le;
+            grants = λ taken order object asker v.
+                subst (λ (w : ℕ). new.grants object asker v ≡ granted_before (suc w) (granted_so_far taken object asker v)) (sym passes.through)
+                (passes.grants object asker v
+                ∙ (subst (λ (w : ℕ). old.grants object asker v ≡ granted_before (suc w) (granted_so_far taken object asker v)) served
+                (c.shares.grants taken order object asker v)
+                ∙ (all_known taken order (suc (suc t)) object asker v (omega arith)
+                ∙ sym (all_known taken order (suc u) object asker v (omega (arith, lt))))));
             known = λ a i. absurd (let j : IsAmong a [] = subst (λ (r : List RoundAct). IsAmong a r) passes.round i in j);
             asked = λ l.
                 subst (λ (v : ℕ). AreAskedBefore v (new.object l)) (sym passes.through)

@@ -28,6 +28,7 @@ pub mod AlikeActs
 pub mod Gone
 pub mod SharesTurned
 pub mod PathOrders
+pub mod ByMoment
 pub mod ServeRound
 pub mod SharesServed
 pub mod Queues

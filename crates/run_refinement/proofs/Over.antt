@@ -1,6 +1,6 @@
 -- All tasks of the program have ended: what is kept of them is what the job means.
-use Rattle.std.proofs.Common.{◌≡◌, ◌⊎◌, inl, inr, ℕ, suc, ◌<◌, ◌≤◌, Option, Some, None, List, [], ◌∷◌, map, refl, ap, sym, ◌∙◌, subst, arith}
-use Rattle.turn_semantics.specs.Lists.{IsAmong}
+use Rattle.std.proofs.Common.{◌≡◌, ◌⊎◌, inl, inr, ℕ, suc, ◌<◌, ◌≤◌, false, Option, Some, None, List, [], ◌∷◌, map, refl, ap, sym, ◌∙◌, subst, arith}
+use Rattle.turn_semantics.specs.Lists.{Each, IsAmong}
 use Rattle.exceptions.specs.Exceptions.{Exc}
 use Rattle.job_tree.specs.Tree.{Tree as Job}
 use Rattle.job_tree.specs.Names.{GivesNamesOnce}
@@ -10,20 +10,29 @@ use Rattle.job_meaning.specs.Moments.{clock_of, tick_of, a_round_after}
 use Rattle.job_meaning.specs.declared.clock.Clock.{Clock}
 use Rattle.job_meaning.specs.Walk.{Here}
 use Rattle.job_meaning.specs.Meaning.{root_label, root_here, meaning_records, meaning_cancelled_from, meaning_end, cancelled_from_by}
+use Rattle.job_meaning.specs.Sharing.{Done, granted_before}
+use Rattle.job_meaning.proofs.Settled.{table_is_settled}
 use Rattle.job_meaning.specs.Shown.{Shown, as_shown, shown_at}
 use Rattle.job_meaning.specs.Rest.{Event, noted, signs, enters, acts, starts, Stopped, to_begin, asking, asleep, waiting_for, giving_up, awaiting, at_end, queued}
 use Rattle.turn_semantics.specs.Midway.{Tables, Begun}
 use Rattle.task_machine.specs.Noted.{shown_made}
-use Rattle.interleavings.specs.Interleaving.{Started}
+use Rattle.interleavings.specs.Interleaving.{Started, live}
+use Rattle.interleavings.specs.Acts.{InOrder, acts_of_all, granted_so_far}
 use Rattle.interleavings.specs.Going.{root_task, task_after_turn, children_from}
 use Rattle.interleavings.specs.Rows.{Row, entries_made, entered_made, children_made, StartsRows, HasRow, records_by, cancelled_from_in, DepthFirst}
 use Rattle.interleavings.specs.Runs.{Reached, begun, turn, jump}
+use Rattle.interleavings.proofs.GrantsKnown.{all_granted}
+use Rattle.interleavings.proofs.Ordering.{orders_exist}
 use Rattle.interleavings.proofs.Picking.{front_same}
 use Rattle.interleavings.proofs.Readings.{in_either}
 use Rattle.interleavings.proofs.Running.{runs_are_the_meaning}
 use Rattle.run_refinement.specs.RunState.{RunState, EndedTask, HasEnded, AreStarted, Refines}
 use Rattle.run_refinement.specs.Over.{ShowsRow, IsOver}
-use Rattle.interleavings.specs.Laws.{meaning_tables}
+use Rattle.interleavings.specs.Laws.{IsSettledBy, meaning_tables}
+use Rattle.run_refinement.specs.Laws.{GrantsAreTheMeaning}
+use Rattle.run_refinement.proofs.DoneLists.{each_weaker, known_soon}
+use Rattle.run_refinement.proofs.Orders.{taken_in}
+use Rattle.run_refinement.proofs.RunFacts.{DoneBy, all_by, all_acts_by}
 
 -- ---- the root stays where it began
 
@@ -200,3 +209,35 @@ state_over job input names starting t m state c none =
         (records_by rows taken ≡ meaning_records job input) × (cancelled_from_in rows taken ≡ meaning_cancelled_from job input)
         × ((rows 0).end ≡ meaning_end job input)
     means taken d = runs_are_the_meaning job input names c.in_range c.small starting f t m c.interleaving.tasks c.interleaving.reached rows has_row label c.begun taken d
+
+-- and what was granted is what the limiters and channels of the job grant
+pub state_granted : GrantsAreTheMeaning
+state_granted job input names starting t m state c served over object asker u =
+    subst (λ (v : ℕ). state.grants object asker u ≡ granted_before (suc v) (granted_so_far order.0 object asker u)) served
+    (c.shares.grants order.0 order.1 object asker u)
+    ∙ (known_soon t (suc (suc t)) asker u (acts_of_all object order.0) dones (omega arith)
+    ∙ sym (all_granted (meaning_tables job input) job input names starting settled f t m qs c.interleaving.reached ended order.0 order.1 object asker u))
+  where
+    f : Table
+    f = c.interleaving.cancelled_from
+
+    qs : List Started
+    qs = c.interleaving.tasks
+
+    settled : IsSettledBy (meaning_tables job input) job input
+    settled = table_is_settled job input names c.in_range c.small
+
+    order : (taken : List Started) × InOrder qs (0 ∷ []) taken
+    order = orders_exist (meaning_tables job input) job input names starting settled f t m qs c.interleaving.reached
+
+    dones : Each (λ (d : Done). d.at ≤ t) (acts_of_all object order.0)
+    dones =
+        each_weaker (DoneBy t) (λ (d : Done). d.at ≤ t) (acts_of_all object order.0) (λ d h. h.0)
+        (all_acts_by (meaning_tables job input) t object order.0
+        (λ q i. all_by (meaning_tables job input) job input settled names starting f t m qs c.interleaving.reached q
+        (taken_in qs (0 ∷ []) order.0 order.1 q i)))
+
+    ended : (q : Started) → IsAmong q qs → live q.rest.stopped ≡ false
+    ended q i =
+        let h = c.interleaving.one q i in
+        ap (λ (y : Started). live y.rest.stopped) h.0 ∙ ap live (c.ended q.serial h.1 (over q.serial)).2.stopped

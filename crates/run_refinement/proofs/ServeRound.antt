@@ -15,6 +15,7 @@ use Rattle.objects.specs.Channels.{Sender, Channel, ChannelAct, ChannelServed, G
 use Rattle.objects.specs.Held.{ObjectOf, Gets, gets_token, gets_by, new_object, a_limiter as held_limiter, a_channel as held_channel}
 use Rattle.objects.specs.Whats.{What}
 use Rattle.objects.specs.declared.ticket.Ticket.{Ticket}
+use Rattle.exceptions.specs.Exceptions.{Label}
 use Rattle.job_meaning.specs.Log.{Act, opens, asks, gives_back, closes, same_label}
 use Rattle.job_meaning.specs.Sharing as sharing
 use Rattle.job_meaning.specs.Sharing.{Done, Asker, asker_of, stays_at, Given, Granted, granted_if, find_given, Object, unopened, a_limiter, a_channel, serve_act, serve_acts, limiter_acts, channel_acts}
@@ -23,15 +24,17 @@ use Rattle.job_meaning.proofs.ServedAlike.{limiter_served_by, AllLimiterActsAlik
 use Rattle.turn_semantics.specs.Lists.{Each}
 use Rattle.interleavings.specs.Interleaving.{Started}
 use Rattle.run_refinement.specs.Sharing.{RoundAct, Waiter, waiter_of, waiter_in, Offer, offer_of, offer_in, stays_to_send, SameObject, to_limiter, to_channel, Served, serve_one, serve_all, what_if, find_get, object_after}
+use Rattle.run_refinement.proofs.ActsKeep.{not_both}
 use Rattle.run_refinement.proofs.TurnedObjects.{EachTicket, filter_map_each}
 
--- a ticket of the code and an asker of the definitions, for the same task: both wait, or neither does
+-- a ticket of the code and an asker of the definitions, for the same task, which waits
 pub record Pair (at : ℕ → Started) (m t : ℕ) (waits : Ticket → Bool) : Type 0 where
   pub ticket : Ticket
   pub asker : Asker
   pub same : waiter_of at ticket ≡ waiter_in asker
   pub row : ticket.row < m
-  pub alike : stays_at t asker ≡ waits ticket
+  pub waits_now : waits ticket ≡ true
+  pub stays_now : stays_at t asker ≡ true
 
 -- tickets that wait are of tasks of the run
 abbrev pub Waits : (ℕ → Started) → ℕ → (Ticket → Bool) → Ticket → Type 0
@@ -69,7 +72,7 @@ module _ (at : ℕ → Started) (m t : ℕ) (waits : Ticket → Bool) where
       let more : map (waiter_of at) ks ≡ map waiter_in zs = tails (waiter_of at k) (waiter_in a) (map (waiter_of at) ks) (map waiter_in zs) e in
       let r = zip ks zs more w.1 h.1 in
       record {
-        pairs = record { ticket = k; asker = a; same = first; row = w.0.0; alike = h.0 ∙ sym w.0.1 } ∷ r.pairs;
+        pairs = record { ticket = k; asker = a; same = first; row = w.0.0; waits_now = w.0.1; stays_now = h.0 } ∷ r.pairs;
         tickets = ap (λ (xs : List Ticket). k ∷ xs) r.tickets;
         askers = ap (λ (xs : List Asker). a ∷ xs) r.askers;
       }
@@ -95,7 +98,10 @@ module _ (at : ℕ → Started) (m t : ℕ) (waits : Ticket → Bool) where
       let more : map (offer_of at) ks ≡ map offer_in zs = tails (offer_of at k) (offer_in a) (map (offer_of at) ks) (map offer_in zs) e in
       let r = zip_senders ks zs more w.1 h.1 in
       record {
-        pairs = record { who = record { ticket = k.who; asker = a.who; same = ap (λ (o : Offer). o.waiter) first; row = w.0.0; alike = h.0 ∙ sym w.0.1 }; part = k.part } ∷ r.pairs;
+        pairs = record {
+          who = record { ticket = k.who; asker = a.who; same = ap (λ (o : Offer). o.waiter) first; row = w.0.0; waits_now = w.0.1; stays_now = h.0 };
+          part = k.part;
+        } ∷ r.pairs;
         tickets = ap (λ (xs : List (Sender Ticket Range)). k ∷ xs) r.tickets;
         askers =
             ap (λ (p : Range). record { who = a.who; part = p } ∷ map (sender_by asker_in) r.pairs) (ap (λ (o : Offer). o.part) first)
@@ -142,7 +148,7 @@ module _ (at : ℕ → Started) (m t : ℕ) (waits : Ticket → Bool) where
 
       all_alike : (zs : List Z) → Each (λ (z : Z). stays_at t z.asker ≡ waits z.ticket) zs
       all_alike [] = tt
-      all_alike (z ∷ zs) = (z.alike, all_alike zs)
+      all_alike (z ∷ zs) = (z.stays_now ∙ sym z.waits_now, all_alike zs)
 
       pairs_same : (zs : List Z) → map (waiter_of at) (map ticket_of zs) ≡ map waiter_in (map asker_in zs)
       pairs_same [] = refl
@@ -162,7 +168,7 @@ module _ (at : ℕ → Started) (m t : ℕ) (waits : Ticket → Bool) where
 
       all_alike : (zs : List (Sender Z Range)) → Each (λ (s : Sender Z Range). stays_at t s.who.asker ≡ waits s.who.ticket) zs
       all_alike [] = tt
-      all_alike (z ∷ zs) = (z.who.alike, all_alike zs)
+      all_alike (z ∷ zs) = (z.who.stays_now ∙ sym z.who.waits_now, all_alike zs)
 
       pairs_same : (zs : List (Sender Z Range)) → map (offer_of at) (map (sender_by ticket_of) zs) ≡ map offer_in (map (sender_by asker_in) zs)
       pairs_same [] = refl
@@ -193,6 +199,7 @@ module _ (at : ℕ → Started) (m t : ℕ) (waits : Ticket → Bool) where
   abbrev pub SameGrant : Gets → Given → Type 0
   SameGrant g v =
       ((at g.who.row).here.task ≡ v.task) × (g.who.since ≡ v.asked) × (v.granted ≡ record { at = t + 1; what = g.what }) × (g.who.row < m)
+      × (waits g.who ≡ true)
 
   abbrev pub SameGrants : List Gets → List Given → Type 0
   SameGrants [] [] = Unit {0}
@@ -207,13 +214,13 @@ module _ (at : ℕ → Started) (m t : ℕ) (waits : Ticket → Bool) where
 
   same_tokens : (zs : List Z) → SameGrants (map gets_token (map ticket_of zs)) (map (λ who. sharing.given_at t who sharing.a_token) (map asker_in zs))
   same_tokens [] = tt
-  same_tokens (z ∷ zs) = ((ap (λ (w : Waiter). w.task) z.same, ap (λ (w : Waiter). w.since) z.same, refl, z.row), same_tokens zs)
+  same_tokens (z ∷ zs) = ((ap (λ (w : Waiter). w.task) z.same, ap (λ (w : Waiter). w.since) z.same, refl, z.row, z.waits_now), same_tokens zs)
 
   same_grant : (g : Grant Z Range) → SameGrant (gets_by (grant_by ticket_of g)) (sharing.given_by t (grant_by asker_in g))
-  same_grant (channels.sent z part) = (ap (λ (w : Waiter). w.task) z.same, ap (λ (w : Waiter). w.since) z.same, refl, z.row)
-  same_grant (channels.received z part) = (ap (λ (w : Waiter). w.task) z.same, ap (λ (w : Waiter). w.since) z.same, refl, z.row)
-  same_grant (channels.closed_resource z) = (ap (λ (w : Waiter). w.task) z.same, ap (λ (w : Waiter). w.since) z.same, refl, z.row)
-  same_grant (channels.end_of_channel z) = (ap (λ (w : Waiter). w.task) z.same, ap (λ (w : Waiter). w.since) z.same, refl, z.row)
+  same_grant (channels.sent z part) = (ap (λ (w : Waiter). w.task) z.same, ap (λ (w : Waiter). w.since) z.same, refl, z.row, z.waits_now)
+  same_grant (channels.received z part) = (ap (λ (w : Waiter). w.task) z.same, ap (λ (w : Waiter). w.since) z.same, refl, z.row, z.waits_now)
+  same_grant (channels.closed_resource z) = (ap (λ (w : Waiter). w.task) z.same, ap (λ (w : Waiter). w.since) z.same, refl, z.row, z.waits_now)
+  same_grant (channels.end_of_channel z) = (ap (λ (w : Waiter). w.task) z.same, ap (λ (w : Waiter). w.since) z.same, refl, z.row, z.waits_now)
 
   same_grants : (gs : List (Grant Z Range)) → SameGrants (map gets_by (map (grant_by ticket_of) gs)) (map (sharing.given_by t) (map (grant_by asker_in) gs))
   same_grants [] = tt
@@ -237,7 +244,8 @@ module _ (at : ℕ → Started) (m t : ℕ) (waits : Ticket → Bool) where
         asker = asker_of d left;
         same = λ i. record { task = sym f i; since = sym e i };
         row = lt;
-        alike = ap (λ x. stays_at t (asker_of d x)) none ∙ sym w;
+        waits_now = w;
+        stays_now = ap (λ x. stays_at t (asker_of d x)) none;
       }
 
   limiter_pairs : (s : ℕ) (d : Done) (a : Act) → d.at ≡ t → d.task ≡ (at s).here.task → ActFits m waits t s a →
@@ -476,3 +484,26 @@ module _ (at : ℕ → Started) (m t : ℕ) (waits : Ticket → Bool) where
       by_test false false e k = k
       by_test true false e k = absurd (cc)
       by_test false true e k = absurd (cc)
+
+  -- and who is given something waits
+  pub found_who : (label : Label) (u : ℕ) (gs : List Gets) (vs : List Given) (g : Granted) → SameGrants gs vs → find_given label u vs ≡ Some g →
+      (s : ℕ) × (s < m) × ((at s).here.task ≡ label) × (waits (record { row = s; since = u }) ≡ true)
+  found_who label u [] [] g h e = absurd (not_both refl e)
+  found_who label u [] (v ∷ vs) g h e = absurd h
+  found_who label u (x ∷ gs) [] g h e = absurd h
+  found_who label u (x ∷ gs) (v ∷ vs) g h e =
+      by_tests (same_label label v.task) refl (u == v.asked) refl e (λ later. found_who label u gs vs g h.1 later)
+    where
+      Found : Type 0
+      Found = (s : ℕ) × (s < m) × ((at s).here.task ≡ label) × (waits (record { row = s; since = u }) ≡ true)
+
+      by_tests : (a : Bool) → same_label label v.task ≡ a → (b : Bool) → (u == v.asked) ≡ b → granted_if (a && b) v.granted (find_given label u vs) ≡ Some g →
+          (find_given label u vs ≡ Some g → Found) → Found
+      by_tests true i true j f rest = (
+        x.who.row,
+        h.0.3,
+        h.0.0 ∙ sym (same_label_equal label v.task i),
+        subst (λ (n : ℕ). waits (record { row = x.who.row; since = n }) ≡ true) (h.0.1 ∙ sym (eqb-true u v.asked j)) h.0.4,
+      )
+      by_tests true i false j f rest = rest f
+      by_tests false i b j f rest = rest f

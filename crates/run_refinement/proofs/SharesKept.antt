@@ -6,7 +6,7 @@ use Rattle.objects.specs.Held.{object_in}
 use Rattle.objects.specs.Whats.{What}
 use Rattle.objects.specs.declared.ticket.Ticket.{Ticket}
 use Rattle.objects.specs.declared.object.Object.{Object}
-use Rattle.job_meaning.specs.Sharing.{Done, unopened, by_moment, granted_before}
+use Rattle.job_meaning.specs.Sharing.{Done, unopened, by_moment, serve_acts, find_given, granted_before}
 use Rattle.job_meaning.specs.Rest as rest
 use Rattle.turn_semantics.specs.Lists.{IsAmong}
 use Rattle.interleavings.specs.Interleaving.{Started}
@@ -53,6 +53,9 @@ shares_kept old new tasks at m waits tick same h =
           (h.served taken order l)));
       granted = λ taken order s lt. granted_kept old new taken s (at s) (at s).rest.stopped same.through (same.granted s) (h.granted taken order s lt);
       ungranted = λ s le. same.granted s ∙ h.ungranted s le;
+      grants = λ taken order object asker u.
+          subst (λ (v : ℕ). new.grants object asker u ≡ granted_before (suc v) (granted_so_far taken object asker u)) (sym same.through)
+          (same.grants object asker u ∙ h.grants taken order object asker u);
       known = λ a i. h.known a (subst (λ (r : List RoundAct). IsAmong a r) same.round i);
       asked = λ l.
           subst (λ (v : ℕ). AreAskedBefore v (new.object l)) (sym same.through)
@@ -71,8 +74,8 @@ none_done qs l none _ _ (next_taken q stack taken i order) =
 -- where no task has done anything, there is nothing
 pub shares_none : (state : RunState) (tasks : List Started) (at : ℕ → Started) (m : ℕ) → ((l : Label) (q : Started) → IsAmong q tasks → acts_of l q ≡ []) →
     ((s : ℕ) → s < m → IsAmong (at s) tasks × ((at s).made ≡ []) × ((at s).rest.stopped ≡ rest.to_begin)) → ((l : Label) → state.object l ≡ None) → state.round ≡ [] →
-    ((p : ℕ) → state.granted p ≡ None) → Shares state tasks at m
-shares_none state tasks at m none begun objects round granted =
+    ((p : ℕ) → state.granted p ≡ None) → ((object asker : Label) (u : ℕ) → state.grants object asker u ≡ None) → Shares state tasks at m
+shares_none state tasks at m none begun objects round granted grants =
     record {
       round = λ s lt l.
           ap (done_from state.through) (none l (at s) (begun s lt).0)
@@ -85,6 +88,10 @@ shares_none state tasks at m none begun objects round granted =
       granted = λ taken order s lt.
           subst (GrantedAt state taken s (at s)) (sym (begun s lt).2) (granted s);
       ungranted = λ s le. granted s;
+      grants = λ taken order object asker u.
+          grants object asker u
+          ∙ sym (ap (λ (ds : List Done). granted_before (suc state.through) (find_given asker u (serve_acts unopened (by_moment ds))))
+          (none_done tasks object (none object) (0 ∷ []) taken order));
       known = λ a i. absurd (let j : IsAmong a [] = subst (λ (r : List RoundAct). IsAmong a r) round i in j);
       asked = λ l waits. ap (option_map (object_in (asked_before state.through waits))) (objects l)
           ∙ sym (ap (option_map (object_in waits)) (objects l));

@@ -17,11 +17,14 @@ use Rattle.cancel_scopes.specs.Tree.{outer_of}
 use Rattle.objects.specs.Held.{ObjectOf, object_in}
 use Rattle.objects.specs.declared.ticket.Ticket.{Ticket}
 use Rattle.job_meaning.specs.Log.{Act, opens, asks, gives_back, closes, Table, same_label}
-use Rattle.job_meaning.specs.Sharing.{Done, done_if, Given, Granted, granted_if, granted_before, find_given, Object, unopened, by_moment, insert_by_moment, serve_acts}
+use Rattle.job_meaning.specs.Sharing.{Done, done_if, Given, Granted, granted_if, granted_before, find_given, Object, unopened, by_moment, serve_acts}
+use Rattle.job_meaning.specs.Walk.{Here}
 use Rattle.job_meaning.specs.Rest as rest
 use Rattle.job_meaning.specs.Rest.{Event, noted, signs, enters, acts, starts, Stopped, queued, inside}
 use Rattle.turn_semantics.specs.Lists.{Each, IsAmong}
 use Rattle.turn_semantics.specs.Midway.{label_among, Tables}
+use Rattle.turn_semantics.specs.Placed.{IsSome as IsSomeLabel}
+use Rattle.objects.specs.Whats.{What}
 use Rattle.task_machine.specs.declared.stop.TaskState.{TaskState}
 use Rattle.task_machine.specs.declared.stop.TaskState.TheVariants.{ToBegin, Asked, Asleep, Waiting, Queued, GivingUp, Awaits, Over}
 use Rattle.task_machine.specs.declared.task.Task.{Task}
@@ -35,13 +38,15 @@ use Rattle.interleavings.specs.Laws.{IsSettledBy}
 use Rattle.interleavings.specs.Rows.{children_made}
 use Rattle.run_refinement.specs.RunState.{RunState, Refines, GrantedAt, Shares}
 use Rattle.run_refinement.specs.Ready.{AllStay}
-use Rattle.run_refinement.specs.Moved.{SameTasks, ServesRound, granted_by, granted_for, granted_to, moved_world}
+use Rattle.run_refinement.specs.Moved.{SameTasks, ServesRound, WaitsFor, granted_by, granted_for, granted_to, moved_world}
 use Rattle.run_refinement.specs.Sharing.{RoundAct, done_by, done_before, done_from, object_after, waits_in, waits_by, is_queued, SameObject, AreAskedBefore, AsksBefore, asked_at, acts_by, acts_on, serve_all, find_get}
 use Rattle.run_refinement.proofs.ActsKeep.{not_both}
-use Rattle.run_refinement.proofs.Counts.{one_if, count, count_append, asker_in, askers_in, of_asker, of_given, acts_give}
-use Rattle.run_refinement.proofs.DoneLists.{all_before, none_from, from_append, each_weaker, each_filter, sorted_each, object_append, serves_append, befores}
-use Rattle.run_refinement.proofs.Gone.{asked_then, given_count}
-use Rattle.run_refinement.proofs.Grants.{granted_in, given_by, given_soon, found_soon}
+use Rattle.run_refinement.proofs.ByMoment.{split_moment, find_first, find_last, found_at, none_before}
+use Rattle.run_refinement.proofs.Counts.{count, askers_in, of_asker, of_given, acts_give}
+use Rattle.run_refinement.proofs.DoneLists.{all_before, none_from, from_append, each_weaker, each_filter, sorted_each, object_append, serves_append, befores, known_soon}
+use Rattle.run_refinement.proofs.EventPlaces.{HasEvent, has_event}
+use Rattle.run_refinement.proofs.Gone.{asked_then, given_count, granted_own}
+use Rattle.run_refinement.proofs.Grants.{granted_in, given_by}
 use Rattle.run_refinement.proofs.Jumped.{state_serves}
 use Rattle.run_refinement.proofs.JumpsOn.{once_later, same_later, no_late_object, stays_queued}
 use Rattle.run_refinement.proofs.LabelsApart.{below_of}
@@ -49,127 +54,8 @@ use Rattle.run_refinement.proofs.Orders.{Rises, labels_differ, all_are_taken, al
 use Rattle.run_refinement.proofs.RoundLists.{IsQueued}
 use Rattle.run_refinement.proofs.PathOrders.{serials, gather, gathered, paths_rise}
 use Rattle.run_refinement.proofs.RunFacts.{IsBy, DoneBy, StopBy, all_by, acts_by_now, all_acts_by, each_append}
-use Rattle.run_refinement.proofs.ServeRound.{Waits, ActFits, Alike, ServedSo, to_done, served_all, found_same}
+use Rattle.run_refinement.proofs.ServeRound.{Waits, ActFits, Alike, ServedSo, to_done, served_all, found_same, found_who}
 use Rattle.run_refinement.proofs.TurnedObjects.{tickets_weaker, tickets_wait}
-
--- ---- acts by a moment, in order
-
-insert_first : (t : ℕ) (d : Done) (xs ys : List Done) → d.at < t → Each (λ (e : Done). t ≤ e.at) ys → insert_by_moment d (xs ++ ys) ≡ insert_by_moment d xs ++ ys
-insert_first t d [] [] lt h = refl
-insert_first t d [] (e ∷ ys) lt h = ap (λ (b : Bool). if b then d ∷ e ∷ ys else e ∷ insert_by_moment d ys) early
-  where
-    early : nat_le d.at e.at ≡ true
-    early = let le : t ≤ e.at = h.0 in grind (arith, nat_tests)
-insert_first t d (x ∷ xs) ys lt h = by_order (nat_le d.at x.at) (insert_first t d xs ys lt h)
-  where
-    by_order : (b : Bool) → insert_by_moment d (xs ++ ys) ≡ insert_by_moment d xs ++ ys →
-        (if b then d ∷ x ∷ (xs ++ ys) else x ∷ insert_by_moment d (xs ++ ys)) ≡ (if b then d ∷ x ∷ xs else x ∷ insert_by_moment d xs) ++ ys
-    by_order true k = refl
-    by_order false k = ap (λ (zs : List Done). x ∷ zs) k
-
-insert_last : (t : ℕ) (d : Done) (xs ys : List Done) → d.at ≡ t → Each (λ (e : Done). e.at < t) xs → Each (λ (e : Done). t ≤ e.at) ys →
-    insert_by_moment d (xs ++ ys) ≡ xs ++ d ∷ ys
-insert_last t d [] [] e h k = refl
-insert_last t d [] (y ∷ ys) e h k = ap (λ (b : Bool). if b then d ∷ y ∷ ys else y ∷ insert_by_moment d ys) early
-  where
-    early : nat_le d.at y.at ≡ true
-    early = let le : t ≤ y.at = k.0 in grind (arith, nat_tests)
-insert_last t d (x ∷ xs) ys e h k =
-    ap (λ (b : Bool). if b then d ∷ x ∷ (xs ++ ys) else x ∷ insert_by_moment d (xs ++ ys)) late
-    ∙ ap (λ (zs : List Done). x ∷ zs) (insert_last t d xs ys e h.1 k)
-  where
-    late : nat_le d.at x.at ≡ false
-    late = let lt : x.at < t = h.0 in grind (arith, nat_tests)
-
-froms : (t : ℕ) (ds : List Done) → Each (λ (d : Done). t ≤ d.at) (done_from t ds)
-froms t [] = tt
-froms t (d ∷ ds) = by_time (nat_lt t (d.at + 1)) refl (froms t ds)
-  where
-    by_time : (b : Bool) → nat_lt t (d.at + 1) ≡ b → Each (λ (x : Done). t ≤ x.at) (done_from t ds) → Each (λ (x : Done). t ≤ x.at) (done_from t (d ∷ ds))
-    by_time true e h = rw e (let le : t ≤ d.at = grind (arith, nat_tests) in (le, h))
-    by_time false e h = rw e h
-
--- acts by this moment are those before it, and then its own
-split_moment : (t : ℕ) (ds : List Done) → Each (λ (d : Done). d.at ≤ t) ds → by_moment ds ≡ by_moment (done_before t ds) ++ done_from t ds
-split_moment t [] h = refl
-split_moment t (d ∷ ds) h = by_time (cases_lt d.at t) (ap (insert_by_moment d) (split_moment t ds h.1))
-  where
-    Inner : Type 0
-    Inner = insert_by_moment d (by_moment ds) ≡ insert_by_moment d (by_moment (done_before t ds) ++ done_from t ds)
-
-    by_time : (d.at < t) ⊎ (t ≤ d.at) → Inner → by_moment (d ∷ ds) ≡ by_moment (done_before t (d ∷ ds)) ++ done_from t (d ∷ ds)
-    by_time (inl lt) inner =
-        rw early (rw not_late (inner ∙ insert_first t d (by_moment (done_before t ds)) (done_from t ds) lt (froms t ds)))
-      where
-        early : nat_lt d.at t ≡ true
-        early = grind (arith, nat_tests)
-
-        not_late : nat_lt t (d.at + 1) ≡ false
-        not_late = grind (arith, nat_tests)
-    by_time (inr le) inner =
-        rw not_early (rw late (inner
-        ∙ insert_last t d (by_moment (done_before t ds)) (done_from t ds) (let g : d.at ≤ t = h.0 in omega (arith, g, le))
-        (sorted_each (λ (x : Done). x.at < t) (done_before t ds) (befores t ds)) (froms t ds)))
-      where
-        not_early : nat_lt d.at t ≡ false
-        not_early = grind (arith, nat_tests)
-
-        late : nat_lt t (d.at + 1) ≡ true
-        late = grind (arith, nat_tests)
-
--- ---- what was found first
-
-find_first : (l : Label) (since : ℕ) (xs ys : List Given) (g : Granted) → find_given l since xs ≡ Some g → find_given l since (xs ++ ys) ≡ Some g
-find_first l since [] ys g e = absurd (not_both refl e)
-find_first l since (x ∷ xs) ys g e = by_test (same_label l x.task && (since == x.asked)) e (find_first l since xs ys g)
-  where
-    by_test : (b : Bool) → granted_if b x.granted (find_given l since xs) ≡ Some g → (find_given l since xs ≡ Some g → find_given l since (xs ++ ys) ≡ Some g) →
-        granted_if b x.granted (find_given l since (xs ++ ys)) ≡ Some g
-    by_test true h k = h
-    by_test false h k = k h
-
-find_last : (l : Label) (since : ℕ) (xs ys : List Given) → find_given l since xs ≡ None → find_given l since (xs ++ ys) ≡ find_given l since ys
-find_last l since [] ys e = refl
-find_last l since (x ∷ xs) ys e = by_test (same_label l x.task && (since == x.asked)) e (find_last l since xs ys)
-  where
-    by_test : (b : Bool) → granted_if b x.granted (find_given l since xs) ≡ None → (find_given l since xs ≡ None → find_given l since (xs ++ ys) ≡ find_given l since ys) →
-        granted_if b x.granted (find_given l since (xs ++ ys)) ≡ find_given l since ys
-    by_test true h k = absurd (not_both h refl)
-    by_test false h k = k h
-
-found_at : (n : ℕ) (l : Label) (since : ℕ) (gs : List Given) (g : Granted) → Each (λ (x : Given). x.granted.at ≤ n) gs → find_given l since gs ≡ Some g → g.at ≤ n
-found_at n l since [] g h e = absurd (not_both refl e)
-found_at n l since (x ∷ gs) g h e = by_test (same_label l x.task && (since == x.asked)) e (found_at n l since gs g h.1)
-  where
-    by_test : (b : Bool) → granted_if b x.granted (find_given l since gs) ≡ Some g → (find_given l since gs ≡ Some g → g.at ≤ n) → g.at ≤ n
-    by_test true i k = subst (λ (z : Granted). z.at ≤ n) (let j : Some x.granted ≡ Some g = i in one_granted x.granted g j) h.0
-      where
-        one_granted : (a b : Granted) → Some a ≡ Some b → a ≡ b
-        one_granted a b j = cc
-    by_test false i k = k i
-
--- who asks now asked nothing before
-none_before : (label : Label) (t : ℕ) (ds : List Done) → Each (λ (d : Done). d.at < t) ds → count (of_asker (asked_then label t)) (askers_in ds) ≡ 0
-none_before label t [] h = refl
-none_before label t (d ∷ ds) h =
-    let a = count_append (of_asker (asked_then label t)) (asker_in d d.act) (askers_in ds) in
-    let b = of_act d.act in
-    let c = none_before label t ds h.1 in
-    omega (arith, a, b, c)
-  where
-    other : (b : Bool) → (t == d.at) ≡ b → (t == d.at) ≡ false
-    other false e = e
-    other true e = absurd (let f : t ≡ d.at = eqb-true t d.at e in let lt : d.at < t = h.0 in omega (arith, f, lt))
-
-    none : (b : Bool) → one_if (b && (t == d.at)) + 0 ≡ 0
-    none true = ap (λ (x : Bool). one_if x + 0) (other (t == d.at) refl) ∙ omega arith
-    none false = omega arith
-
-    of_act : (a : Act) → count (of_asker (asked_then label t)) (asker_in d a) ≡ 0
-    of_act (opens kind) = refl
-    of_act (asks ask part left) = none (same_label label d.task)
-    of_act gives_back = refl
-    of_act closes = refl
 
 -- ---- what tasks did in a round
 
@@ -664,8 +550,7 @@ module _ (k : Tables) (job : Job) (input : List ℕ) (t m : ℕ) (old new : RunS
     granted_then taken order s lt (queued name wanted since body) is = (
       λ before l e.
           subst (λ (v : ℕ). granted_before (suc v) (granted_so_far taken l (at s).here.task since) ≡ granted_in v (new.granted s)) (sym x.through)
-          (found_soon t (suc (suc t)) (at s).here.task since (serve_acts unopened (by_moment (acts_of_all l taken)))
-          (given_soon t unopened (by_moment (acts_of_all l taken)) (sorted_each (λ (d : Done). d.at ≤ t) (acts_of_all l taken) (dones taken order l))) (omega arith)
+          (known_soon t (suc (suc t)) (at s).here.task since (acts_of_all l taken) (dones taken order l) (omega arith)
           ∙ (so_far taken order s lt name wanted since body is l e ∙ ap (granted_in (suc t)) (sym (granted_is s lt name wanted since body is l e)))),
       λ le. absurd (let a = asked_by_now s lt name wanted since body is in
           let b : suc t ≤ since = subst (λ (v : ℕ). v ≤ since) x.through le in omega (arith, a, b)),
@@ -677,6 +562,213 @@ module _ (k : Tables) (job : Job) (input : List ℕ) (t m : ℕ) (old new : RunS
     granted_then taken order s lt (rest.giving_up since) is = none_granted s lt (rest.giving_up since) (λ z. z) is
     granted_then taken order s lt (rest.awaiting children ended exc) is = none_granted s lt (rest.awaiting children ended exc) (λ z. z) is
     granted_then taken order s lt (rest.at_end u e) is = none_granted s lt (rest.at_end u e) (λ z. z) is
+
+    -- ---- all that was granted
+
+    -- a task of the code that waits is in a queue of the run, for the limiter or channel of its label
+    record InQueue (s key u : ℕ) : Type 0 where
+      name : List ℕ
+      wanted : Ask
+      body : Steps
+      is : (at s).rest.stopped ≡ queued name wanted u body
+      object : Label
+      among : label_among true name (at s).places ≡ Some object
+      labelled : label_at old.world key ≡ Some object
+
+    in_queue : (s : ℕ) (task : Task) → old.task s ≡ Some task → (key : ℕ) (a : Ask) (u : ℕ) (steps : Bor Steps) → task.task_state ≡ Queued key a u steps →
+        InQueue s key u
+    in_queue s task lives key a u steps e =
+        by_stop (at s).rest.stopped refl
+        (subst (λ (z : TaskState). IsTaskState (c.numbers s) old.world.book z (at s).rest.stopped) e (c.follows s task lives).task_state)
+        (subst (λ (z : TaskState). AwaitsEvent (label_at old.world) (outer_of old.world.scopes (scope_of task)) (Some (at s).rest.stopped) z (at s).places) e
+        (c.follows s task lives).stands.event)
+        (has_event (at s).rest.stopped _ (at s).places (c.follows s task lives).stands.placed)
+      where
+        by_stop : (stopped : Stopped) → (at s).rest.stopped ≡ stopped → IsTaskState (c.numbers s) old.world.book (Queued key a u steps) stopped →
+            AwaitsEvent (label_at old.world) (outer_of old.world.scopes (scope_of task)) (Some stopped) (Queued key a u steps) (at s).places →
+            HasEvent stopped (at s).places → InQueue s key u
+        by_stop (queued name wanted since body) is h event some = by_label (label_among true name (at s).places) refl some
+          where
+            by_label : (o : Option Label) → label_among true name (at s).places ≡ o → IsSomeLabel o → InQueue s key u
+            by_label None g i = absurd i
+            by_label (Some l) g i =
+                record {
+                  name = name;
+                  wanted = wanted;
+                  body = body;
+                  is = is ∙ ap (λ (v : ℕ). queued name wanted v body) (sym h.1);
+                  object = l;
+                  among = g;
+                  labelled = event.1 ∙ g;
+                }
+        by_stop rest.to_begin is h event some = absurd h
+        by_stop (rest.asking kernel purpose) is h event some = absurd h
+        by_stop (rest.asleep paced n since) is h event some = absurd h
+        by_stop (rest.waiting_for event since) is h named some = absurd h
+        by_stop (rest.giving_up since) is h event some = absurd h
+        by_stop (rest.awaiting children ended exc) is h event some = absurd h
+        by_stop (rest.at_end v exc) is h event some = absurd h
+
+    -- what was granted by what was done before this moment
+    abbrev before_now : List Started → Label → List Given
+    before_now taken l = serve_acts unopened (by_moment (done_before t (acts_of_all l taken)))
+
+    -- and by what was done in it
+    abbrev now_given : List Started → Label → List Given
+    now_given taken l = serve_acts (before l taken) (map to (acts_on l x.ordered))
+
+    -- to a task that waits nothing was granted before, and what the state says is granted to it now
+    record KnownOf (s : ℕ) (taken : List Started) (object asker : Label) (u : ℕ) : Type 0 where
+      earlier : find_given asker u (before_now taken object) ≡ None
+      so_far_is : granted_so_far taken object asker u ≡ granted_in (suc t) (new.granted s)
+
+    waiting_known : (taken : List Started) → InOrder qs (0 ∷ []) taken → (s : ℕ) (task : Task) → old.task s ≡ Some task → (object asker : Label) (u : ℕ) →
+        WaitsFor old.world task object asker u → KnownOf s taken object asker u
+    waiting_known taken order s task lives object asker u w =
+        subst (λ (l : Label). KnownOf s taken object l u) asker_is (
+        record {
+          earlier = none_before_now taken order s low q.name q.wanted u q.body q.is object among;
+          so_far_is =
+              so_far taken order s low q.name q.wanted u q.body q.is object among
+              ∙ ap (granted_in (suc t)) (sym (granted_is s low q.name q.wanted u q.body q.is object among));
+        }
+        )
+      where
+        low : s < m
+        low = below_of c s task lives
+
+        q : InQueue s w.key u
+        q = in_queue s task lives w.key w.ask u w.body w.task_state
+
+        among : label_among true q.name (at s).places ≡ Some object
+        among = q.among ∙ (sym q.labelled ∙ w.labelled)
+
+        asker_is : (at s).here.task ≡ asker
+        asker_is = sym (ap (λ (h : Here). h.task) (c.follows s task lives).here) ∙ w.is
+
+    -- what is granted now is granted to a task that waits for it
+    record IsFor (object asker : Label) (u : ℕ) : Type 0 where
+      serial : ℕ
+      task : Task
+      lives : old.task serial ≡ Some task
+      waiting : WaitsFor old.world task object asker u
+
+    given_now : (taken : List Started) → InOrder qs (0 ∷ []) taken → (object asker : Label) (u : ℕ) (g : Granted) →
+        find_given asker u (now_given taken object) ≡ Some g → granted_so_far taken object asker u ≡ Some g → IsFor object asker u
+    given_now taken order object asker u g found all = by_task (old.task who.0) refl who.3
+      where
+        who : (s : ℕ) × (s < m) × ((at s).here.task ≡ asker) × (waits (record { row = s; since = u }) ≡ true)
+        who =
+            found_who at m t waits asker u (serve_all waits t (code object) (acts_on object x.ordered)).gets (now_given taken object) g
+            (served taken order object).grants found
+
+        s : ℕ
+        s = who.0
+
+        one : (y : Started) → IsAmong y taken → y.here.task ≡ (at s).here.task → y ≡ at s
+        one y i e =
+            let h = c.interleaving.one y (taken_in qs (0 ∷ []) taken order y i) in
+            h.0 ∙ ap at (only_one s who.1 taken order y.serial h.1 (sym e ∙ ap (λ (z : Started). z.here.task) h.0))
+
+        asked : (key : ℕ) (q : InQueue s key u) → object ≡ q.object
+        asked key q =
+            granted_own object q.object (at s) q.name q.wanted u q.body taken g q.is q.among
+            (subst (λ (z : Stopped). AsksBefore (asked_at old.world.tick z) (at s).made) q.is (c.shares.once s who.1)) one
+            (ap (λ (l : Label). granted_so_far taken object l u) who.2 ∙ all)
+
+        by_state : (task : Task) → old.task s ≡ Some task → (task_state : TaskState) → task.task_state ≡ task_state → is_queued task_state u ≡ true →
+            IsFor object asker u
+        by_state task lives (Queued key a v steps) e h =
+            let state : task.task_state ≡ Queued key a u steps = e ∙ ap (λ (n : ℕ). Queued key a n steps) (eqb-true v u h) in
+            let q = in_queue s task lives key a u steps state in
+            record {
+              serial = s;
+              task = task;
+              lives = lives;
+              waiting =
+                  record {
+                    key = key;
+                    ask = a;
+                    body = steps;
+                    task_state = state;
+                    labelled = q.labelled ∙ ap (λ (l : Label). Some l) (sym (asked key q));
+                    is = ap (λ (h : Here). h.task) (c.follows s task lives).here ∙ who.2;
+                  };
+            }
+        by_state task lives (ToBegin v) e h = absurd (let f : false ≡ true = h in cc)
+        by_state task lives (Asked kernel purpose) e h = absurd (let f : false ≡ true = h in cc)
+        by_state task lives (Asleep paced ticks v) e h = absurd (let f : false ≡ true = h in cc)
+        by_state task lives (Waiting key v) e h = absurd (let f : false ≡ true = h in cc)
+        by_state task lives (GivingUp v) e h = absurd (let f : false ≡ true = h in cc)
+        by_state task lives (Awaits id v) e h = absurd (let f : false ≡ true = h in cc)
+        by_state task lives Over e h = absurd (let f : false ≡ true = h in cc)
+
+        by_task : (o : Option Task) → old.task s ≡ o → waits_by o u ≡ true → IsFor object asker u
+        by_task None e h = absurd (let f : false ≡ true = h in cc)
+        by_task (Some task) e h = by_state task e task.task_state refl h
+
+    -- so all that was granted is kept
+    grants_then : (taken : List Started) → InOrder qs (0 ∷ []) taken → (object asker : Label) (u : ℕ) →
+        new.grants object asker u ≡ granted_so_far taken object asker u
+    grants_then taken order object asker u =
+        by_found (find_given asker u (before_now taken object)) refl (find_given asker u (now_given taken object)) refl
+      where
+        all : granted_so_far taken object asker u ≡ find_given asker u (before_now taken object ++ now_given taken object)
+        all = ap (find_given asker u) (all_given taken order object)
+
+        -- where nothing is granted now it stays
+        stays : granted_before (suc t) (granted_so_far taken object asker u) ≡ granted_so_far taken object asker u →
+            ((s : ℕ) (task : Task) → old.task s ≡ Some task → WaitsFor old.world task object asker u → new.granted s ≡ None) →
+            new.grants object asker u ≡ granted_so_far taken object asker u
+        stays e none =
+            x.kept object asker u none
+            ∙ (subst (λ (v : ℕ). old.grants object asker u ≡ granted_before (suc v) (granted_so_far taken object asker u)) x.unserved
+            (c.shares.grants taken order object asker u)
+            ∙ e)
+
+        nothing : (what : Option What) → granted_in (suc t) what ≡ None → what ≡ None
+        nothing None e = refl
+        nothing (Some w) e = absurd (not_both e refl)
+
+        of_task : (g : Granted) → granted_so_far taken object asker u ≡ Some g → (y : IsFor object asker u) (what : Option What) → new.granted y.serial ≡ what →
+            new.grants object asker u ≡ granted_in (suc t) what
+        of_task g e y None h =
+            absurd (not_both (ap (granted_in (suc t)) h)
+            (sym (waiting_known taken order y.serial y.task y.lives object asker u y.waiting).so_far_is ∙ e))
+        of_task g e y (Some w) h = x.recorded y.serial y.task object asker u w y.lives y.waiting h
+
+        by_found : (o : Option Granted) → find_given asker u (before_now taken object) ≡ o → (p : Option Granted) →
+            find_given asker u (now_given taken object) ≡ p → new.grants object asker u ≡ granted_so_far taken object asker u
+        by_found (Some g) i p j =
+            stays (ap (granted_before (suc t)) known ∙ (ap (λ (b : Bool). granted_if b g None) in_time ∙ sym known))
+            (λ s task lives w. absurd (not_both (waiting_known taken order s task lives object asker u w).earlier i))
+          where
+            known : granted_so_far taken object asker u ≡ Some g
+            known = all ∙ find_first asker u (before_now taken object) (now_given taken object) g i
+
+            early : Each (λ (d : Done). d.at < t) (by_moment (done_before t (acts_of_all object taken)))
+            early = sorted_each (λ (d : Done). d.at < t) (done_before t (acts_of_all object taken)) (befores t (acts_of_all object taken))
+
+            in_time : nat_le (g.at + 1) (suc t) ≡ true
+            in_time =
+                let le : g.at ≤ t =
+                found_at t asker u (before_now taken object) g (given_by t unopened (by_moment (done_before t (acts_of_all object taken))) early) i in
+                grind (arith, nat_tests)
+        by_found None i None j =
+            stays (ap (granted_before (suc t)) known ∙ sym known)
+            (λ s task lives w. nothing (new.granted s) (sym (waiting_known taken order s task lives object asker u w).so_far_is ∙ known))
+          where
+            known : granted_so_far taken object asker u ≡ None
+            known = all ∙ (find_last asker u (before_now taken object) (now_given taken object) i ∙ j)
+        by_found None i (Some g) j =
+            of_task g known one (new.granted one.serial) refl
+            ∙ sym (waiting_known taken order one.serial one.task one.lives object asker u one.waiting).so_far_is
+          where
+            known : granted_so_far taken object asker u ≡ Some g
+            known = all ∙ (find_last asker u (before_now taken object) (now_given taken object) i ∙ j)
+
+            one : IsFor object asker u
+            one = given_now taken order object asker u g j known
 
     -- ---- all of it
 
@@ -693,6 +785,10 @@ module _ (k : Tables) (job : Job) (input : List ℕ) (t m : ℕ) (old new : RunS
               (object_after unopened (by_moment (done_before v (acts_of_all l taken))))) (sym x.through) (served_then taken order l);
           granted = λ taken order s lt. granted_then taken order s lt (at s).rest.stopped refl;
           ungranted = λ s le. x.granted s ∙ ap (granted_to old t x.ordered s) (c.unborn s le).0;
+          grants = λ taken order object asker u.
+              subst (λ (v : ℕ). new.grants object asker u ≡ granted_before (suc v) (granted_so_far taken object asker u)) (sym x.through)
+              (grants_then taken order object asker u
+              ∙ sym (known_soon t (suc (suc t)) asker u (acts_of_all object taken) (dones taken order object) (omega arith)));
           known = λ a i. absurd (let j : IsAmong a [] = subst (λ (r : List RoundAct). IsAmong a r) x.round i in j);
           asked = λ l. subst (λ (v : ℕ). AreAskedBefore v (new.object l)) (sym x.through) (x.asked l);
           once = λ s lt. subst (λ (v : ℕ). AsksBefore (asked_at v (at s).rest.stopped) (at s).made) c.tick (c.shares.once s lt);

@@ -1176,6 +1176,13 @@ module _ (k : Tables) (job : Job) (input : List ℕ) (t m s : ℕ) (old new : Ru
           granted = granted_then;
           ungranted = λ p le.
               T.code.granted_after p (λ e. absurd (let low = T.below in omega (arith, e, low, le))) ∙ c.shares.ungranted p (omega (arith, le));
+          grants = λ taken' ord object asker u.
+              let r = order_before taken' ord in
+              subst (λ (v : ℕ). new.grants object asker u ≡ granted_before (suc v) (granted_so_far taken' object asker u)) (sym through')
+              (T.code.grants_after object asker u
+              ∙ (subst (λ (v : ℕ). old.grants object asker u ≡ granted_before (suc v) (granted_so_far r.0 object asker u)) T.code.unserved
+              (c.shares.grants r.0 r.1 object asker u)
+              ∙ sym (so_far_same taken' ord object asker u)));
           known = λ a i. by_round a (in_either a old.round (noted_now ++ asked_now) (subst (λ (xs : List RoundAct). IsAmong a xs) T.code.round_after i));
           asked = λ l.
               subst (λ (v : ℕ). AreAskedBefore v (new.object l)) (sym through')

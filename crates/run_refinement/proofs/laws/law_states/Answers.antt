@@ -6,7 +6,7 @@ use Rattle.run_refinement.proofs.Jumped.{state_takes}
 use Rattle.run_refinement.proofs.JumpsOn.{jumps}
 use Rattle.run_refinement.proofs.Going.{may_wake}
 use Rattle.run_refinement.proofs.Left.{state_left}
-use Rattle.run_refinement.proofs.Over.{state_over}
+use Rattle.run_refinement.proofs.Over.{state_over, state_granted}
 use Rattle.run_refinement.proofs.SharesServed.{serves}
 use Rattle.run_refinement.proofs.Stepped.{stepped, stop_says}
 use Rattle.run_refinement.proofs.laws.law_states.Goals as goal
@@ -15,7 +15,7 @@ pub returns-clause-begin : goal.returns-clause-begin
 returns-clause-begin c =
     λ k job input state in_range names starting small h.
     state_begun k job input state h.root in_range starting names small h.world h.is_root h.first h.others h.ended_task h.start h.children h.turns
-    h.path h.through h.object h.round h.granted
+    h.path h.through h.object h.round h.granted h.grants
 
 pub returns-clause-fit : goal.returns-clause-fit
 returns-clause-fit c = state_fits
@@ -60,3 +60,6 @@ returns-clause-tasks c = state_few
 
 pub returns-clause-over : goal.returns-clause-over
 returns-clause-over c = state_over
+
+pub returns-clause-grants : goal.returns-clause-grants
+returns-clause-grants c = state_granted
