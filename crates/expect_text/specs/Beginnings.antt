@@ -41,7 +41,9 @@ plain_words = codes "line " ∷ codes "tick " ∷ codes "limit " ∷ codes "refu
 
 -- the other lines of a report, in which a name of the job comes next
 abbrev pub record_words : List (List ℕ)
-record_words = codes "job " ∷ codes "task " ∷ codes "scope " ∷ codes "nursery " ∷ codes "wait " ∷ []
+record_words =
+    codes "job " ∷ codes "task " ∷ codes "scope " ∷ codes "nursery " ∷ codes "wait " ∷ codes "acquire " ∷ codes "send " ∷ codes "receive "
+    ∷ []
 
 -- what follows that name: the index of a label, or a blank
 abbrev pub after_names : List (List ℕ)
@@ -51,7 +53,8 @@ after_names = codes "." ∷ codes " " ∷ []
 abbrev pub event_words : List (List ℕ)
 event_words =
     codes "." ∷ codes " starts" ∷ codes " enters " ∷ codes " sleeps " ∷ codes " is cancelled " ∷ codes " finds " ∷ codes " raises "
-    ∷ codes " cancels " ∷ codes " sets " ∷ codes " waits " ∷ codes " goes on: " ∷ codes " handles " ∷ codes " runs cleanup"
+    ∷ codes " cancels " ∷ codes " sets " ∷ codes " waits " ∷ codes " goes on: " ∷ codes " gets a token of " ∷ codes " gives its token of "
+    ∷ codes " sends to " ∷ codes " receives from " ∷ codes " closes " ∷ codes " has waited " ∷ codes " handles " ∷ codes " runs cleanup"
     ∷ codes " replaces " ∷ codes " leaves " ∷ codes " ends: " ∷ codes " sleeping " ∷ codes " waiting " ∷ []
 
 abbrev pub BeginsWithOne : (beginnings : List (List ℕ)) → (line : List ℕ) → Type 0

@@ -11,7 +11,16 @@ use std::alloc::{AllocError, Global};
 const PLAIN_WORDS: &[&'static [u8]] = &[b"line ", b"tick ", b"limit ", b"refused "];
 
 // How the other lines of a report begin, in which a name of the job comes next.
-const RECORD_WORDS: &[&'static [u8]] = &[b"job ", b"task ", b"scope ", b"nursery ", b"wait "];
+const RECORD_WORDS: &[&'static [u8]] = &[
+    b"job ",
+    b"task ",
+    b"scope ",
+    b"nursery ",
+    b"wait ",
+    b"acquire ",
+    b"send ",
+    b"receive ",
+];
 
 // What follows that name: the index of a label, or a blank.
 const AFTER_NAMES: &[&'static [u8]] = &[b".", b" "];
@@ -29,6 +38,12 @@ const EVENT_WORDS: &[&'static [u8]] = &[
     b" sets ",
     b" waits ",
     b" goes on: ",
+    b" gets a token of ",
+    b" gives its token of ",
+    b" sends to ",
+    b" receives from ",
+    b" closes ",
+    b" has waited ",
     b" handles ",
     b" runs cleanup",
     b" replaces ",

@@ -59,7 +59,7 @@ pub enum LineFault {
 /// match.
 ///
 /// A pattern is wrong if its beginning, up to its first `*`, can begin no line of a report or a story of the job: such a line
-/// begins with `line`, `tick`, `limit` or `refused`; with `job`, `task`, `scope`, `nursery` or `wait` and a name of the job; or
+/// begins with `line`, `tick`, `limit` or `refused`; with `job`, `task`, `scope`, `nursery`, `wait`, `acquire`, `send` or `receive` and a name of the job; or
 /// with the name of a task and what happens to it. Returns `AllocError` if memory runs out.
 pub fn read_expectation<'a>(
     alloc: Global,
