@@ -1,12 +1,13 @@
--- Copies of one `start` that meet, which has `over` or is in a `repeat`: one cancels something, and something happens to another
--- within a hair of that.
-use Rattle.std.specs.Prelude.{ℕ, ◌-◌, ◌==◌, ◌&&◌, ◌||◌, not, nat_le, Bool, true, false, if◌then◌else◌, Option, Some, None, List, [], ◌∷◌}
+-- Copies of one `start` that meet, which has `over` or is in a `repeat`: one cancels something, and something happens to another within a
+-- hair of that; or both do something to one limiter or channel within a hair.
+use Rattle.std.specs.Prelude.{ℕ, ◌-◌, ◌==◌, ◌&&◌, ◌||◌, not, nat_le, is_some, Bool, true, false, if◌then◌else◌, Option, Some, None, List, [], ◌∷◌}
 use Rattle.std.specs.Str.{bytes_eq}
 use Rattle.exceptions.specs.Exceptions.{Label, Exc, cancelled, raised, too_slow, group, Excs, no_parts, part}
 use Rattle.job_meaning.specs.Log.{same_label}
 use Rattle.job_meaning.specs.Moments.{tick_of}
 use Rattle.job_meaning.specs.declared.clock.Clock.{Clock}
-use Rattle.job_story.specs.Story.{is_cancelled, cancels}
+use Rattle.job_tree.specs.declared.object.Ask.TheVariants.{Acquire}
+use Rattle.job_story.specs.Story.{is_cancelled, cancels, queues, gets, finds_closed, closes_channel}
 use Rattle.job_story.specs.Events.{What, starts, happens, ends, Event}
 use Rattle.job_story.specs.Limit.{is_start, is_end}
 
@@ -90,13 +91,41 @@ differ_last _ _ = false
 abbrev pub is_within : ℕ → ℕ → ℕ → Bool
 is_within hair t u = nat_le (t - hair) u && nat_le (u - hair) t
 
--- two copies that were started together, or in passes of one `repeat`: one cancels something, and the other acts within a hair of that
+-- the limiter or channel at which a task does what another one might have done first: it waits in a queue, uses a channel, or closes it
+abbrev pub contended : What → Option Label
+contended (happens (queues ask object lent left)) = Some object
+contended (happens (gets Acquire object at_once)) = None
+contended (happens (gets ask object (Some asked))) = Some object
+contended (happens (closes_channel object)) = object
+contended _ = None
+
+-- the one that a task asks for something, or closes
+abbrev pub used : What → Option Label
+used (happens (queues ask object lent left)) = Some object
+used (happens (gets ask object (Some asked))) = Some object
+used (happens (finds_closed ask object (Some asked))) = Some object
+used (happens (closes_channel object)) = object
+used _ = None
+
+abbrev pub is_same_object : Option Label → Option Label → Bool
+is_same_object (Some l) (Some k) = same_label l k
+is_same_object _ _ = false
+
+-- the first of two events may change what the second one is, if it is a little earlier or later
+abbrev pub concerns : What → What → Bool
+concerns a b = (cancels_some a && acts b) || is_same_object (contended a) (used b)
+
+-- two copies that were started together, or in passes of one `repeat`, where an event of one concerns one of the other within a hair
 abbrev pub meets : ℕ → Sight → Sight → Bool
-meets hair a b = cancels_some a.what && (acts b.what && (differ_last a.copy.indices b.copy.indices && is_within hair a.tick b.tick))
+meets hair a b = concerns a.what b.what && (differ_last a.copy.indices b.copy.indices && is_within hair a.tick b.tick)
+
+-- an event that may concern another one
+abbrev pub may_meet : What → Bool
+may_meet a = cancels_some a || is_some (contended a)
 
 -- ---- the first meeting
 
--- the copy that cancels something and in which tick, and the copy that acts
+-- the copy of which an event concerns the other, and the tick of that
 pub record Meeting : Type 0 where
   pub one : Label
   pub other : Label

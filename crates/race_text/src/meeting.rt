@@ -4,7 +4,7 @@ ghost use Rattle.story_index.specs.Seen.{event_in};
 ghost use Rattle.race_text.specs.Copies.{differ_last, is_within, meets, first_meeting, earlier_meeting, first_meeting_among, meeting_in};
 ghost use Rattle.race_text.specs.CopyViews.{sight_held, met_held, meeting_held};
 
-use crate::acts::{acts, cancels_some};
+use crate::acts::{concerns, may_meet};
 use crate::sights::{Sight, sights_of};
 use exceptions::Label;
 use job_meaning::Clock;
@@ -15,9 +15,10 @@ use std::alloc::{AllocError, Global};
 /// Two copies of a task that meet.
 #[derive(Drop)]
 pub struct Meeting {
-    /// The copy that cancels something. This may be done by a descendant of the copy.
+    /// The copy that cancels something, or does something to a limiter or channel. A descendant of the copy may do it.
     pub one: Label,
-    /// The copy to which something happens within a hair of that. This may happen to a descendant of the copy.
+    /// The copy to which something happens within a hair of that, or which does something to the same limiter or channel. A
+    /// descendant of the copy may do it.
     pub other: Label,
     /// The tick in which the first copy does so.
     pub tick: u64,
@@ -34,7 +35,9 @@ struct Met<'e> {
 /// Returns the earliest meeting of two tasks with this name that one `start .. over` started together, or that a `start` started
 /// in two passes of the `repeat` that it is in, or `None` if there is none: their indices differ only in the last one. They meet
 /// if one of them, or a descendant of it, cancels something, and the other, or a descendant of it, has an event at most a hair
-/// earlier or later that is neither a start nor a cancellation. In which rounds of their ticks the events are does not matter. If
+/// earlier or later that is neither a start nor a cancellation. They also meet if, at most a hair apart, one of them waits in the
+/// queue of a limiter or channel, uses a channel or closes it, and the other asks the same one for something or closes it. In
+/// which rounds of their ticks the events are does not matter. If
 /// several meetings are in the same tick, the first in the order of the walk is returned. `walked` are the events of a story in
 /// the order of the walk, `clock` is how their time is counted, and `hair` is a number of ticks. The only error is that memory
 /// runs out.
@@ -75,7 +78,7 @@ fn first_meeting_among<'e>(hair: u64, sights: &[Sight<'e>]) -> Option<Met<'e>>
 fn first_meeting<'e>(hair: u64, one: Sight<'e>, sights: &[Sight<'e>]) -> Option<Met<'e>>
     ensures { option_map met_held result ≡ first_meeting hair (sight_held one.entry) (map sight_held sights.now) }
 {
-    if !cancels_some(&one.event.what) {
+    if !may_meet(&one.event.what) {
         return None;
     }
     'sights: for other in sights {
@@ -107,12 +110,11 @@ fn earlier_meeting<'e>(first: Option<Met<'e>>, second: Option<Met<'e>>) -> Optio
     }
 }
 
-// Returns whether the first of two events cancels something, and the second one, of another copy, is within a hair of it.
+// Returns whether the first of two events concerns the second one, and that is of another copy, and within a hair of it.
 fn meets(hair: u64, one: Sight<'_>, other: Sight<'_>) -> bool
     ensures { result ≡ meets hair (sight_held one.entry) (sight_held other.entry) }
 {
-    cancels_some(&one.event.what)
-        && acts(&other.event.what)
+    concerns(&one.event.what, &other.event.what)
         && differ_last(one.copy.indices(), other.copy.indices())
         && is_within(hair, one.tick, other.tick)
 }
