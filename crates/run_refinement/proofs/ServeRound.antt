@@ -25,12 +25,13 @@ use Rattle.interleavings.specs.Interleaving.{Started}
 use Rattle.run_refinement.specs.Sharing.{RoundAct, Waiter, waiter_of, waiter_in, Offer, offer_of, offer_in, stays_to_send, SameObject, to_limiter, to_channel, Served, serve_one, serve_all, what_if, find_get, object_after}
 use Rattle.run_refinement.proofs.TurnedObjects.{EachTicket, filter_map_each}
 
--- a ticket of the code and an asker of the definitions, for the same task: both wait, or neither does
+-- a ticket of the code and an asker of the definitions, for the same task, which waits
 pub record Pair (at : ℕ → Started) (m t : ℕ) (waits : Ticket → Bool) : Type 0 where
   pub ticket : Ticket
   pub asker : Asker
   pub same : waiter_of at ticket ≡ waiter_in asker
   pub row : ticket.row < m
+  pub waiting : waits ticket ≡ true
   pub alike : stays_at t asker ≡ waits ticket
 
 -- tickets that wait are of tasks of the run
@@ -69,7 +70,7 @@ module _ (at : ℕ → Started) (m t : ℕ) (waits : Ticket → Bool) where
       let more : map (waiter_of at) ks ≡ map waiter_in zs = tails (waiter_of at k) (waiter_in a) (map (waiter_of at) ks) (map waiter_in zs) e in
       let r = zip ks zs more w.1 h.1 in
       record {
-        pairs = record { ticket = k; asker = a; same = first; row = w.0.0; alike = h.0 ∙ sym w.0.1 } ∷ r.pairs;
+        pairs = record { ticket = k; asker = a; same = first; row = w.0.0; waiting = w.0.1; alike = h.0 ∙ sym w.0.1 } ∷ r.pairs;
         tickets = ap (λ (xs : List Ticket). k ∷ xs) r.tickets;
         askers = ap (λ (xs : List Asker). a ∷ xs) r.askers;
       }
@@ -95,7 +96,7 @@ module _ (at : ℕ → Started) (m t : ℕ) (waits : Ticket → Bool) where
       let more : map (offer_of at) ks ≡ map offer_in zs = tails (offer_of at k) (offer_in a) (map (offer_of at) ks) (map offer_in zs) e in
       let r = zip_senders ks zs more w.1 h.1 in
       record {
-        pairs = record { who = record { ticket = k.who; asker = a.who; same = ap (λ (o : Offer). o.waiter) first; row = w.0.0; alike = h.0 ∙ sym w.0.1 }; part = k.part } ∷ r.pairs;
+        pairs = record { who = record { ticket = k.who; asker = a.who; same = ap (λ (o : Offer). o.waiter) first; row = w.0.0; waiting = w.0.1; alike = h.0 ∙ sym w.0.1 }; part = k.part } ∷ r.pairs;
         tickets = ap (λ (xs : List (Sender Ticket Range)). k ∷ xs) r.tickets;
         askers =
             ap (λ (p : Range). record { who = a.who; part = p } ∷ map (sender_by asker_in) r.pairs) (ap (λ (o : Offer). o.part) first)
@@ -192,7 +193,7 @@ module _ (at : ℕ → Started) (m t : ℕ) (waits : Ticket → Bool) where
 
   abbrev pub SameGrant : Gets → Given → Type 0
   SameGrant g v =
-      ((at g.who.row).here.task ≡ v.task) × (g.who.since ≡ v.asked) × (v.granted ≡ record { at = t + 1; what = g.what }) × (g.who.row < m)
+      ((at g.who.row).here.task ≡ v.task) × (g.who.since ≡ v.asked) × (v.granted ≡ record { at = t + 1; what = g.what }) × (g.who.row < m) × (waits g.who ≡ true)
 
   abbrev pub SameGrants : List Gets → List Given → Type 0
   SameGrants [] [] = Unit {0}
@@ -207,13 +208,13 @@ module _ (at : ℕ → Started) (m t : ℕ) (waits : Ticket → Bool) where
 
   same_tokens : (zs : List Z) → SameGrants (map gets_token (map ticket_of zs)) (map (λ who. sharing.given_at t who sharing.a_token) (map asker_in zs))
   same_tokens [] = tt
-  same_tokens (z ∷ zs) = ((ap (λ (w : Waiter). w.task) z.same, ap (λ (w : Waiter). w.since) z.same, refl, z.row), same_tokens zs)
+  same_tokens (z ∷ zs) = ((ap (λ (w : Waiter). w.task) z.same, ap (λ (w : Waiter). w.since) z.same, refl, z.row, z.waiting), same_tokens zs)
 
   same_grant : (g : Grant Z Range) → SameGrant (gets_by (grant_by ticket_of g)) (sharing.given_by t (grant_by asker_in g))
-  same_grant (channels.sent z part) = (ap (λ (w : Waiter). w.task) z.same, ap (λ (w : Waiter). w.since) z.same, refl, z.row)
-  same_grant (channels.received z part) = (ap (λ (w : Waiter). w.task) z.same, ap (λ (w : Waiter). w.since) z.same, refl, z.row)
-  same_grant (channels.closed_resource z) = (ap (λ (w : Waiter). w.task) z.same, ap (λ (w : Waiter). w.since) z.same, refl, z.row)
-  same_grant (channels.end_of_channel z) = (ap (λ (w : Waiter). w.task) z.same, ap (λ (w : Waiter). w.since) z.same, refl, z.row)
+  same_grant (channels.sent z part) = (ap (λ (w : Waiter). w.task) z.same, ap (λ (w : Waiter). w.since) z.same, refl, z.row, z.waiting)
+  same_grant (channels.received z part) = (ap (λ (w : Waiter). w.task) z.same, ap (λ (w : Waiter). w.since) z.same, refl, z.row, z.waiting)
+  same_grant (channels.closed_resource z) = (ap (λ (w : Waiter). w.task) z.same, ap (λ (w : Waiter). w.since) z.same, refl, z.row, z.waiting)
+  same_grant (channels.end_of_channel z) = (ap (λ (w : Waiter). w.task) z.same, ap (λ (w : Waiter). w.since) z.same, refl, z.row, z.waiting)
 
   same_grants : (gs : List (Grant Z Range)) → SameGrants (map gets_by (map (grant_by ticket_of) gs)) (map (sharing.given_by t) (map (grant_by asker_in) gs))
   same_grants [] = tt
@@ -237,6 +238,7 @@ module _ (at : ℕ → Started) (m t : ℕ) (waits : Ticket → Bool) where
         asker = asker_of d left;
         same = λ i. record { task = sym f i; since = sym e i };
         row = lt;
+        waiting = w;
         alike = ap (λ x. stays_at t (asker_of d x)) none ∙ sym w;
       }
 
