@@ -1,4 +1,4 @@
--- The clock jumps: until when all tasks stay, and what holds in the later moment.
+-- The clock jumps: what holds in the later moment.
 use Rattle.std.proofs.Common.{◌≡◌, inl, inr, ℕ, suc, ◌+◌, ◌<◌, ◌≤◌, min, max, Bool, true, false, Option, Some, None, [], refl, ap, sym, ◌∙◌, subst, arith, if◌then◌else◌}
 use Rattle.std.specs.Prelude.{All, IsSome, IsSomeAnd, is_some, ◌⊎◌, ◌==◌, ◌≢◌, ◌∷◌, List, length, map, nat_le}
 use Rattle.std.specs.Option.{option_map}
@@ -55,26 +55,8 @@ use Rattle.job_runner.proofs.Known.{seen_by, sees_from}
 use Rattle.job_runner.proofs.Lived.{lives_by}
 use Rattle.job_runner.proofs.Options.{some_is, some_has, some_kept}
 use Rattle.job_runner.proofs.Shelving.{times_next, times_now}
+use Rattle.job_runner.proofs.Until.{NoneBefore, kept_as, lives_at, stay_until, wakes_in}
 use Rattle.job_runner.proofs.States.{meaning_of, meaning_run, meaning_settled}
-
--- ---- which task has which id
-
--- the id under which a task lives
-record LivesAt (r : TaskTable) (task : Task) : Type 0 where
-  id : ℕ
-  running : Running
-  is : running_at r id ≡ Some running
-  task_is : running.task ≡ task
-
-lives_at : (r : TaskTable) → IsTaskTable r → (p : ℕ) (task : Task) → task_of r p ≡ Some task → LivesAt r task
-lives_at r agree p task e = let l = lives_by r agree p task e in
-    record { id = id_of r p; running = l.running; is = l.is; task_is = l.task_is }
-
--- ---- until when they stay
-
-over_has_ended : (ns : Numbers) (book : NurseryBook) (stopped : Stopped) → IsTaskState ns book Over stopped → live stopped ≡ true → ⊥
-over_has_ended ns book (at_end t x) i l = let f : false ≡ true = l in cc
-over_has_ended ns book _ i l = absurd i
 
 -- how often a task is kept that has a moment in which it continues
 moment_once : (book : NurseryBook) (task_state : TaskState) → HasMoment book task_state → task_state_times book task_state ≡ 1
@@ -91,35 +73,6 @@ moment_once book (Awaits id since) h = by_nursery (nursery_at book id) h
     by_nursery (Some n) f = ap one_if f
 moment_once book Over h = absurd h
 
--- a sleeper that saw a cancellation by this moment fell asleep in it, where there are rounds
-slept_now : (c : Clock) (u t s since : ℕ) (saw : Bool) → nat_le s t ≡ saw → s < u → u ≤ max (suc t) s →
-    (saw ≡ false) ⊎ ((c ≡ by_rounds) × (since ≡ t)) → u ≤ a_round_after c since
-slept_now c u t s since saw is before to (inl unseen) =
-    elim (leb_tells s t) [
-      | inl h ↦ absurd (let f : true ≡ false = sym h.0 ∙ (is ∙ unseen) in cc)
-      | inr h ↦ absurd (let lt : t < s = h.1 in omega (arith, lt, before, to))
-    ]
-slept_now c u t s since saw is before to (inr now) =
-    let next : a_round_after c since ≡ since + 1 = ap (λ (x : Clock). a_round_after x since) now.0 in
-    let same : since ≡ t = now.1 in
-    elim (cases_lt t s) [
-      | inl lt ↦ absurd (omega (arith, lt, before, to))
-      | inr le ↦ omega (arith, le, to, next, same)
-    ]
-
--- and one in a queue asked in it
-queued_now : (u t s since : ℕ) (saw : Bool) → nat_le s t ≡ saw → s < u → u ≤ max (suc t) s → (saw ≡ false) ⊎ (since ≡ t) → u ≤ suc since
-queued_now u t s since saw is before to (inl unseen) =
-    elim (leb_tells s t) [
-      | inl h ↦ absurd (let f : true ≡ false = sym h.0 ∙ (is ∙ unseen) in cc)
-      | inr h ↦ absurd (let lt : t < s = h.1 in omega (arith, lt, before, to))
-    ]
-queued_now u t s since saw is before to (inr now) =
-    elim (cases_lt t s) [
-      | inl lt ↦ absurd (omega (arith, lt, before, to))
-      | inr le ↦ omega (arith, le, to, now)
-    ]
-
 -- one that dozes fell asleep before each later moment
 dozed_before : (world : World) (scope : Option ℕ) (t : ℕ) (task_state : TaskState) → world.tick < t → DozesIn world scope task_state →
     BeganBefore t task_state
@@ -132,21 +85,7 @@ dozed_before world scope t (GivingUp since) later h = tt
 dozed_before world scope t (Awaits id since) later h = tt
 dozed_before world scope t Over later h = tt
 
--- a task that is among some has what each of these has
-one_among : (P : Added → Type 0) (id : ℕ) (xs : List Added) → All P xs → 1 ≤ times_next id xs → (a : Added) × P a × (a.0 ≡ id)
-one_among P id [] all some = absurd (let none : times_next id [] ≡ 0 = refl in omega (arith, some, none))
-one_among P id (x ∷ xs) all some =
-    let step : times id (x.0 ∷ map (λ (a : Added). a.0) xs) ≡ one_if (x.0 == id) + times_next id xs =
-    times_cons id x.0 (map (λ (a : Added). a.0) xs) in
-    elim (eqb_tells x.0 id) [
-      | inl same ↦ (x, All-head P x xs all, same.1)
-      | inr else_ ↦
-          let none : one_if (x.0 == id) ≡ 0 = ap one_if else_.0 in
-          one_among P id xs (All-tail P x xs all) (let all_times : times_next id (x ∷ xs) ≡ one_if (x.0 == id) + times_next id xs = step in
-          omega (arith, some, all_times, none))
-    ]
-
--- A run whose batch is over, and a bound up to which no task continues.
+-- A run whose batch is over.
 module _ {r : Runner} (w : IsUnderway r) (none : r.batch.current ≡ []) where
   state : Refines (meaning_of r) r.job.now r.input.now r.world.tick (task_count r.task_table) None (state_in r)
   state = meaning_run r w.going
@@ -155,188 +94,19 @@ module _ {r : Runner} (w : IsUnderway r) (none : r.batch.current ≡ []) where
   served : IsServed r
   served = subst (λ (es : List Entry). IsServedIf es r) none w.served
 
-  -- a task that has not ended has a timer, or continues in the next moment, as often as its blocked state says
-  timed_times : (task : Task) (at : LivesAt r.task_table task) →
-      times_next at.id (later_calls r) + timer_times (due_of r.clock at.id) ≡ task_state_times r.world.book task.task_state
-  timed_times task at =
-      let all : times_shelved r.batch (later_calls r) r.clock at.id ≡ running_times r.world.book (running_at r.task_table at.id) =
-      w.going.shelved.once at.id tt in
-      let current : times_now at.id r.batch.current ≡ 0 = ap (times_now at.id) none in
-      let next : times_next at.id r.batch.next ≡ 0 = ap (times_next at.id) w.nothing_added in
-      let its : running_times r.world.book (running_at r.task_table at.id) ≡ task_state_times r.world.book task.task_state =
-      ap (running_times r.world.book) at.is ∙ ap (λ (t : Task). task_state_times r.world.book t.task_state) at.task_is in
-      omega (arith, all, current, next, its)
-
-  -- it has a timer for a moment
-  record HasTimerFor (task : Task) (due : ℕ) : Type 0 where
-    id : ℕ
-    timer : due_of r.clock id ≡ Some due
-    sees : sight_in r.task_table r.world id ≡ sight_asleep r.world (scope_of task) task.task_state
-
-  -- where it is kept once, it stays until its moment
-  record KeptAs (task : Task) : Type 0 where
-    due : ℕ
-    stays : Stays r.world due task
-    by : HasTimerFor task due ⊎ (later_calls r ≢ [])
-
-  kept_as : (task : Task) → LivesAt r.task_table task → task_state_times r.world.book task.task_state ≡ 1 → KeptAs task
-  kept_as task at one = by_timer (due_of r.clock at.id) refl
+  -- before a moment in which none continues all stay
+  all_stay : (u : ℕ) → NoneBefore r u → AllStay (state_in r) u
+  all_stay u bound = stay_until w.going none w.nothing_added u bound (λ p. ungranted p (later_calls r) refl)
     where
-      by_timer : (d : Option ℕ) → due_of r.clock at.id ≡ d → KeptAs task
-      by_timer None e =
-          let zero_times : timer_times (due_of r.clock at.id) ≡ 0 = ap timer_times e in
-          let its = timed_times task at in
-          let some : 1 ≤ times_next at.id (later_calls r) = omega (arith, zero_times, its, one) in
-          let a = one_among (IsCalledLater r.task_table r.world) at.id (later_calls r) w.going.shelved.later some in
-          let x = some_is (running_at r.task_table a.0.0) (λ (y : Running). ContinuesLater r.world y.task a.0.1) a.1 in
-          let same : x.0 ≡ at.running = same_Some x.0 at.running (sym x.1 ∙ (ap (running_at r.task_table) a.2 ∙ at.is)) in
-          record {
-            due = x.2.due;
-            stays = subst (Stays r.world x.2.due) (ap (λ (y : Running). y.task) same ∙ at.task_is) x.2.stays;
-            by = inr (λ f. (let nobody : times_next at.id (later_calls r) ≡ 0 = ap (times_next at.id) f in omega (arith, some, nobody)));
-          }
-      by_timer (Some due) e =
-          record {
-            due = due;
-            stays = rw (at.is, at.task_is) at (w.going.shelved.stay at.id due e);
-            by = inl (record {
-              id = at.id;
-              timer = e;
-              sees = ap (sight_by r.world) at.is ∙ ap (λ (t : Task). sight_asleep r.world (scope_of t) t.task_state) at.task_is;
-            });
-          }
-
-  -- the moment in which a task that sees a cancellation from another one on continues
-  abbrev pub wakes_in : ℕ → ℕ
-  wakes_in s = max (suc r.world.tick) s
-
-  -- no task continues before a moment
-  pub record NoneBefore (u : ℕ) : Type 0 where
-    pub timers : (id due : ℕ) → due_of r.clock id ≡ Some due →
-        (u ≤ due) × ((s : ℕ) → sight_in r.task_table r.world id ≡ Some s → u ≤ wakes_in s)
-    pub later : later_calls r ≢ [] → u ≤ suc r.world.tick
-
-  -- before such a moment no task continues
-  pub all_stay : (u : ℕ) → NoneBefore u → AllStay (state_in r) u
-  all_stay u bound p task e = by_task_state task.task_state refl
-    where
-      at : LivesAt r.task_table task
-      at = lives_at r.task_table w.going.shelved.consistent.agree p task e
-
-      -- a task that has to be kept according to its blocked state stays
-      as_kept : (task_state : TaskState) → task.task_state ≡ task_state → task_state_times r.world.book task_state ≡ 1 → KeptAs task
-      as_kept task_state h one = kept_as task at (ap (task_state_times r.world.book) h ∙ one)
-
-      -- until its moment, which has not come by then
-      far : (a : KeptAs task) → u ≤ a.due
-      far a = elim a.by [
-        | inl timer ↦ (bound.timers timer.id a.due timer.timer).0
-        | inr some ↦ (let le = bound.later some in let late = a.stays.later in omega (arith, le, late))
-      ]
-
-      by_moment : (task_state : TaskState) → task.task_state ≡ task_state → (a : KeptAs task) → (moment : ℕ) →
-          moment_of r.world.clock (event_at r.world) r.world.book task_state ≡ Some moment → u ≤ moment
-      by_moment task_state h a moment is =
-          let due : a.due ≡ moment =
-          same_Some a.due moment (sym a.stays.due_is ∙ (ap (moment_of r.world.clock (event_at r.world) r.world.book) h ∙ is)) in
-          let le = far a in
-          omega (arith, due, le)
-
-      no_moment : (task_state : TaskState) → task.task_state ≡ task_state → KeptAs task →
-          moment_of r.world.clock (event_at r.world) r.world.book task_state ≡ None → ⊥
-      no_moment task_state h a is =
-          none-some a.due (sym is ∙ (ap (moment_of r.world.clock (event_at r.world) r.world.book) (sym h) ∙ a.stays.due_is))
-
-      by_nursery : (id since : ℕ) → task.task_state ≡ Awaits id since → (o : Option Nursery) → nursery_at r.world.book id ≡ o →
-          IsSomeAnd o (λ (n : Nursery). HasMembers (state_in r) state.interleaving.at r.world.tick (state.numbers p) (state.interleaving.at p) id n) →
-          IsSomeAnd o (λ (n : Nursery). (is_settled n ≡ false) ⊎ (u ≤ a_round_after r.world.clock n.last))
-      by_nursery id since h None f members = members
-      by_nursery id since h (Some n) f members = by_settled (is_settled n) refl
-        where
-          by_settled : (b : Bool) → is_settled n ≡ b → (is_settled n ≡ false) ⊎ (u ≤ a_round_after r.world.clock n.last)
-          by_settled false g = inl g
-          by_settled true g =
-              inr (by_moment (Awaits id since) h (as_kept (Awaits id since) h (ap settled_times f ∙ ap one_if g))
-              (a_round_after r.world.clock n.last)
-              (ap (left_in r.world.clock) f ∙ ap (λ (b : Bool). if b then Some (a_round_after r.world.clock n.last) else None) g))
-
-      -- in a moment in which it sees a cancellation it would continue then or later
-      within : (s : ℕ) → KeptAs task → sight_asleep r.world (scope_of task) task.task_state ≡ Some s → u ≤ wakes_in s
-      within s a sees = elim a.by [
-        | inl timer ↦ (bound.timers timer.id a.due timer.timer).1 s (timer.sees ∙ sees)
-        | inr some ↦ (let le = bound.later some in omega (arith, le))
-      ]
-
-      -- one that sleeps, or waits for an event, sees no cancellation by then, or has done so for a round at most
-      by_sight : (since : ℕ) (a : KeptAs task) → IsAsleepIn r.world (scope_of task) since →
-          sight_asleep r.world (scope_of task) task.task_state ≡ sight (outer_of r.world.scopes (scope_of task)) →
-          (c : Tick) → sight (outer_of r.world.scopes (scope_of task)) ≡ c →
-          (upto u c ≡ u) ⊎ (u ≤ a_round_after r.world.clock since)
-      by_sight since a dozes as_asleep None g = inl refl
-      by_sight since a dozes as_asleep (Some s) g =
-          elim (cases_lt s u) [
-            | inl lt ↦
-                inr (slept_now r.world.clock u r.world.tick s since (seen (outer_of r.world.scopes (scope_of task)) r.world.tick)
-                (sym (ap (λ (c : Tick). is_reached c r.world.tick) g)) lt
-                (within s a (as_asleep ∙ g)) dozes.1)
-            | inr le ↦ inl (let f : min u s ≡ u = omega (arith, le) in f)
-          ]
-
-      -- nothing is granted to it, or what is served reaches to then
-      ungranted : (calls : List Added) → later_calls r ≡ calls → ((state_in r).granted p ≡ None) ⊎ (u ≤ r.through)
-      ungranted [] f =
+      -- nothing is granted to a task, or what is served reaches to then
+      ungranted : (p : ℕ) (calls : List Added) → later_calls r ≡ calls → ((state_in r).granted p ≡ None) ⊎ (u ≤ r.through)
+      ungranted p [] f =
           inl (granted_none r.task_table (ready_calls r) (rw (none, w.nothing_added, f) (All-nil (λ (a : Added). what_of a.1 ≡ None))) p)
-      ungranted (x ∷ xs) f =
+      ungranted p (x ∷ xs) f =
           inr (let le : u ≤ suc r.world.tick =
           bound.later (λ g. (let k : length (x ∷ xs) ≡ 0 = ap length (sym f ∙ g) in omega (arith, k))) in
           let to = served.through in
           omega (arith, le, to))
-
-      -- nor does one in a queue, or has been there for a round at most
-      in_queue : (since : ℕ) (a : KeptAs task) → IsQueuedIn r.world (scope_of task) since →
-          sight_asleep r.world (scope_of task) task.task_state ≡ sight (outer_of r.world.scopes (scope_of task)) →
-          (c : Tick) → sight (outer_of r.world.scopes (scope_of task)) ≡ c → (upto u c ≡ u) ⊎ (u ≤ suc since)
-      in_queue since a dozes as_asleep None g = inl refl
-      in_queue since a dozes as_asleep (Some s) g =
-          elim (cases_lt s u) [
-            | inl lt ↦
-                inr (queued_now u r.world.tick s since (seen (outer_of r.world.scopes (scope_of task)) r.world.tick)
-                (sym (ap (λ (c : Tick). is_reached c r.world.tick) g)) lt
-                (within s a (as_asleep ∙ g)) dozes.1)
-            | inr le ↦ inl (let f : min u s ≡ u = omega (arith, le) in f)
-          ]
-
-      by_task_state : (task_state : TaskState) → task.task_state ≡ task_state →
-          StaysTo r.world r.through ((state_in r).granted p) u (scope_of task) task_state
-      by_task_state (ToBegin moment) h = by_moment (ToBegin moment) h (as_kept (ToBegin moment) h refl) moment refl
-      by_task_state (Asked kernel purpose) h =
-          absurd (no_moment (Asked kernel purpose) h (as_kept (Asked kernel purpose) h refl) refl)
-      by_task_state (Asleep paced ticks since) h =
-          let a = as_kept (Asleep paced ticks since) h refl in (
-            by_moment (Asleep paced ticks since) h a (wakes_at r.world.clock ticks since) refl,
-            by_sight since a (subst (DozesIn r.world (scope_of task)) h a.stays.dozes) (ap (sight_asleep r.world (scope_of task)) h)
-                (sight (outer_of r.world.scopes (scope_of task))) refl,
-          )
-      by_task_state (Waiting event since) h =
-          let a = as_kept (Waiting event since) h refl in (
-            by_moment (Waiting event since) h a (wait_ends r.world.clock (event_at r.world event) since) refl,
-            by_sight since a (subst (DozesIn r.world (scope_of task)) h a.stays.dozes) (ap (sight_asleep r.world (scope_of task)) h)
-                (sight (outer_of r.world.scopes (scope_of task))) refl,
-          )
-      by_task_state (Queued object ask since body) h =
-          let a = as_kept (Queued object ask since body) h refl in (
-            ungranted (later_calls r) refl,
-            by_moment (Queued object ask since body) h a (last_grant r.world.clock since) refl,
-            in_queue since a (subst (DozesIn r.world (scope_of task)) h a.stays.dozes) (ap (sight_asleep r.world (scope_of task)) h)
-                (sight (outer_of r.world.scopes (scope_of task))) refl,
-          )
-      by_task_state (GivingUp since) h = by_moment (GivingUp since) h (as_kept (GivingUp since) h refl) (suc since) refl
-      by_task_state (Awaits id since) h =
-          by_nursery id since h (nursery_at r.world.book id) refl ((state.follows p task e).nurseries id (inr (ap waits_of h)))
-      by_task_state Over h =
-          let it = state.follows p task e in
-          absurd (over_has_ended (state.numbers p) r.world.book (state.interleaving.at p).rest.stopped (rw h at it.task_state)
-          (it.lives (λ f. none-some p f)))
 
   -- ---- what the clock asks
 
@@ -351,7 +121,7 @@ module _ {r : Runner} (w : IsUnderway r) (none : r.batch.current ≡ []) where
       let now : now_of r.clock ≡ r.world.tick = w.going.shelved.consistent.now in
       omega (arith, later, now)
 
-  none_before_zero : NoneBefore 0
+  none_before_zero : NoneBefore r 0
   none_before_zero = record { timers = λ id due e. (omega arith, λ s f. omega arith); later = λ some. omega arith }
 
   -- a task that has not ended is one of the program's, of which one has a moment in which it continues
@@ -359,7 +129,7 @@ module _ {r : Runner} (w : IsUnderway r) (none : r.batch.current ≡ []) where
   has_timer s task e =
       let h = state_goes_on (meaning_of r) r.job.now r.input.now r.world.tick (task_count r.task_table) (state_in r)
       (meaning_settled r w.going.sound) w.going.sound.names w.going.sound.starts state 0 (all_stay 0 none_before_zero) s task e in
-      let a = kept_as h.task (lives_at r.task_table w.going.shelved.consistent.agree h.serial h.task h.lives)
+      let a = kept_as w.going none w.nothing_added h.task (lives_at r.task_table w.going.shelved.consistent.agree h.serial h.task h.lives)
       (moment_once r.world.book h.task.task_state h.has) in
       elim a.by [
         | inl timer ↦ inl (timer.id, a.due, timer.timer)
@@ -395,13 +165,13 @@ module _ {r : Runner} (w : IsUnderway r) (none : r.batch.current ≡ []) where
         (sees_from w.going.shelved.known w.unchanged id due x.0 t e x.1 (sym (ap (sight_by r.world) x.1) ∙ sees)))
 
     -- the clock gets the moment in which that sleeper continues
-    module _ {cancel : Tick} (is_cancel : cancel ≡ option_map wakes_in first) where
-      first_of : (c : ℕ) → cancel ≡ Some c → (t : ℕ) × (first ≡ Some t) × (wakes_in t ≡ c)
+    module _ {cancel : Tick} (is_cancel : cancel ≡ option_map (wakes_in r) first) where
+      first_of : (c : ℕ) → cancel ≡ Some c → (t : ℕ) × (first ≡ Some t) × (wakes_in r t ≡ c)
       first_of c e = by_first first (sym is_cancel ∙ e) refl
         where
-          by_first : (o : Tick) → option_map wakes_in o ≡ Some c → first ≡ o → (t : ℕ) × (first ≡ Some t) × (wakes_in t ≡ c)
+          by_first : (o : Tick) → option_map (wakes_in r) o ≡ Some c → first ≡ o → (t : ℕ) × (first ≡ Some t) × (wakes_in r t ≡ c)
           by_first None f g = absurd (none-some c f)
-          by_first (Some t) f g = (t, g, same_Some (wakes_in t) c f)
+          by_first (Some t) f g = (t, g, same_Some (wakes_in r t) c f)
 
       -- which is later than the clock's moment
       pub cancel_later : (c : ℕ) → cancel ≡ Some c → now_of r.clock < c
@@ -447,14 +217,14 @@ module _ {r : Runner} (w : IsUnderway r) (none : r.batch.current ≡ []) where
           by_round (inr (idle, cancel)) = absurd (some idle)
 
       -- no sleeper that sees a cancellation continues before it
-      none_sooner : (id due s : ℕ) → due_of r.clock id ≡ Some due → sight_in r.task_table r.world id ≡ Some s → t ≤ wakes_in s
+      none_sooner : (id due s : ℕ) → due_of r.clock id ≡ Some due → sight_in r.task_table r.world id ≡ Some s → t ≤ wakes_in r s
       none_sooner id due s e sees = by_round is_round
         where
-          by_round : ((later_calls r ≢ []) × (round ≡ Some (suc r.world.tick))) ⊎ ((later_calls r ≡ []) × IsNextCancel r round) → t ≤ wakes_in s
+          by_round : ((later_calls r ≢ []) × (round ≡ Some (suc r.world.tick))) ⊎ ((later_calls r ≡ []) × IsNextCancel r round) → t ≤ wakes_in r s
           by_round (inl (some, is)) = let le : t ≤ suc r.world.tick = next.by_cancel (suc r.world.tick) is in omega (arith, le)
           by_round (inr (idle, cancel)) =
               let f = first_before cancel.is_first id due s e sees in
-              let le : t ≤ wakes_in f.0 = next.by_cancel (wakes_in f.0) (cancel.is ∙ ap (option_map wakes_in) f.1) in
+              let le : t ≤ wakes_in r f.0 = next.by_cancel (wakes_in r f.0) (cancel.is ∙ ap (option_map (wakes_in r)) f.1) in
               let more : f.0 ≤ s = f.2 in
               let wider : max (suc r.world.tick) f.0 ≤ max (suc r.world.tick) s = omega (arith, more) in
               omega (arith, le, wider)
@@ -473,7 +243,7 @@ module _ {r : Runner} (w : IsUnderway r) (none : r.batch.current ≡ []) where
                 id = z.0;
                 due = z.1;
                 timer = z.3;
-                on = inr (ap (option_map wakes_in) (ap (sight_by r.world) z.4 ∙ z.5) ∙ ap (λ (n : ℕ). Some n) f.2);
+                on = inr (ap (option_map (wakes_in r)) (ap (sight_by r.world) z.4 ∙ z.5) ∙ ap (λ (n : ℕ). Some n) f.2);
               })
 
           some_wakes : (round ≡ Some t) ⊎ ((task : ℕ) × (due_of r.clock task ≡ Some t)) → Wakes r t
@@ -481,16 +251,16 @@ module _ {r : Runner} (w : IsUnderway r) (none : r.batch.current ≡ []) where
           some_wakes (inr h) = inl (record { id = h.0; due = t; timer = h.1; on = inl refl })
 
           by_sight : (id due u : ℕ) → due_of r.clock id ≡ Some due → (o : Tick) → sight_in r.task_table r.world id ≡ o →
-              option_map wakes_in o ≡ Some u → t ≤ u
+              option_map (wakes_in r) o ≡ Some u → t ≤ u
           by_sight id due u e None sees f = absurd (none-some u f)
           by_sight id due u e (Some s) sees f =
-              let le = none_sooner id due s e sees in let is : wakes_in s ≡ u = same_Some (wakes_in s) u f in omega (arith, le, is)
+              let le = none_sooner id due s e sees in let is : wakes_in r s ≡ u = same_Some (wakes_in r s) u f in omega (arith, le, is)
 
           none_wakes : (u : ℕ) → Wakes r u → t ≤ u
           none_wakes u (inr (some, is)) = let le = soon some in omega (arith, le, is)
           none_wakes u (inl h) = by_case h.on
             where
-              by_case : (h.due ≡ u) ⊎ (option_map wakes_in (sight_in r.task_table r.world h.id) ≡ Some u) → t ≤ u
+              by_case : (h.due ≡ u) ⊎ (option_map (wakes_in r) (sight_in r.task_table r.world h.id) ≡ Some u) → t ≤ u
               by_case (inl e) = let le = next.by_timers h.id h.due h.timer in omega (arith, le, e)
               by_case (inr e) = by_sight h.id h.due u h.timer (sight_in r.task_table r.world h.id) refl e
 
@@ -503,7 +273,7 @@ module _ {r : Runner} (w : IsUnderway r) (none : r.batch.current ≡ []) where
             | inr h ↦ let lt = timers_later h.0 t h.1 in omega (arith, lt, now)
           ]
 
-      none_before_next : NoneBefore t
+      none_before_next : NoneBefore r t
       none_before_next = record {
         timers = λ id due e. (next.by_timers id due e, λ s sees. none_sooner id due s e sees);
         later = soon;

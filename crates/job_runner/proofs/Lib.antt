@@ -15,6 +15,7 @@ pub mod Stopped
 pub mod Asking
 pub mod Counting
 pub mod Waking
+pub mod Until
 pub mod Jumped
 pub mod Landing
 pub mod Ending

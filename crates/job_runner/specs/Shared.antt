@@ -6,6 +6,7 @@ use Rattle.input_lines.specs.Part.{buffer_of, range_of}
 use Rattle.objects.specs.Held.{what_in, IsGrantOf}
 use Rattle.objects.specs.Whats.{What}
 use Rattle.objects.specs.declared.object.Object.{Object}
+use Rattle.job_meaning.specs.GrantTable.{grants_made}
 use Rattle.job_meaning.specs.Log.{Act, opens, asks, gives_back, closes, same_label}
 use Rattle.run_refinement.specs.Sharing.{RoundAct}
 use Rattle.task_table.specs.declared.entry.Call.{Call}
@@ -75,7 +76,7 @@ granted_of table calls p = granted_if (id_of table p) calls p (running_at table 
 -- what a runner holds, where these tasks are ready
 abbrev pub sharing_of : Runner → List Added → Sharing
 sharing_of r calls =
-    record { through = r.through; object = object_at r.objects; round = map round_act_of r.round.items; granted = granted_of r.task_table calls }
+    record { through = r.through; object = object_at r.objects; round = map round_act_of r.round.items; granted = granted_of r.task_table calls; grants = grants_made r.grants }
 
 abbrev pub sharing_in : Runner → Sharing
 sharing_in r = sharing_of r (ready_calls r)

@@ -85,7 +85,7 @@ impl<'a> Run<'a> {
     /// Returns the same as `cancelled_from`, and what the limiters and channels granted, without the records.
     pub fn into_tables(self) -> (Vec<ScopeFrom>, GrantTable<'a>)
         ensures cancelled_from { result.0.items ≡ cancelled_from_in self.entry }
-        ensures grants { result.1 ≡ granted_in self }
+        ensures grants { result.1 ≡ granted_in self.entry }
     {
         let Run {
             cancelled_from,

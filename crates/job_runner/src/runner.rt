@@ -21,7 +21,7 @@ use crate::serving::RoundAct;
 use cancel_scopes::stacks_are_chains;
 use clock::{EventWaiters, MockClock, Sleepers, TaskId};
 use input_lines::{Answer, Part, Request};
-use job_meaning::Clock;
+use job_meaning::{Clock, GrantTable};
 use job_reader::{Job, spelled_jobs_are_sound};
 use std::alloc::{AllocError, Global};
 use task_machine::{Stop, Task, Wake, World};
@@ -61,6 +61,8 @@ pub struct Runner<'a> {
     pub(crate) through: u64,
     // What was done to limiters and channels in this moment, and asked of them, in the order of turns.
     pub(crate) round: Vec<RoundAct<'a>>,
+    // All that limiters and channels granted.
+    pub(crate) grants: GrantTable<'a>,
     pub(crate) turns: u64,
 }
 
@@ -106,6 +108,7 @@ impl<'a> Runner<'a> {
             objects: ObjectTable::new(alloc),
             through: 0,
             round: Vec::new(alloc),
+            grants: GrantTable::new(alloc),
             turns: 0,
         })
     }
@@ -262,10 +265,17 @@ impl<'a> Runner<'a> {
             alloc,
             job,
             task_table,
+            grants,
             turns,
             ..
         } = self;
         let (records, cancelled_from) = records_of(alloc, task_table.into_rows())?;
-        Ok(Run::new(job.name(), records, cancelled_from, turns))
+        Ok(Run::new(
+            job.name(),
+            records,
+            cancelled_from,
+            grants,
+            turns,
+        ))
     }
 }

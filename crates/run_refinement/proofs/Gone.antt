@@ -275,7 +275,7 @@ other_count label since (d ∷ ds) h =
 
 -- ---- all tasks
 
-all_count : (l n : Label) (q : Started) (name : List ℕ) (ask : Ask) (since : ℕ) (body : Steps) → q.rest.stopped ≡ queued name ask since body →
+pub all_count : (l n : Label) (q : Started) (name : List ℕ) (ask : Ask) (since : ℕ) (body : Steps) → q.rest.stopped ≡ queued name ask since body →
     label_among true name q.places ≡ Some n → AsksBefore since q.made → (taken : List Started) →
     ((x : Started) → IsAmong x taken → x.here.task ≡ q.here.task → x ≡ q) →
     count (of_asker (asked_then q.here.task since)) (askers_in (acts_of_all l taken))

@@ -59,3 +59,4 @@ pub mod Found
 pub mod Going
 pub mod Blocks
 pub mod Keeping
+pub mod GrantsOnce

@@ -385,7 +385,7 @@ module _ (k : Tables) (job : Job) (input : List ℕ) (t m : ℕ) (old new : RunS
             by_task None e g = absurd (let z : false ≡ true = g in cc)
             by_task (Some task) e g = below_of c ticket.row task e
 
-    served : (taken : List Started) → InOrder qs (0 ∷ []) taken → (l : Label) →
+    pub served : (taken : List Started) → InOrder qs (0 ∷ []) taken → (l : Label) →
         ServedSo at m t waits (serve_all waits t (code l) (acts_on l x.ordered)) (object_after (before l taken) (map to (acts_on l x.ordered)))
         (serve_acts (before l taken) (map to (acts_on l x.ordered)))
     served taken order l = served_all at m t waits (code l) (before l taken) (acts_on l x.ordered) (alike taken order l) (fits_on l)
@@ -415,7 +415,7 @@ module _ (k : Tables) (job : Job) (input : List ℕ) (t m : ℕ) (old new : RunS
     asked_by_now : (s : ℕ) → s < m → (name : List ℕ) (wanted : Ask) (since : ℕ) (body : Steps) → (at s).rest.stopped ≡ queued name wanted since body → since ≤ t
     asked_by_now s lt name wanted since body is = (subst (StopBy k t (at s).places) is (by_now s lt).stop).0
 
-    all_given : (taken : List Started) → InOrder qs (0 ∷ []) taken → (l : Label) →
+    pub all_given : (taken : List Started) → InOrder qs (0 ∷ []) taken → (l : Label) →
         serve_acts unopened (by_moment (acts_of_all l taken))
         ≡ serve_acts unopened (by_moment (done_before t (acts_of_all l taken))) ++ serve_acts (before l taken) (map to (acts_on l x.ordered))
     all_given taken order l =
