@@ -14,6 +14,11 @@ abbrev pub queued_since : TaskState → Option ℕ
 queued_since (Queued object ask since body) = Some since
 queued_since _ = None
 
+-- the limiter or channel for which a task waits, if it waits for one
+abbrev pub queue_of : TaskState → Option ℕ
+queue_of (Queued object ask since body) = Some object
+queue_of _ = None
+
 -- an act on the limiter or channel of a label
 pub record Acted : Type 0 where
   pub object : Label

@@ -5,7 +5,7 @@ ghost use Rattle.job_meaning.specs.declared.limits.TheConstants.{MAX_INPUT};
 ghost use Rattle.job_meaning.specs.Rest.{steps_left};
 ghost use Rattle.task_machine.specs.Fitting.{blocks_of, block_in, received_in, received_inside};
 ghost use Rattle.task_machine.specs.Frames.{frame_of, frames_of};
-ghost use Rattle.task_machine.specs.Serving.{queued_since};
+ghost use Rattle.task_machine.specs.Serving.{queue_of, queued_since};
 ghost use Rattle.task_machine.specs.Tasks.{scope_of, home_of, home_scope};
 ghost use Rattle.task_machine.specs.declared.stop.TaskState.TheVariants.{ToBegin};
 
@@ -130,6 +130,16 @@ impl<'a> Task<'a> {
         match &self.home {
             Some(home) => Some((home.nursery, home.index)),
             None => None,
+        }
+    }
+
+    /// Returns the limiter or channel for which the task waits, or `None` if it waits for none.
+    pub fn queue(&self) -> Option<ScopeId>
+        ensures { result ≡ queue_of self.now.task_state }
+    {
+        match &self.task_state {
+            TaskState::Queued { object, .. } => Some(*object),
+            _ => None,
         }
     }
 

@@ -33,8 +33,7 @@ pub path_pushed : (r : TaskTable) (row at parent : ℕ) (below more : List ℕ) 
     parent_of r at ≡ parent → more ≡ below ++ at ∷ [] → path_of r row ≡ path_of r at ++ reverse below →
     (parent < task_count r) × (path_of r row ≡ path_of r parent ++ reverse more)
 path_pushed r row at parent below more ok some less is added so_far =
-    let before : parent_of r at < at = ok.earlier at some less in
-    (
+    let before : parent_of r at < at = ok.earlier at some less in (
       omega arith,
       so_far
           ∙ (ap (λ (xs : List ℕ). xs ++ reverse below) (path_step r at ok some less ∙ ap (λ (p : ℕ). path_of r p ++ at ∷ []) is)

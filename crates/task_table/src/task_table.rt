@@ -2,6 +2,7 @@
 ghost use Rattle.std.specs.Prelude.{◌≡◌, ◌<◌, ◌≤◌, ◌^◌, ◌↔◌, IsSome, IsTrue, IfOk, OnOk, OnErr, length};
 ghost use Rattle.std.specs.Option.{ForSome};
 ghost use Rattle.task_machine.specs.Events.{WaitsWithin, is_wait_over};
+ghost use Rattle.task_machine.specs.Serving.{queue_of};
 ghost use Rattle.task_machine.specs.Tasks.{scope_of, home_of};
 ghost use Rattle.task_machine.specs.Worlds.{event_at};
 ghost use Rattle.task_table.specs.Rows.{IsNewRow};
@@ -12,7 +13,7 @@ use crate::Live;
 use crate::rows::{Ended, TaskRow};
 use cancel_scopes::ScopeId;
 use clock::TaskId;
-use exceptions::Exc;
+use exceptions::{Exc, Label};
 use nursery_book::{ChildIndex, NurseryId};
 use objects::{Queues, Ticket};
 use std::alloc::{AllocError, Global};
@@ -132,6 +133,28 @@ impl<'a> TaskTable<'a> {
     {
         match self.live.get(id) {
             Some(running) => running.task.scope(),
+            None => unreachable!(),
+        }
+    }
+
+    /// Returns the label of a task that has not ended.
+    pub fn label(&self, id: TaskId) -> &Label
+        requires { IsSome (running_at self.now id) }
+        ensures { ForSome (running_at self.now id) (λ x. result.now ≡ x.task.label) }
+    {
+        match self.live.get(id) {
+            Some(running) => running.task.label(),
+            None => unreachable!(),
+        }
+    }
+
+    /// Returns the limiter or channel for which a task that has not ended waits, or `None` if it waits for none.
+    pub fn queue(&self, id: TaskId) -> Option<ScopeId>
+        requires { IsSome (running_at self.now id) }
+        ensures { ForSome (running_at self.now id) (λ x. result ≡ queue_of x.task.task_state) }
+    {
+        match self.live.get(id) {
+            Some(running) => running.task.queue(),
             None => unreachable!(),
         }
     }
