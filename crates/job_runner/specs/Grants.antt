@@ -1,11 +1,17 @@
 -- What is granted by limiters and channels at the end of a moment: who gets it waits no more, and continues a round later.
-use Rattle.std.specs.Prelude.{◌≡◌, ◌≤◌, ℕ, suc, None, Some, IsSome, List, [], ◌∷◌, ◌++◌, All, map}
+use Rattle.std.specs.Prelude.{◌≡◌, ◌≤◌, ℕ, suc, Option, None, Some, IsSome, List, [], ◌∷◌, ◌++◌, All, map, if◌then◌else◌}
 use Rattle.std.specs.Borrow.{Bor}
 use Rattle.clock.specs.Clock.{due_of, Updates, SameTime}
 use Rattle.clock.specs.Sleeping.{Moves, KeepsSights}
 use Rattle.job_tree.specs.Tree.{Steps}
 use Rattle.job_tree.specs.declared.object.Ask.{Ask}
+use Rattle.exceptions.specs.Exceptions.{Label}
+use Rattle.job_meaning.specs.GrantTable.{made_in, is_asking}
+use Rattle.job_meaning.specs.declared.grant_table.Granted.{Granted as Recorded}
 use Rattle.objects.specs.Held.{IsGrantOf}
+use Rattle.task_machine.specs.Serving.{queue_of}
+use Rattle.task_machine.specs.Worlds.{label_at}
+use Rattle.task_machine.specs.declared.world.World.{World}
 use Rattle.objects.specs.declared.given.Given.{Given}
 use Rattle.task_machine.specs.declared.stop.TaskState.TheVariants.{Queued}
 use Rattle.task_machine.specs.Tasks.{lent_of}
@@ -43,7 +49,28 @@ pub record MayGetAll (r : Runner) (given : List Given) : Type 0 where
   pub each : All (MayGet r) given
   pub once : (row : ℕ) → times row (map (λ (g : Given). g.who.row) given) ≤ 1
 
--- It was granted: the task has no timer any more, sees no cancellation, and continues a round later.
+-- the label of the limiter or channel for which a task waits
+abbrev pub queue_label : World → Option ℕ → Option Label
+queue_label world None = None
+queue_label world (Some key) = label_at world key
+
+-- what is recorded of a grant, by the labels of the limiter or channel, if there is one, and of the task
+abbrev pub recorded_for : Runner → Option Label → Label → Given → (object asker : Label) → ℕ → Option Recorded
+recorded_for r None task g object asker u = made_in r.grants object asker u
+recorded_for r (Some label) task g object asker u =
+    if is_asking label task g.who.since object asker u then Some (record { at = suc r.world.tick; grant = g.grant })
+    else made_in r.grants object asker u
+
+abbrev pub recorded_by : Runner → Option Running → Given → (object asker : Label) → ℕ → Option Recorded
+recorded_by r None g object asker u = made_in r.grants object asker u
+recorded_by r (Some x) g object asker u = recorded_for r (queue_label r.world (queue_of x.task.task_state)) x.task.label g object asker u
+
+-- a grant was recorded for the task with an id
+pub record Records (id : ℕ) (g : Given) (old new : Runner) : Type 0 where
+  pub made : (object asker : Label) (u : ℕ) → made_in new.grants object asker u ≡ recorded_by old (running_at old.task_table id) g object asker u
+  pub rest : new ≡ record old { grants = new.grants }
+
+-- It was granted, and that is recorded: the task has no timer any more, sees no cancellation, and continues a round later.
 pub record Grants (g : Given) (old new : Runner) : Type 0 where
   pub timers : Updates old.clock new.clock (getter_of old.task_table g) None
   pub time : SameTime old.clock new.clock
@@ -51,11 +78,13 @@ pub record Grants (g : Given) (old new : Runner) : Type 0 where
   pub sights : KeepsSights old.sleepers new.sleepers
   pub later : later_calls new ≡ later_calls old ++ call_of old.task_table g ∷ []
   pub current : new.later.current ≡ old.later.current
-  pub rest : new ≡ record old { clock = new.clock; sleepers = new.sleepers; later = new.later }
+  pub made : (object asker : Label) (u : ℕ) →
+      made_in new.grants object asker u ≡ recorded_by old (running_at old.task_table (getter_of old.task_table g)) g object asker u
+  pub rest : new ≡ record old { clock = new.clock; sleepers = new.sleepers; later = new.later; grants = new.grants }
 
 -- nothing else changes
 abbrev pub GrantsOnly : Runner → Runner → Type 0
-GrantsOnly old new = new ≡ record old { clock = new.clock; sleepers = new.sleepers; later = new.later }
+GrantsOnly old new = new ≡ record old { clock = new.clock; sleepers = new.sleepers; later = new.later; grants = new.grants }
 
 -- What was done to limiters and channels in the present moment was served, and the tasks that were granted something continue a round
 -- later.
@@ -71,4 +100,5 @@ pub record ServesRound (old new : Runner) : Type 0 where
         clock = new.clock;
         sleepers = new.sleepers;
         later = new.later;
+        grants = new.grants;
       }

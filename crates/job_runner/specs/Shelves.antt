@@ -17,6 +17,7 @@ use Rattle.job_tree.specs.Starting.{StartsInNurseries}
 use Rattle.job_tree.specs.InRange.{IsInRange}
 use Rattle.exceptions.specs.Exceptions.{Label}
 use Rattle.objects.specs.Held.{IsGrantOf, IsObjectOf}
+use Rattle.job_meaning.specs.GrantTable.{AreGrantsOf}
 use Rattle.turn_semantics.specs.Midway.{Tables}
 use Rattle.interleavings.specs.Laws.{IsSettledBy}
 use Rattle.job_meaning.specs.Moments.{clock_of, a_round_after, wakes_at}
@@ -290,6 +291,8 @@ pub record HoldsParts (r : Runner) : Type 0 where
   pub current : All (IsEntryOf r.input.now) r.batch.current
   pub next : All (IsAddedOf r.input.now) r.batch.next
   pub later : All (IsAddedOf r.input.now) (later_calls r)
+  -- all that were granted so far
+  pub granted : AreGrantsOf r.input.now r.grants
 
 -- what holds for each job that was read, and for an input that may be run
 pub record IsSoundJob (job : Tree) (input : List ℕ) : Type 0 where

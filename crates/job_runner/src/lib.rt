@@ -11,6 +11,7 @@ mod finished;
 mod jumping;
 mod limits;
 mod objects_by_label;
+mod recording;
 mod runner;
 mod running;
 mod serving;

@@ -168,6 +168,7 @@ impl<'a> Runner<'a> {
         let id = self.task_table.id(given.who.row);
         self.clock.wake(id);
         self.sleepers.remove(id);
+        self.record(id, given)?;
         self.later.add(id, Call::Granted(given.grant))?;
         Ok(())
     }
