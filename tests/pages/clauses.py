@@ -26,6 +26,8 @@ WIDTH = 118  # (one of the lists is indented by two more)
 # Edits that make a law false by changing a definition that the law is about: each with the reason, which names the law's statement.
 OF_A_LAW = {
     "interleavings/a_task_that_ended_stays_in_its_nursery.edit": "`IsHoused` is what the law `TasksAreHoused` states of each task",
+    "objects/a_buffer_is_never_full.edit": "a buffer would have a place that is never used, against `ChannelsServe`",
+    "objects/nobody_ever_waits_for_a_token.edit": "nobody could wait for a token, against `LimitersServe`",
     "job_story/a_body_that_failed_is_no_cause.edit": "a story would name no cause, against `CancellationsHaveCauses`",
     "job_story/a_cause_of_any_tick.edit": "a story would name a cause of another tick, against `CausesAreShown`",
     "job_story/a_paced_sleep_is_due_too_soon.edit": "a story would name the wrong end of a sleep, against `TimePassesAsleep`",
