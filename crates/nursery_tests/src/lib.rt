@@ -56,6 +56,7 @@ mod reports;
 #[cfg(test)]
 mod rounds;
 #[cfg(test)]
+mod sharing_reports;
 mod snapshots;
 #[cfg(test)]
 mod stories;
