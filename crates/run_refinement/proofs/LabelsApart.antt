@@ -11,6 +11,7 @@ use Rattle.job_tree.specs.Starting.{StartsInNurseries}
 use Rattle.job_tree.specs.Tree.{Tree as Job}
 use Rattle.interleavings.specs.Laws.{IsSettledBy}
 use Rattle.job_meaning.specs.Log.{Table}
+use Rattle.job_meaning.specs.Walk.{Here}
 use Rattle.job_meaning.specs.Rest.{Event, noted, signs, enters, acts, starts}
 use Rattle.task_machine.specs.declared.entry.ScopeFrom.{ScopeFrom}
 use Rattle.turn_semantics.specs.Turned.{EntersIn}
@@ -23,11 +24,14 @@ use Rattle.task_machine.specs.Stacked.{IsKey, Alone}
 use Rattle.task_machine.specs.Tasks.{scope_of}
 use Rattle.task_machine.specs.Worlds.{label_at, event_at}
 use Rattle.interleavings.specs.Interleaving.{Started, times_made, made_times, all_times, RunInvariant}
+use Rattle.interleavings.specs.Acts.{InOrder}
 use Rattle.interleavings.specs.Going.{root_result}
 use Rattle.interleavings.specs.Rows.{entered_made}
 use Rattle.run_refinement.specs.RunState.{Interleaving, RunState, Tracks, Follows, OpenedBy, Refines}
 use Rattle.run_refinement.specs.Turn.{IsSound, IsEntered}
 use Rattle.run_refinement.proofs.ActsKeep.{Sound, not_both, same_or}
+use Rattle.run_refinement.proofs.Orders.{labels_differ}
+use Rattle.interleavings.proofs.Ordering.{orders_exist}
 use Rattle.interleavings.proofs.Readings.{enters_counted, made_counted, made_few}
 use Rattle.interleavings.proofs.Running.{runs_keep_invariant}
 use Rattle.task_machine.proofs.Cancels.{open_around}
@@ -137,6 +141,28 @@ below_of {m = m} c p task e = by_order (cases_lt p m)
     by_order : (p < m) ⊎ (m ≤ p) → p < m
     by_order (inl l) = l
     by_order (inr l) = absurd (not_both (c.unborn p l).0 e)
+
+-- no two tasks that have not ended have the same label
+pub tasks_apart : {k : Tables} {job : Job} {input : List ℕ} {t m : ℕ} {leaving : Option ℕ} {state : RunState} →
+    Refines k job input t m leaving state → IsSettledBy k job input → GivesNamesOnce job → StartsInNurseries job → (s p : ℕ) (x y : Task) →
+    state.task s ≡ Some x → state.task p ≡ Some y → x.label ≡ y.label → s ≡ p
+tasks_apart {k} {job} {input} {t} {m} {state = state} c settled names starting s p x y lives also e =
+    sym first.1
+    ∙ (labels_differ k job input c.interleaving.cancelled_from t m c.interleaving.tasks settled names starting c.interleaving.reached order.0 order.1
+    (c.interleaving.at s) (c.interleaving.at p) first.0 second.0 (sym (label s x lives) ∙ (e ∙ label p y also))
+    ∙ second.1)
+  where
+    order : (taken : List Started) × InOrder c.interleaving.tasks (0 ∷ []) taken
+    order = orders_exist k job input names starting settled c.interleaving.cancelled_from t m c.interleaving.tasks c.interleaving.reached
+
+    first : IsAmong (c.interleaving.at s) c.interleaving.tasks × ((c.interleaving.at s).serial ≡ s)
+    first = c.interleaving.has s (below_of c s x lives)
+
+    second : IsAmong (c.interleaving.at p) c.interleaving.tasks × ((c.interleaving.at p).serial ≡ p)
+    second = c.interleaving.has p (below_of c p y also)
+
+    label : (n : ℕ) (task : Task) → state.task n ≡ Some task → task.label ≡ (c.interleaving.at n).here.task
+    label n task lives = ap (λ (h : Here). h.task) (c.follows n task lives).here
 
 -- the label of a scope that a task opened was entered by it
 pub opened_entered : {k : Tables} {job : Job} {input : List ℕ} {t m : ℕ} {leaving : Option ℕ} {state : RunState} →

@@ -1,4 +1,4 @@
-use Rattle.std.proofs.Common.{◌≡◌, refl, ap, arith}
+use Rattle.std.proofs.Common.{refl, ap, arith}
 use Rattle.std.proofs.lemmas.Option.{slice_get_read}
 use Rattle.task_table.specs.TaskTable.{parent_by}
 use Rattle.task_table.proofs.PathLemmas.{path_pushed}
