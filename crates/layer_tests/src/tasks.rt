@@ -75,6 +75,10 @@ fn push_entry(text: &mut Vec<u8>, entry: &Entry<'_>) -> Result<(), AllocError> {
             push_bytes(text, b"wait ")?;
             push_left(text, label, *tick, false)
         }
+        Entry::Granted { label, tick, .. } => {
+            push_bytes(text, b"granted ")?;
+            push_left(text, label, *tick, false)
+        }
     }
 }
 
