@@ -32,7 +32,11 @@ pub mod Finishing
 pub mod Opening
 pub mod Telling
 pub mod Lasting
+pub mod Filters
 pub mod RecordOrder
 pub mod Served
 pub mod ServedRunner
 pub mod GrantsMade
+pub mod AskedBy
+pub mod Getters
+pub mod ServedRound
