@@ -220,7 +220,7 @@ module _ {id : ℕ} {wake : Wake} {stop : Stop} {r after woke new : Runner} {ro 
 
     -- the same with the events as they were before the turn
     abbrev unset : World
-    unset = record w { started = after.world.started; events = r.world.events }
+    unset = record w { started = after.world.started; events = r.world.events; acts = new.world.acts }
 
     abbrev left : Runner
     left = record mid {
@@ -346,7 +346,7 @@ module _ {id : ℕ} {wake : Wake} {stop : Stop} {r after woke new : Runner} {ro 
     none_new other y differs lives = not_new other y (turn.others other differs ∙ lives)
 
     -- it lives on itself
-    its_later : Running
+    abbrev its_later : Running
     its_later = record { task = turn.after; row = s }
 
     lives_later : running_at after.task_table id ≡ Some its_later

@@ -14,8 +14,8 @@ turns-init g c = (
 pub next-requires : goal.next-requires
 next-requires g c = c.turns.invariant.0.answered
 
-pub take_turn-requires-clause-turning : goal.take_turn-requires-clause-turning
-take_turn-requires-clause-turning g c = turn_turning c.turns.invariant.0 c.in-Some.ensures.hands_out
+pub take_turn-requires : goal.take_turn-requires
+take_turn-requires g c = record { turning = turn_turning c.turns.invariant.0 c.in-Some.ensures.hands_out }
 
 pub turns-smaller : goal.turns-smaller
 turns-smaller g c =
