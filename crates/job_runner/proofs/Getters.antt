@@ -182,9 +182,11 @@ module _ {r : Runner} (going : IsGoing r) (unserved : IsUnserved r) (none : r.ba
   stay_on =
       stay_until going none nothing (suc r.world.tick)
       (record {
-        timers = λ id due e.
-            (let x = some_is (running_at r.task_table id) (λ (y : Running). Stays r.world due y.task) (going.shelved.stay id due e) in
-            let lt = x.2.later in omega (arith, lt), λ s f. omega arith);
+        timers = λ id due e. (
+          let x = some_is (running_at r.task_table id) (λ (y : Running). Stays r.world due y.task) (going.shelved.stay id due e) in
+              let lt = x.2.later in omega (arith, lt),
+          λ s f. omega arith,
+        );
         later = λ some. omega arith;
       })
       (λ p. inl (none_granted p))

@@ -25,7 +25,9 @@ pub mod Rounds
 pub mod Starting
 pub mod TakenActs
 pub mod ObjectTables
+pub mod LeftWorlds
 pub mod Turning
+pub mod TurnsTaken
 pub mod Turns
 pub mod Committing
 pub mod Finishing

@@ -205,8 +205,8 @@ module _ (table : TaskTable) where
     precedes_all x [] e all up = tt
     precedes_all x (z ∷ zs) e all up = (
       ap (λ (ws : List ℕ). precedes ws (path_of table z.act.row)) (sym e)
-      ∙ (ap (precedes x.path.items) (sym (All-head IsPlaced z zs all))
-      ∙ not_after x.path.items z.path.items (All-head (λ (y : PlacedAct). comes_before y x ≡ false) z zs up)),
+          ∙ (ap (precedes x.path.items) (sym (All-head IsPlaced z zs all))
+          ∙ not_after x.path.items z.path.items (All-head (λ (y : PlacedAct). comes_before y x ≡ false) z zs up)),
       precedes_all x zs e (All-tail IsPlaced z zs all) (All-tail (λ (y : PlacedAct). comes_before y x ≡ false) z zs up),
     )
 

@@ -123,9 +123,11 @@ module _ {r : Runner} (going : IsGoing r) (unserved : IsUnserved r) (none : r.ba
 
         lives : (z : Task) × LivesBy r.task_table g.who.row z
         lives =
-            let h = getter_is going unserved none nothing ordered objects given order serves found.0 found.1 in
-            (h.task, lives_by r.task_table going.shelved.consistent.agree g.who.row h.task
-            (ap (λ (y : Gets). task_of r.task_table y.who.row) found.2 ∙ h.lives))
+            let h = getter_is going unserved none nothing ordered objects given order serves found.0 found.1 in (
+              h.task,
+              lives_by r.task_table going.shelved.consistent.agree g.who.row h.task
+                  (ap (λ (y : Gets). task_of r.task_table y.who.row) found.2 ∙ h.lives),
+            )
 
         by_row : (b : Bool) → (g.who.row == s) ≡ b → (getter_of r.task_table g == id_of r.task_table s) ≡ b
         by_row true e = eq-eqb (getter_of r.task_table g) (id_of r.task_table s) (ap (id_of r.task_table) (eqb-true g.who.row s e))
@@ -226,71 +228,71 @@ module _ {r : Runner} (going : IsGoing r) (unserved : IsUnserved r) (none : r.ba
             (shelved : AreShelved None new) (later : later_calls new ≡ later_calls mid ++ map (call_of mid.task_table) given)
             (stays : StayLent r.input.now r.objects objects [] given)
           where
-          abbrev last : Runner
-          last = record r {
-            objects = objects;
-            through = before.through;
-            round = before.round;
-            clock = new.clock;
-            sleepers = new.sleepers;
-            later = new.later;
-          }
+            abbrev last : Runner
+            last = record r {
+              objects = objects;
+              through = before.through;
+              round = before.round;
+              clock = new.clock;
+              sleepers = new.sleepers;
+              later = new.later;
+            }
 
-          whole : new ≡ last
-          whole = only ∙ ap (λ (x : Runner). record x { clock = new.clock; sleepers = new.sleepers; later = new.later }) mid_is
+            whole : new ≡ last
+            whole = only ∙ ap (λ (x : Runner). record x { clock = new.clock; sleepers = new.sleepers; later = new.later }) mid_is
 
-          later_is : later_calls new ≡ later_then
-          later_is = later ∙ ap (λ (x : Runner). later_calls x ++ map (call_of x.task_table) given) mid_is
+            later_is : later_calls new ≡ later_then
+            later_is = later ∙ ap (λ (x : Runner). later_calls x ++ map (call_of x.task_table) given) mid_is
 
-          ready_is : ready_calls last ≡ later_then
-          ready_is =
-              ap (λ (es : List Entry). map added_of es ++ (r.batch.next ++ later_calls new)) none
-              ∙ (ap (λ (xs : List Added). xs ++ later_calls new) nothing ∙ later_is)
+            ready_is : ready_calls last ≡ later_then
+            ready_is =
+                ap (λ (es : List Entry). map added_of es ++ (r.batch.next ++ later_calls new)) none
+                ∙ (ap (λ (xs : List Added). xs ++ later_calls new) nothing ∙ later_is)
 
-          granted_last : (s : ℕ) → granted_of r.task_table (ready_calls last) s
-              ≡ granted_to (state_in r) r.world.tick (acts going unserved none nothing ordered objects given order serves) s (task_of r.task_table s)
-          granted_last s = ap (λ (calls : List Added). granted_of r.task_table calls s) ready_is ∙ granted_then s
+            granted_last : (s : ℕ) → granted_of r.task_table (ready_calls last) s
+                ≡ granted_to (state_in r) r.world.tick (acts going unserved none nothing ordered objects given order serves) s (task_of r.task_table s)
+            granted_last s = ap (λ (calls : List Added). granted_of r.task_table calls s) ready_is ∙ granted_then s
 
-          refined : (k : Tables) → IsSettledBy k r.job.now r.input.now →
-              Refines k r.job.now r.input.now r.world.tick (task_count r.task_table) None (state_in last)
-          refined k settled =
-              subst (λ (n : ℕ). Refines k r.job.now r.input.now r.world.tick (task_count r.task_table) None (run_state r.task_table r.world r.turns
-              (record { through = n; object = object_at objects; round = map round_act_of before.round.items; granted = granted_of r.task_table (ready_calls last) })))
-              (sym through)
-              (subst (λ (xs : List RoundAct). Refines k r.job.now r.input.now r.world.tick (task_count r.task_table) None (run_state r.task_table r.world r.turns
-              (record { through = suc r.world.tick; object = object_at objects; round = map round_act_of xs; granted = granted_of r.task_table (ready_calls last) })))
-              (sym empty)
-              (served.serves k r.job.now r.input.now r.world.tick (task_count r.task_table) (state_in r)
-              (served_state going unserved none nothing ordered objects given order serves (granted_of r.task_table (ready_calls last))) settled
-              going.sound.names going.sound.starts (going.interleaving k settled)
-              (same_tasks going unserved none nothing ordered objects given order serves (granted_of r.task_table (ready_calls last)))
-              (serves_round going unserved none nothing ordered objects given order serves (granted_of r.task_table (ready_calls last)) granted_last)
-              (stay_on going unserved none nothing) refl))
+            refined : (k : Tables) → IsSettledBy k r.job.now r.input.now →
+                Refines k r.job.now r.input.now r.world.tick (task_count r.task_table) None (state_in last)
+            refined k settled =
+                subst (λ (n : ℕ). Refines k r.job.now r.input.now r.world.tick (task_count r.task_table) None (run_state r.task_table r.world r.turns
+                (record { through = n; object = object_at objects; round = map round_act_of before.round.items; granted = granted_of r.task_table (ready_calls last) })))
+                (sym through)
+                (subst (λ (xs : List RoundAct). Refines k r.job.now r.input.now r.world.tick (task_count r.task_table) None (run_state r.task_table r.world r.turns
+                (record { through = suc r.world.tick; object = object_at objects; round = map round_act_of xs; granted = granted_of r.task_table (ready_calls last) })))
+                (sym empty)
+                (served.serves k r.job.now r.input.now r.world.tick (task_count r.task_table) (state_in r)
+                (served_state going unserved none nothing ordered objects given order serves (granted_of r.task_table (ready_calls last))) settled
+                going.sound.names going.sound.starts (going.interleaving k settled)
+                (same_tasks going unserved none nothing ordered objects given order serves (granted_of r.task_table (ready_calls last)))
+                (serves_round going unserved none nothing ordered objects given order serves (granted_of r.task_table (ready_calls last)) granted_last)
+                (stay_on going unserved none nothing) refl))
 
-          parts : HoldsParts last
-          parts =
-              let held = stays going.lent.objects tt in
-              record {
-                objects = held.0;
-                round = rw empty (All-nil (IsActOf r.input.now));
-                current = going.lent.current;
-                next = going.lent.next;
-                later =
-                    (let is_later = later_is in
-                    rw is_later (All-append (IsAddedOf r.input.now) (later_calls r) (map (call_of r.task_table) given) going.lent.later (of_given given held.1)));
-              }
-            where
-              of_given : (gs : List Given) → AreGivenOf r.input.now gs → All (IsAddedOf r.input.now) (map (call_of r.task_table) gs)
-              of_given [] h = All-nil (IsAddedOf r.input.now)
-              of_given (g ∷ gs) h = All-cons (IsAddedOf r.input.now) (call_of r.task_table g) (map (call_of r.task_table) gs) h.0 (of_given gs h.1)
+            parts : HoldsParts last
+            parts =
+                let held = stays going.lent.objects tt in
+                record {
+                  objects = held.0;
+                  round = rw empty (All-nil (IsActOf r.input.now));
+                  current = going.lent.current;
+                  next = going.lent.next;
+                  later =
+                      (let is_later = later_is in
+                      rw is_later (All-append (IsAddedOf r.input.now) (later_calls r) (map (call_of r.task_table) given) going.lent.later (of_given given held.1)));
+                }
+              where
+                of_given : (gs : List Given) → AreGivenOf r.input.now gs → All (IsAddedOf r.input.now) (map (call_of r.task_table) gs)
+                of_given [] h = All-nil (IsAddedOf r.input.now)
+                of_given (g ∷ gs) h = All-cons (IsAddedOf r.input.now) (call_of r.task_table g) (map (call_of r.task_table) gs) h.0 (of_given gs h.1)
 
-          pub served_going : IsGoing new
-          served_going =
-              subst IsGoing (sym whole)
-              (record {
-                sound = going.sound;
-                counts = going.counts;
-                shelved = subst (AreShelved None) whole shelved;
-                interleaving = refined;
-                lent = parts;
-              })
+            pub served_going : IsGoing new
+            served_going =
+                subst IsGoing (sym whole)
+                (record {
+                  sound = going.sound;
+                  counts = going.counts;
+                  shelved = subst (AreShelved None) whole shelved;
+                  interleaving = refined;
+                  lent = parts;
+                })
