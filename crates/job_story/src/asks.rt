@@ -208,10 +208,11 @@ pub(crate) fn note_asked<'a>(
     requires later { moment < at }
     ensures events { OnOk result (Adds here.entry.task.now events.old.items events.new.items
         (queues_if (nat_le at (suc moment)) ask object.now (range_of here.entry.part) moment)) }
-    ensures at_once { IfOk result (λ asked. option_map asked_of asked ≡ asked_if (nat_le at (suc moment)) moment (range_of here.entry.part)) }
+    ensures at_once { IfOk result (λ asked. option_map asked_of asked ≡ asked_if (nat_le at (suc moment)) ask moment (range_of here.entry.part)) }
 {
     if at - moment == 1 {
         return Ok(Some(Asked {
+            ask,
             since: moment,
             part: range(here.part),
         }));

@@ -58,6 +58,8 @@ pub enum During {
 /// That a task asked something of a limiter or channel.
 #[derive(Clone, Copy, Debug, PartialEq, Eq)]
 pub struct Asked {
+    /// What it asked.
+    pub ask: Ask,
     /// The moment in which it asked.
     pub since: u64,
     /// Its part of the input in that moment.
