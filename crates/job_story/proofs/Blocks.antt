@@ -8,6 +8,7 @@ use Rattle.exceptions.specs.Held.{exc_of}
 use Rattle.cancel_scopes.specs.Sight.{Tick, catches}
 use Rattle.job_tree.specs.Tree.{Steps}
 use Rattle.job_meaning.specs.Log.{Table}
+use Rattle.job_meaning.specs.Tables.{Tables}
 use Rattle.job_meaning.specs.Moments.{tick_of, Now}
 use Rattle.job_meaning.specs.declared.clock.Clock.{Clock}
 use Rattle.job_meaning.specs.Walk.{Kind, Levels, Stack, Left, from_for, stack_for, left_with, exc_after}
@@ -114,7 +115,7 @@ tells_child me l home scene begins tale here a b c d stretch w first h last own 
     }
 
 -- the same steps, walked where the input is the same
-pub tells_in : (me : Label) (a : List held.Event) (b : Progress) (w : Stretch) (k : Table) (ss : Steps) (clock : Clock) (x y : List ℕ)
+pub tells_in : (me : Label) (a : List held.Event) (b : Progress) (w : Stretch) (k : Tables) (ss : Steps) (clock : Clock) (x y : List ℕ)
     (p : Range) (l : Label) (in_cleanup : Bool) (st : Stack) (now : Now) → x ≡ y →
     Tells me a w b (tell k ss
     (record { here = record { clock = clock; input = x; part = p; task = l; path = l.indices }; in_cleanup = in_cleanup }) st now) →
@@ -131,7 +132,7 @@ scene_on clock l in_cleanup x p path =
     record { here = record { clock = clock; input = x; part = p; task = l; path = path }; in_cleanup = in_cleanup }
 
 -- the same steps on an equal part of an equal buffer, with an equal path
-pub tells_on : (me : Label) (a : List held.Event) (b : Progress) (w : Stretch) (k : Table) (ss : Steps) (clock : Clock) (l : Label)
+pub tells_on : (me : Label) (a : List held.Event) (b : Progress) (w : Stretch) (k : Tables) (ss : Steps) (clock : Clock) (l : Label)
     (in_cleanup : Bool) (st : Stack) (now : Now) (x y : List ℕ) (p q : Range) (is js : List ℕ) → x ≡ y → p ≡ q → is ≡ js →
     Tells me a w b (tell k ss (scene_on clock l in_cleanup x p is) st now) →
     Tells me a w b (tell k ss (scene_on clock l in_cleanup y q js) st now)
@@ -141,7 +142,7 @@ tells_on me a b w k ss clock l in_cleanup st now x y p q is js e f g h =
     (subst (λ (path : List ℕ). Tells me a w b (tell k ss (scene_on clock l in_cleanup x p path) st now)) g h))
 
 -- equal steps, walked from an equal moment
-pub tells_at : (me : Label) (a : List held.Event) (b : Progress) (w : Stretch) (k : Table) (ss body : Steps) (scene : Scene) (st : Stack)
+pub tells_at : (me : Label) (a : List held.Event) (b : Progress) (w : Stretch) (k : Tables) (ss body : Steps) (scene : Scene) (st : Stack)
     (u v : Now) →
     ss ≡ body → u ≡ v →
     Tells me a w b (tell k ss scene st u) → Tells me a w b (tell k body scene st v)
