@@ -7,6 +7,7 @@ use Rattle.exceptions.specs.Exceptions.{Label, Exc}
 use Rattle.exceptions.specs.Held.{exc_of}
 use Rattle.cancel_scopes.specs.Sight.{Tick, catches}
 use Rattle.job_tree.specs.Tree.{Steps}
+use Rattle.job_tree.specs.declared.object.ObjectKind.{ObjectKind}
 use Rattle.job_meaning.specs.Log.{Table}
 use Rattle.job_meaning.specs.Tables.{Tables}
 use Rattle.job_meaning.specs.Moments.{tick_of, Now}
@@ -14,8 +15,8 @@ use Rattle.job_meaning.specs.declared.clock.Clock.{Clock}
 use Rattle.job_meaning.specs.Walk.{Kind, Levels, Stack, Left, from_for, stack_for, left_with, exc_after}
 use Rattle.job_story.specs.Events.{event, starts, ends}
 use Rattle.job_story.specs.Held.{event_of}
-use Rattle.job_story.specs.Story.{Tale, enters, enters_event, leaves, waits}
-use Rattle.job_story.specs.Tell.{Scene, story_of_one, tell, tell_block, tell_event, tell_left, tell_wait, tell_gathered, tell_child}
+use Rattle.job_story.specs.Story.{Tale, enters, enters_event, enters_object, leaves, waits}
+use Rattle.job_story.specs.Tell.{Scene, story_of_one, tell, tell_block, tell_event, tell_object, tell_left, tell_wait, tell_gathered, tell_child}
 use Rattle.job_story.specs.declared.event.Event as held
 use Rattle.job_story.specs.declared.progress.Progress.{Progress}
 use Rattle.job_story.specs.declared.stretch.Stretch.{Stretch}
@@ -91,6 +92,19 @@ unfolding tell_event
 tells_event me a b d table label m inside w h k =
     record {
       stretch = stretch_like w (inside (table label)) (tell_event table label m inside) k.stretch refl refl refl;
+      events = adds_then me a b d.events.items _ (inside (table label)).story h k.events;
+      own = k.own;
+    }
+
+-- a limiter or channel is entered, and its inside walked
+pub tells_object : (me : Label) (a b : List held.Event) (d : Progress) (table : Table) (kind : ObjectKind) (label : Label) (m : ℕ)
+    (inside : Tick → Tale) (w : Stretch) →
+    Adds me a b (story_of_one m (enters_object kind label)) → Tells me b w d (inside (table label)) →
+    Tells me a w d (tell_object table kind label m inside)
+unfolding tell_object
+tells_object me a b d table kind label m inside w h k =
+    record {
+      stretch = stretch_like w (inside (table label)) (tell_object table kind label m inside) k.stretch refl refl refl;
       events = adds_then me a b d.events.items _ (inside (table label)).story h k.events;
       own = k.own;
     }

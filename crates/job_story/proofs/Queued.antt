@@ -3,6 +3,7 @@ use Rattle.std.proofs.Common.{◌≡◌, ℕ, suc, ◌+◌, ◌*◌, ◌<◌, �
 use Rattle.std.specs.Prelude.{codes}
 use Rattle.std.proofs.lemmas.Bool.Decides.{nat_tests}
 use Rattle.job_tree.specs.declared.object.Ask.{Ask}
+use Rattle.job_tree.specs.declared.object.Ask.TheVariants.{Acquire}
 use Rattle.exceptions.specs.Exceptions.{Label, cancelled, raised}
 use Rattle.cancel_scopes.specs.Sight.{Tick, sight, seen, is_reached}
 use Rattle.job_meaning.specs.Moments.{tick_of, Now, only_at, gives_up_at}
@@ -11,8 +12,8 @@ use Rattle.job_meaning.specs.Tables.{Tables}
 use Rattle.job_meaning.specs.declared.clock.Clock.{Clock}
 use Rattle.job_meaning.specs.declared.clock.Clock.TheVariants.{ByTicks as by_ticks, ByRounds as by_rounds}
 use Rattle.job_meaning.specs.Walk.{Levels, Here, stack_for, last_grant, leaves_queue, in_time}
-use Rattle.job_story.specs.Story.{in_queue, is_cancelled, queues, deadlocks, Story, Tale, no_more, then_story, Asked}
-use Rattle.job_story.specs.Tell.{Scene, ended_at, failed_at, story_of_one, seer, tell_left_queue, tell_granted, queues_if, asked_if, tell_leaving, tell_got, tell_asked, tell_asks, tell_unasked, tell_ask}
+use Rattle.job_story.specs.Story.{in_queue, is_cancelled, queues, gets, deadlocks, gives_token_back, Story, Tale, no_more, then_story, Asked}
+use Rattle.job_story.specs.Tell.{Scene, ended_at, failed_at, story_of_one, after_this, seer, with_token_told, tell_left_queue, tell_granted, queues_if, asked_if, tell_leaving, tell_got, tell_asked, tell_asks, tell_unasked, tell_ask}
 use Rattle.job_story.specs.Rooms.{base, reach, span}
 use Rattle.job_story.specs.declared.event.Event as held
 use Rattle.job_story.specs.declared.progress.Progress.{Progress}
@@ -82,6 +83,17 @@ pub got_told : (me : Label) (before mid : List held.Event) (after : Progress) (w
 got_told me before mid after w ask label here m g asked go h is k =
     told_before me before mid after w (queues_if (nat_le g.at (suc m)) ask label here.part m) _ h
     (subst (λ (o : Option Asked). Tells me mid w after (tell_granted label here g.at g.what o go)) is k)
+
+-- a token is granted, and comes back where the block of the step ends
+pub with_token : (me : Label) (before begun : List held.Event) (mid after : Progress) (w : Stretch) (m : ℕ) (label : Label)
+    (asked : Option Asked) (a : Tale) (t : ℕ) → Adds me before begun (story_of_one m (gets Acquire label asked)) → Tells me begun w mid a →
+    t ≡ w.end → Adds me mid.events.items after.events.items (story_of_one t (gives_token_back label)) → own_of after ≡ own_of mid →
+    Tells me before w after (after_this m (gets Acquire label asked) (with_token_told label a))
+unfolding with_token_told
+with_token me before begun mid after w m label asked a t h body is back own =
+    told_before me before begun after w (story_of_one m (gets Acquire label asked)) _ h
+    (told_after me begun mid after w (story_of_one a.end (gives_token_back label)) a body
+    (subst (λ (u : ℕ). Adds me mid.events.items after.events.items (story_of_one u (gives_token_back label))) (is ∙ body.stretch.end) back) own)
 
 -- ---- the step
 

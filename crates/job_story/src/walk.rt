@@ -313,7 +313,7 @@ fn tell_granted<'a>(
     requires room { CanWalk (size_of body.now) here granted.at }
     requires lent { IsGrantOf (input_of here) granted.grant }
     ensures { IfOk result (λ w. Tells here.entry.task.now progress.old.events.items w progress.new
-        (tell_granted object.now (here_of here.entry) granted.at (what_in granted.grant) (option_map asked_of at_once)
+        (tell_granted object.now (here_of here.entry) granted.entry.at (what_in granted.entry.grant) (option_map asked_of at_once)
         (block_of_ask body.now here.entry))) }
 {
     let at = granted.at;
