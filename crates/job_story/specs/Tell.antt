@@ -160,8 +160,8 @@ tell_left_queue ask label scene levels m left =
     if is_reached (sight levels) left
     then failed_at cancelled (only_at left) (story_of_one left (is_cancelled (seer levels left) (in_queue ask label m) scene.in_cleanup))
     else
-      failed_at (raised (codes "Deadlock") scene.here.task (tick_of scene.here.clock left)) (only_at left)
-      (story_of_one left (deadlocks ask label))
+    failed_at (raised (codes "Deadlock") scene.here.task (tick_of scene.here.clock left)) (only_at left)
+    (story_of_one left (deadlocks ask label))
 
 -- what a task does with what it is granted in moment g
 abbrev pub tell_granted : Label → Here → (g : ℕ) → What → Option Asked → (Here → Now → Tale) → Tale

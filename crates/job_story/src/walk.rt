@@ -349,7 +349,14 @@ fn tell_with_token<'a>(
     ensures { IfOk result (λ w. Tells here.entry.task.now progress.old.events.items w progress.new
         (tell_granted object.now (here_of here.entry) moment a_token (option_map asked_of at_once) (block_of_ask body.now here.entry))) }
 {
-    note_got(here, Ask::Acquire, object, at_once, moment, &mut progress.events)?;
+    note_got(
+        here,
+        Ask::Acquire,
+        object,
+        at_once,
+        moment,
+        &mut progress.events,
+    )?;
     let stretch = tell_steps(body.as_slice(), here, moment, progress)?;
     note_token_back(here, object, stretch.end(), &mut progress.events)?;
     Ok(stretch)
@@ -372,7 +379,14 @@ fn tell_sent<'a>(
     ensures { IfOk result (λ w. Tells here.entry.task.now progress.old.events.items w progress.new
         (tell_granted object.now (here_of here.entry) moment was_sent (option_map asked_of at_once) (block_of_ask body.now here.entry))) }
 {
-    note_got(here, Ask::Send, object, at_once, moment, &mut progress.events)?;
+    note_got(
+        here,
+        Ask::Send,
+        object,
+        at_once,
+        moment,
+        &mut progress.events,
+    )?;
     let stretch = tell_steps(body.as_slice(), here, moment, progress)?;
     Ok(stretch)
 }
@@ -397,7 +411,14 @@ fn tell_received<'a>(
         (tell_granted object.now (here_of here.entry) moment (a_part (range_of part.entry)) (option_map asked_of at_once)
         (block_of_ask body.now here.entry))) }
 {
-    note_got(here, Ask::Receive, object, at_once, moment, &mut progress.events)?;
+    note_got(
+        here,
+        Ask::Receive,
+        object,
+        at_once,
+        moment,
+        &mut progress.events,
+    )?;
     let inside = Here { part, ..here };
     let stretch = tell_steps(body.as_slice(), inside, moment, progress)?;
     Ok(stretch)

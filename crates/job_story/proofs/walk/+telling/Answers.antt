@@ -420,10 +420,10 @@ tell_ask-tell_got-requires t c =
           when.0,
           (
             record {
-                room = room_left here.clock (sight (scopes_of here)) m g.at (size_of c.args.body.now) when.1 c.requires.room.room;
-                small = c.requires.room.small;
-                lent = c.requires.room.lent;
-              },
+              room = room_left here.clock (sight (scopes_of here)) m g.at (size_of c.args.body.now) when.1 c.requires.room.room;
+              small = c.requires.room.small;
+              lent = c.requires.room.lent;
+            },
             c.in_ok-granted.ensures.lent g c.in-Some-2.is,
           ),
         ),
