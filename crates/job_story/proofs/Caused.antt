@@ -20,7 +20,7 @@ use Rattle.job_story.specs.Tell.{is_from, tale_by, story_by}
 use Rattle.job_story.specs.Events.{What, happens, ends, Event, event, events_of}
 use Rattle.job_story.specs.Causes.{Cause, by_deadline, by_task, by_set, Entering, entering_by, entering_of, is_label, cause_by, cause_if, cause_in, or_later, signed_by, cause_by_entering, cause_from, cause_of}
 use Rattle.job_story.specs.Sentences.{job_events}
-use Rattle.job_story.specs.Blame.{IsBlamed, IsBlamedFor, IsBlamedIn, AllBlamed, open_after}
+use Rattle.job_story.specs.Blame.{IsBlamedFor, IsBlamedIn, AllBlamed, open_after}
 use Rattle.job_story.specs.Shown.{IsIn, IsEntered, IsCaused, HasACauseFor, HasACause}
 use Rattle.job_story.specs.LawsOfCauses.{CancelledFromHasCauses, CancellationsHaveCauses}
 use Rattle.job_story.proofs.Erasing.{telling_is_following}

@@ -6,12 +6,12 @@ use Rattle.job_tree.specs.Tree.{Step, sleep, checkpoint, forever, pace, find, he
 use Rattle.job_tree.specs.declared.object.Ask.{Ask}
 use Rattle.job_tree.specs.declared.object.ObjectKind.{ObjectKind}
 use Rattle.job_tree.specs.declared.object.Ask.TheVariants.{Acquire, Send, Receive}
-use Rattle.input_lines.specs.Lines.{Range, Span}
+use Rattle.input_lines.specs.Lines.{Span}
 use Rattle.input_lines.specs.Cuts.{cut_of}
 use Rattle.exceptions.specs.Exceptions.{Label, Exc, cancelled, raised}
 use Rattle.exceptions.specs.Split.{Wanted, named, keep, drop}
 use Rattle.cancel_scopes.specs.Sight.{Tick, Level, sight, seen, is_reached, catches}
-use Rattle.job_meaning.specs.Log.{waited, was_granted, opens, asks, gives_back, Log, nil, entry, entered, act, task, followed_by, Result, Table}
+use Rattle.job_meaning.specs.Log.{waited, was_granted, opens, asks, Log, nil, entry, entered, task, followed_by, Result}
 use Rattle.job_meaning.specs.Sharing.{What, a_token, was_sent, a_part, closed_resource, end_of_channel, Granted}
 use Rattle.job_meaning.specs.Tables.{Tables, by_tables}
 use Rattle.job_meaning.specs.Follow.{follow}
@@ -24,8 +24,8 @@ use Rattle.job_meaning.proofs.MomentLemmas.{round_after}
 use Rattle.job_meaning.proofs.Finish.{followed_assoc}
 use Rattle.job_meaning.proofs.Clips.{followed_nil}
 use Rattle.job_meaning.proofs.Settled.{settled_is_meaning}
-use Rattle.job_story.specs.Story.{at_checkpoint, waiting_for, in_queue, Asked, Happening, enters, enters_event, sleeps, is_cancelled, finds, misses, raises, cancels, sets, awaits, was_set, enters_object, queues, gets, finds_closed, deadlocks, gives_token_back, closes_channel, handles, cleans, replaces, waits, leaves, Story, no_more, happened, started, then_story, erased_ask, erased_close, erased_one, erased_log, Tale, result_of}
-use Rattle.job_story.specs.Tell.{Scene, ended_at, now_of, story_of_one, and_tale, tale_if, then_tale, failed_at, after_this, seer, asleep_for, during_sleep, tell_slept, tell_sleep, tell_pace, tell_waiting, with_set_if, tell_event_wait, tell_lines, tell_need, tell_raise, tell_cancel, tell_set, tell_left, tell_block, tell_event, tell_object, tell_close, with_token_told, tell_left_queue, tell_granted, queues_if, asked_if, tell_leaving, tell_got, tell_asked, tell_asks, tell_unasked, tell_ask, tell_wait, tell_gathered, tell_child, tell_each, tell_passes, handled_if, handled_exc, tell_handled, replacement, cleaned_by, tell_cleaned, at_place, tell, tell_step, tell_handler, tell_cleanup, root_scene, tale_by}
+use Rattle.job_story.specs.Story.{at_checkpoint, waiting_for, in_queue, Asked, Happening, enters, enters_event, sleeps, is_cancelled, finds, misses, raises, cancels, sets, awaits, was_set, enters_object, queues, gets, finds_closed, deadlocks, gives_token_back, closes_channel, handles, cleans, replaces, waits, leaves, Story, no_more, happened, started, then_story, erased_ask, erased_one, erased_log, Tale, result_of}
+use Rattle.job_story.specs.Tell.{Scene, ended_at, now_of, story_of_one, and_tale, tale_if, then_tale, failed_at, after_this, seer, asleep_for, during_sleep, tell_slept, tell_sleep, tell_pace, tell_waiting, with_set_if, tell_event_wait, tell_lines, tell_need, tell_raise, tell_cancel, tell_set, tell_left, tell_block, tell_event, tell_object, tell_close, with_token_told, tell_left_queue, tell_granted, queues_if, asked_if, tell_got, tell_asked, tell_asks, tell_unasked, tell_ask, tell_wait, tell_gathered, tell_child, tell_each, tell_passes, handled_if, handled_exc, tell_handled, replacement, cleaned_by, tell_cleaned, at_place, tell, tell_step, tell_handler, tell_cleanup, root_scene, tale_by}
 use Rattle.job_story.specs.Laws.{TellingIsFollowing, StoriesAreTrue}
 
 -- ---- stories, one after another

@@ -5,7 +5,6 @@ use Rattle.std.proofs.lemmas.Bool.Decides.{nat_tests}
 use Rattle.std.specs.Prelude.{is_some, nat_le, if◌then◌else◌}
 use Rattle.job_tree.specs.Tree.{Tree}
 use Rattle.job_tree.specs.declared.object.Ask.{Ask}
-use Rattle.input_lines.specs.Lines.{Range}
 use Rattle.job_meaning.specs.Tables.{Tables}
 use Rattle.exceptions.specs.Exceptions.{Label}
 use Rattle.cancel_scopes.specs.Sight.{Tick, sight}

@@ -1,5 +1,5 @@
 -- What is asked of limiters and channels, as tales.
-use Rattle.std.proofs.Common.{◌≡◌, ℕ, suc, ◌+◌, ◌*◌, ◌<◌, ◌≤◌, max, true≢false, Bool, true, false, ◌&&◌, Option, Some, None, List, [], refl, ap, sym, subst, ◌∙◌, nat_le, nat_lt, if◌then◌else◌, arith, suc-mul}
+use Rattle.std.proofs.Common.{◌≡◌, ℕ, suc, ◌+◌, ◌*◌, ◌<◌, ◌≤◌, max, Bool, true, false, ◌&&◌, Option, Some, None, List, [], refl, ap, sym, subst, ◌∙◌, nat_le, nat_lt, if◌then◌else◌, arith, suc-mul}
 use Rattle.std.specs.Prelude.{codes}
 use Rattle.std.proofs.lemmas.Bool.Decides.{nat_tests}
 use Rattle.job_tree.specs.declared.object.Ask.{Ask}
@@ -13,7 +13,7 @@ use Rattle.job_meaning.specs.declared.clock.Clock.{Clock}
 use Rattle.job_meaning.specs.declared.clock.Clock.TheVariants.{ByTicks as by_ticks, ByRounds as by_rounds}
 use Rattle.job_meaning.specs.Walk.{Levels, Here, stack_for, last_grant, leaves_queue, in_time}
 use Rattle.job_story.specs.Story.{in_queue, is_cancelled, queues, gets, deadlocks, gives_token_back, Story, Tale, no_more, then_story, Asked}
-use Rattle.job_story.specs.Tell.{Scene, ended_at, failed_at, story_of_one, after_this, seer, with_token_told, tell_left_queue, tell_granted, queues_if, asked_if, tell_leaving, tell_got, tell_asked, tell_asks, tell_unasked, tell_ask}
+use Rattle.job_story.specs.Tell.{Scene, ended_at, failed_at, story_of_one, after_this, seer, with_token_told, tell_granted, queues_if, asked_if, tell_leaving, tell_got, tell_asked, tell_asks, tell_unasked, tell_ask}
 use Rattle.job_story.specs.Rooms.{base, reach, span}
 use Rattle.job_story.specs.declared.event.Event as held
 use Rattle.job_story.specs.declared.progress.Progress.{Progress}

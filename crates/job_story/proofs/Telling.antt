@@ -21,7 +21,7 @@ use Rattle.job_meaning.specs.Walk.{Levels, Stack, Here, Kind, home_of, set_momen
 use Rattle.job_meaning.proofs.Late.{latest_ends, unseen_for}
 use Rattle.job_meaning.proofs.MomentLemmas.{round_after, wakes_after, gives_up_after, last_grant_later}
 use Rattle.job_story.specs.Story.{at_checkpoint, sleeping, waiting_for, in_queue, before_asking, Asked, Happening, enters, enters_event, sleeps, is_cancelled, finds, misses, raises, cancels, sets, awaits, was_set, enters_object, queues, gets, finds_closed, deadlocks, gives_token_back, closes_channel, handles, cleans, replaces, waits, leaves, Story, no_more, happened, started, then_story, Tale}
-use Rattle.job_story.specs.Tell.{Scene, ended_at, now_of, story_of_one, tale_if, then_tale, failed_at, seer, tell_slept, tell_sleep, tell_pace, tell_waiting, with_set_if, tell_event_wait, tell_lines, tell_need, tell_raise, tell_cancel, tell_set, tell_block, tell_event, tell_object, tell_close, with_token_told, blamed_at, tell_left_queue, tell_granted, queues_if, asked_if, tell_leaving, tell_got, tell_asked, tell_asks, tell_unasked, tell_ask, tell_wait, tell_gathered, tell_child, tell_each, tell_passes, handled_if, handled_exc, tell_handled, replacement, tell_cleaned, at_place, tell, tell_step, tell_handler, tell_cleanup}
+use Rattle.job_story.specs.Tell.{Scene, ended_at, now_of, story_of_one, tale_if, then_tale, failed_at, seer, tell_slept, tell_sleep, tell_pace, tell_waiting, with_set_if, tell_event_wait, tell_lines, tell_need, tell_raise, tell_cancel, tell_set, tell_block, tell_event, tell_object, tell_close, with_token_told, blamed_at, tell_granted, queues_if, asked_if, tell_leaving, tell_got, tell_asked, tell_asks, tell_unasked, tell_ask, tell_wait, tell_gathered, tell_child, tell_each, tell_passes, handled_if, handled_exc, tell_handled, replacement, tell_cleaned, at_place, tell, tell_step, tell_handler, tell_cleanup}
 use Rattle.job_story.specs.Blame.{levels_inside}
 use Rattle.job_story.specs.Waking.{until_tick, IsSetBy}
 

@@ -1,4 +1,4 @@
-use Rattle.std.proofs.Common.{ap, refl, subst}
+use Rattle.std.proofs.Common.{ap, subst}
 use Rattle.std.specs.Option.{option_map}
 use Rattle.exceptions.specs.Exceptions.{Label, raised}
 use Rattle.job_meaning.specs.Clocks.{tick_of}

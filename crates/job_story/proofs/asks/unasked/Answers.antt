@@ -1,4 +1,4 @@
-use Rattle.std.proofs.Common.{ℕ, Option, ap, refl, subst, ◌∙◌}
+use Rattle.std.proofs.Common.{ℕ, Option, ap, subst, ◌∙◌}
 use Rattle.exceptions.specs.Exceptions.{Label}
 use Rattle.job_story.specs.Story.{before_asking, is_cancelled}
 use Rattle.job_story.specs.Tell.{story_of_one, tell_unasked}
