@@ -5,7 +5,7 @@ use Rattle.serde_json.specs.Data.{Data}
 use Rattle.serde_json.specs.View.{items_of}
 use Rattle.serde_json.specs.Written.{has_float, items_have_float}
 use Rattle.exceptions.specs.Exceptions.{Whose, by_nursery, by_handler, Exc, cancelled, raised, too_slow, group, Excs, no_parts, part}
-use Rattle.job_meaning.specs.Shown.{Shown, line_shown, scope_shown, nursery_shown, wait_shown, Ending, well, by_cancellation, with_exception}
+use Rattle.job_meaning.specs.Shown.{Shown, line_shown, scope_shown, nursery_shown, wait_shown, grant_shown, Ending, well, by_cancellation, with_exception}
 use Rattle.json_story.specs.Values.{whose_json, exc_json, parts_json, entry_json, exception_json}
 
 whose_without_float : (whose : Whose) → has_float (whose_json whose) ≡ false
@@ -28,6 +28,7 @@ entry_without_float (line_shown at text) = refl
 entry_without_float (scope_shown label tick caught) = refl
 entry_without_float (nursery_shown label tick caught) = refl
 entry_without_float (wait_shown label tick) = refl
+entry_without_float (grant_shown ask label tick) = refl
 
 exception_without_float : (e : Ending) → has_float (exception_json e) ≡ false
 exception_without_float well = refl

@@ -99,12 +99,12 @@ happening_word (sets label) = codes "sets"
 happening_word (awaits event) = codes "waits_for_event"
 happening_word (was_set event) = codes "goes_on"
 happening_word (enters_object kind label) = object_word kind
-happening_word (queues ask object part left) = codes "queues"
-happening_word (gets ask object at_once) = codes "is_granted"
-happening_word (finds_closed ask object at_once) = codes "finds_closed"
-happening_word (deadlocks ask object) = codes "deadlocks"
-happening_word (gives_token_back object) = codes "gives_token_back"
-happening_word (closes_channel object) = codes "closes"
+happening_word (queues ask label part left) = codes "queues"
+happening_word (gets ask label at_once) = codes "is_granted"
+happening_word (finds_closed ask label at_once) = codes "finds_closed"
+happening_word (deadlocks ask label) = codes "deadlocks"
+happening_word (gives_token_back label) = codes "gives_token_back"
+happening_word (closes_channel label) = codes "closes"
 happening_word (handles matched rest) = codes "handles"
 happening_word (cleans exc) = codes "cleanup"
 happening_word (replaces lost fresh) = codes "replaces"
@@ -127,9 +127,9 @@ with_during clock at_checkpoint ms = put (codes "since") null ms
 with_during clock (sleeping since) ms = put (codes "since") (integer (tick_of clock since)) ms
 with_during clock (waiting_for event since) ms =
     put (codes "waiting_for") (label_json event) (put (codes "since") (integer (tick_of clock since)) ms)
-with_during clock (in_queue ask object since) ms =
-    with_ask ask (codes "waiting_for") object (put (codes "since") (integer (tick_of clock since)) ms)
-with_during clock (before_asking ask object) ms = with_ask ask (codes "before_asking") object (put (codes "since") null ms)
+with_during clock (in_queue ask label since) ms =
+    with_ask ask (codes "waiting_for") label (put (codes "since") (integer (tick_of clock since)) ms)
+with_during clock (before_asking ask label) ms = with_ask ask (codes "before_asking") label (put (codes "since") null ms)
 
 -- the data of what happens in a moment, added to the members that are there
 abbrev pub with_happening : Clock → Table → List Event → ℕ → Happening → Members → Members
@@ -150,14 +150,14 @@ with_happening clock table es t (sets label) ms =
 with_happening clock table es t (awaits event) ms = put (codes "label") (label_json event) ms
 with_happening clock table es t (was_set event) ms = put (codes "label") (label_json event) ms
 with_happening clock table es t (enters_object kind label) ms = put (codes "label") (label_json label) (with_size kind ms)
-with_happening clock table es t (queues ask object part left) ms = with_ask ask (codes "label") object ms
-with_happening clock table es t (gets ask object at_once) ms =
-    put (codes "at_once") (boolean (is_some at_once)) (with_ask ask (codes "label") object ms)
-with_happening clock table es t (finds_closed ask object at_once) ms =
-    put (codes "at_once") (boolean (is_some at_once)) (with_ask ask (codes "label") object ms)
-with_happening clock table es t (deadlocks ask object) ms = with_ask ask (codes "label") object ms
-with_happening clock table es t (gives_token_back object) ms = put (codes "label") (label_json object) ms
-with_happening clock table es t (closes_channel object) ms = put (codes "label") (label_or_null object) ms
+with_happening clock table es t (queues ask label part left) ms = with_ask ask (codes "label") label ms
+with_happening clock table es t (gets ask label at_once) ms =
+    put (codes "at_once") (boolean (is_some at_once)) (with_ask ask (codes "label") label ms)
+with_happening clock table es t (finds_closed ask label at_once) ms =
+    put (codes "at_once") (boolean (is_some at_once)) (with_ask ask (codes "label") label ms)
+with_happening clock table es t (deadlocks ask label) ms = with_ask ask (codes "label") label ms
+with_happening clock table es t (gives_token_back label) ms = put (codes "label") (label_json label) ms
+with_happening clock table es t (closes_channel label) ms = put (codes "label") (label_or_null label) ms
 with_happening clock table es t (handles matched rest) ms =
     put (codes "rest") (exc_or_null rest) (put (codes "matched") (exc_json matched) ms)
 with_happening clock table es t (cleans exc) ms = put (codes "exception") (exc_or_null exc) ms

@@ -25,8 +25,8 @@ with_doing clock t (happens (waits nursery exc)) ms =
 with_doing clock t (happens (awaits event)) ms =
     put (codes "event") (label_json event) (put (codes "since") (integer (tick_of clock t))
     (put (codes "doing") (word (codes "waiting")) ms))
-with_doing clock t (happens (queues ask object part left)) ms =
-    with_ask ask (codes "object") object (put (codes "since") (integer (tick_of clock t)) (put (codes "doing") (word (codes "waiting")) ms))
+with_doing clock t (happens (queues ask label part left)) ms =
+    with_ask ask (codes "object") label (put (codes "since") (integer (tick_of clock t)) (put (codes "doing") (word (codes "waiting")) ms))
 with_doing clock t _ ms = with_idle ms
 
 abbrev pub with_last : Clock → Option Event → Members → Members
