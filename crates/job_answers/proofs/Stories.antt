@@ -7,9 +7,11 @@ use Rattle.std.specs.Global.{Vec}
 use Rattle.job_tree.specs.Tree.{Tree}
 use Rattle.exceptions.specs.Exceptions.{Label, Exc, cancelled, raised, too_slow, group}
 use Rattle.job_meaning.specs.Log.{Table}
+use Rattle.job_meaning.specs.Sharing.{Grants}
+use Rattle.job_meaning.specs.Tables.{meaning_tables}
 use Rattle.job_meaning.specs.Moments.{clock_of}
 use Rattle.job_meaning.specs.declared.clock.Clock.{Clock}
-use Rattle.job_meaning.specs.Meaning.{root_label, meaning, meaning_end, meaning_table}
+use Rattle.job_meaning.specs.Meaning.{root_label, meaning, meaning_end, meaning_table, meaning_grants}
 use Rattle.job_meaning.specs.Shown.{Row, ending_of, meaning_rows}
 use Rattle.job_runner.specs.Runs.{is_well}
 use Rattle.job_story.specs.Tell.{story_by}
@@ -24,7 +26,7 @@ use Rattle.job_answers.specs.declared.story_verdict.StoryVerdict.{StoryVerdict}
 use Rattle.job_answers.specs.declared.story_verdict.StoryVerdict.TheVariants as verdict
 use Rattle.job_answers.specs.declared.meaning.Ending.{Ending}
 use Rattle.job_answers.specs.declared.meaning.Ending.TheVariants.{Done, Raised, Late}
-use Rattle.job_answers.specs.Stories.{story_events, story_events_if, story_if, until_if, meaning_story, label_or_nothing, IsAbout, IsAboutNone}
+use Rattle.job_answers.specs.Stories.{story_events, story_events_if, story_if, until_if, label_or_nothing, IsAbout, IsAboutNone}
 use Rattle.job_answers.specs.Views.{IsStoryVerdict}
 use Rattle.job_answers.specs.Verdict.{text_view}
 use Rattle.job_answers.proofs.Views.{story_verdict_is}
@@ -71,20 +73,28 @@ is_ending job input limit rows ending same is =
 
 -- the events of the story as far as the limit shows them are those of the meaning's story
 events_if : (job : Tree) (input : List ℕ) (limit : ℕ) (ending : Ending) → IsEnding job input limit ending →
-    events_until (clock_of job.format) (until_of ending limit) (events_of (root_label job.name) (story_by (meaning_table job input) job input)) ≡ story_events limit job input
+    events_until (clock_of job.format) (until_of ending limit) (events_of (root_label job.name) (story_by (meaning_tables job input) job input)) ≡ story_events limit job input
 events_if job input limit Done h = ap (λ (b : Bool). story_events_if b limit job input) (sym (le_test (meaning_end job input) limit h.0))
 events_if job input limit Raised h = ap (λ (b : Bool). story_events_if b limit job input) (sym (le_test (meaning_end job input) limit h.0))
 events_if job input limit Late h = ap (λ (b : Bool). story_events_if b limit job input) (sym (gt_test (meaning_end job input) limit h))
 
-pub events_are : (job : Tree) (input : List ℕ) (limit given : ℕ) (ending : Ending) (clock : Clock) (table : Table) (until : Option ℕ) (events : List Event) →
-    IsEnding job input limit ending → clock ≡ clock_of job.format → table ≡ meaning_table job input → until ≡ until_of ending given →
-    given ≡ limit → events ≡ events_of (root_label job.name) (story_by table job input) →
+-- the story by the tables of a run is that by the tables of the meaning
+pub told_by : (job : Tree) (input : List ℕ) (table : Table) (grants : Grants) → table ≡ meaning_table job input → grants ≡ meaning_grants job input →
+    story_by (record { cancelled_from = table; granted = grants }) job input ≡ story_by (meaning_tables job input) job input
+told_by job input table grants same granted =
+    ap (λ (k : Table). story_by (record { cancelled_from = k; granted = grants }) job input) same
+    ∙ ap (λ (g : Grants). story_by (record { cancelled_from = meaning_table job input; granted = g }) job input) granted
+
+pub events_are : (job : Tree) (input : List ℕ) (limit given : ℕ) (ending : Ending) (clock : Clock) (table : Table) (grants : Grants) (until : Option ℕ)
+    (events : List Event) → IsEnding job input limit ending → clock ≡ clock_of job.format → table ≡ meaning_table job input →
+    grants ≡ meaning_grants job input → until ≡ until_of ending given → given ≡ limit →
+    events ≡ events_of (root_label job.name) (story_by (record { cancelled_from = table; granted = grants }) job input) →
     events_until clock until events ≡ story_events limit job input
-events_are job input limit given ending clock table until events h counts same cut is of_story =
+events_are job input limit given ending clock table grants until events h counts same granted cut is of_story =
     ap (λ (c : Clock). events_until c until events) counts
     ∙ ap (λ (u : Option ℕ). events_until (clock_of job.format) u events) (cut ∙ ap (until_of ending) is)
     ∙ ap (events_until (clock_of job.format) (until_of ending limit))
-    (of_story ∙ ap (λ (k : Table). events_of (root_label job.name) (story_by k job input)) same)
+    (of_story ∙ ap (events_of (root_label job.name)) (told_by job input table grants same granted))
     ∙ events_if job input limit ending h
 
 -- and they are cut off where the meaning ends later than the limit
@@ -126,7 +136,7 @@ these_run job input limit ending clock table shown lines h e counts same of_stor
     }
   where
     all : limit < meaning_end job input →
-        lines ≡ running_lines (clock_of job.format) (meaning_table job input) (walked_to (meaning_table job input) limit job input)
+        lines ≡ running_lines (clock_of job.format) (meaning_table job input) (walked_to (meaning_tables job input) limit job input)
     all k =
         is ∙ ap (λ (c : Clock). running_lines c table shown) counts
         ∙ ap (λ (t : Table). running_lines (clock_of job.format) t shown) same

@@ -10,10 +10,7 @@ use std::alloc::{AllocError, Global};
 /// Returns the table with the moment from which each scope and nursery of a run was cancelled, or each event of the job set, as
 /// `Run::into_tables` lists them. Returns `AllocError` if memory runs out.
 #[tactic(auto, using(crate::proofs::Tables::from_never))]
-pub fn table_of(
-    alloc: Global,
-    cancelled_from: Vec<ScopeFrom>,
-) -> Result<CancelledFrom, AllocError>
+pub fn table_of(alloc: Global, cancelled_from: Vec<ScopeFrom>) -> Result<CancelledFrom, AllocError>
     ensures { IfOk result (λ table. (label : tree.Label) → table_in table label ≡ set_in never (map from_of cancelled_from.items) label) }
 {
     let mut table = CancelledFrom::new(alloc);

@@ -1,24 +1,28 @@
 -- All numbers of a story are integers.
 use Rattle.std.proofs.Common.{◌≡◌, ℕ, Bool, List, [], ◌∷◌, map, refl, Ordering, Less, Equal, Greater}
-use Rattle.std.specs.Prelude.{true, false, ◌||◌, Option, Some, None, codes}
+use Rattle.std.specs.Prelude.{true, false, ◌||◌, Option, Some, None, codes, is_some}
 use Rattle.std.specs.Ordering.{nat_cmp, match_ordering}
 use Rattle.std.specs.Cmp.Lexicographic.{slice_cmp}
 use Rattle.serde_json.specs.Data.{Data, null, boolean, Members, no_members, member, put}
 use Rattle.serde_json.specs.View.{items_of}
 use Rattle.serde_json.specs.Written.{has_float, items_have_float, members_have_float}
 use Rattle.input_lines.specs.Lines.{Span}
+use Rattle.job_tree.specs.declared.object.Ask.{Ask}
+use Rattle.job_tree.specs.declared.object.ObjectKind.{ObjectKind}
+use Rattle.job_tree.specs.declared.object.ObjectKind.TheVariants.{Limiter, Channel}
 use Rattle.exceptions.specs.Exceptions.{Label, Exc}
 use Rattle.cancel_scopes.specs.Sight.{Tick}
 use Rattle.job_meaning.specs.Log.{Table}
 use Rattle.job_meaning.specs.Moments.{tick_of}
 use Rattle.job_meaning.specs.declared.clock.Clock.{Clock}
-use Rattle.job_story.specs.Story.{During, at_checkpoint, sleeping, waiting_for, Happening, enters, enters_event, sleeps, is_cancelled, finds, misses, raises, cancels, sets, awaits, was_set, handles, cleans, replaces, waits, leaves}
+use Rattle.job_story.specs.Story.{During, at_checkpoint, sleeping, waiting_for, in_queue, before_asking, Happening, enters, enters_event, sleeps, is_cancelled, finds, misses, raises, cancels, sets, awaits, was_set, enters_object, queues, gets, finds_closed, deadlocks, gives_token_back, closes_channel, handles, cleans, replaces, waits, leaves}
 use Rattle.job_story.specs.Events.{What, starts, happens, ends, Event}
 use Rattle.job_story.specs.Limit.{running_in, last_event}
 use Rattle.job_story.specs.Causes.{Cause, by_deadline, by_task, by_set, by_failure, by_cancellation, cause_of}
+use Rattle.job_report.specs.Text.{ask_word}
 use Rattle.json_story.specs.Values.{integer, word, list_of, text_json, label_json, exc_json}
 use Rattle.json_story.proofs.ReportIntegers.{exc_without_float}
-use Rattle.json_story.specs.Events.{tick_json, moment_json, label_or_null, exc_or_null, cause_json, why_json, cancel_from, failure_from, kind_key, span_json, with_during, with_happening, with_what, event_head, event_json}
+use Rattle.json_story.specs.Events.{tick_json, moment_json, label_or_null, exc_or_null, cause_json, why_json, cancel_from, failure_from, kind_key, span_json, with_ask, with_size, with_during, with_happening, with_what, event_head, event_json}
 use Rattle.json_story.specs.Running.{with_idle, with_doing, with_last, task_json}
 use Rattle.json_story.specs.Stories.{running_json}
 
@@ -93,12 +97,31 @@ spans_have_none (s ∷ ss) = spans_have_none ss
 
 -- ---- events
 
+ask_has_none : (ask : Ask) (key : List ℕ) (l : Label) (ms : Members) → members_have_float ms ≡ false →
+    members_have_float (with_ask ask key l ms) ≡ false
+ask_has_none ask key l ms hm = put_two key (codes "ask") (label_json l) (word (ask_word ask)) ms refl refl hm
+
+size_has_none : (kind : ObjectKind) (ms : Members) → members_have_float ms ≡ false → members_have_float (with_size kind ms) ≡ false
+size_has_none (Limiter tokens) ms hm = with_put (codes "tokens") (integer tokens) ms refl hm
+size_has_none (Channel places) ms hm = with_put (codes "places") (integer places) ms refl hm
+
+-- what is asked, and whether it was answered at once
+answered_has_none : (ask : Ask) (l : Label) (at_once : Bool) (ms : Members) → members_have_float ms ≡ false →
+    members_have_float (put (codes "at_once") (boolean at_once) (with_ask ask (codes "label") l ms)) ≡ false
+answered_has_none ask l at_once ms hm =
+    with_put (codes "at_once") (boolean at_once) (with_ask ask (codes "label") l ms) refl (ask_has_none ask (codes "label") l ms hm)
+
 during_has_none : (clock : Clock) (d : During) (ms : Members) → members_have_float ms ≡ false →
     members_have_float (with_during clock d ms) ≡ false
 during_has_none clock at_checkpoint ms hm = with_put (codes "since") null ms refl hm
 during_has_none clock (sleeping since) ms hm = with_put (codes "since") (integer (tick_of clock since)) ms refl hm
 during_has_none clock (waiting_for event since) ms hm =
     put_two (codes "waiting_for") (codes "since") (label_json event) (integer (tick_of clock since)) ms refl refl hm
+during_has_none clock (in_queue ask label since) ms hm =
+    ask_has_none ask (codes "waiting_for") label (put (codes "since") (integer (tick_of clock since)) ms)
+    (with_put (codes "since") (integer (tick_of clock since)) ms refl hm)
+during_has_none clock (before_asking ask label) ms hm =
+    ask_has_none ask (codes "before_asking") label (put (codes "since") null ms) (with_put (codes "since") null ms refl hm)
 
 happening_has_none : (clock : Clock) (table : Table) (es : List Event) (t : ℕ) (h : Happening) (ms : Members) →
     members_have_float ms ≡ false →
@@ -127,6 +150,15 @@ happening_has_none clock table es t (sets label) ms hm =
     (moment_has_none clock (cancel_from table label t)) (label_has_none label) hm
 happening_has_none clock table es t (awaits event) ms hm = with_put (codes "label") (label_json event) ms refl hm
 happening_has_none clock table es t (was_set event) ms hm = with_put (codes "label") (label_json event) ms refl hm
+happening_has_none clock table es t (enters_object kind label) ms hm =
+    with_put (codes "label") (label_json label) (with_size kind ms) refl (size_has_none kind ms hm)
+happening_has_none clock table es t (queues ask label part left) ms hm = ask_has_none ask (codes "label") label ms hm
+happening_has_none clock table es t (gets ask label at_once) ms hm = answered_has_none ask label (is_some at_once) ms hm
+happening_has_none clock table es t (finds_closed ask label at_once) ms hm = answered_has_none ask label (is_some at_once) ms hm
+happening_has_none clock table es t (deadlocks ask label) ms hm = ask_has_none ask (codes "label") label ms hm
+happening_has_none clock table es t (gives_token_back label) ms hm = with_put (codes "label") (label_json label) ms refl hm
+happening_has_none clock table es t (closes_channel label) ms hm =
+    with_put (codes "label") (label_or_null label) ms (label_has_none label) hm
 happening_has_none clock table es t (handles matched rest) ms hm =
     put_two (codes "rest") (codes "matched") (exc_or_null rest) (exc_json matched) ms (exc_has_none rest) (exc_without_float matched) hm
 happening_has_none clock table es t (cleans exc) ms hm = with_put (codes "exception") (exc_or_null exc) ms (exc_has_none exc) hm
@@ -172,6 +204,15 @@ doing_in_has_none clock t (awaits event) ms hm =
     put_three (codes "event") (codes "since") (codes "doing") (label_json event) (integer (tick_of clock t)) (word (codes "waiting")) ms
     refl refl refl hm
 doing_in_has_none clock t (was_set event) ms hm = idle_has_none ms hm
+doing_in_has_none clock t (enters_object kind label) ms hm = idle_has_none ms hm
+doing_in_has_none clock t (queues ask label part left) ms hm =
+    ask_has_none ask (codes "object") label (put (codes "since") (integer (tick_of clock t)) (put (codes "doing") (word (codes "waiting")) ms))
+    (put_two (codes "since") (codes "doing") (integer (tick_of clock t)) (word (codes "waiting")) ms refl refl hm)
+doing_in_has_none clock t (gets ask label at_once) ms hm = idle_has_none ms hm
+doing_in_has_none clock t (finds_closed ask label at_once) ms hm = idle_has_none ms hm
+doing_in_has_none clock t (deadlocks ask label) ms hm = idle_has_none ms hm
+doing_in_has_none clock t (gives_token_back label) ms hm = idle_has_none ms hm
+doing_in_has_none clock t (closes_channel label) ms hm = idle_has_none ms hm
 doing_in_has_none clock t (handles matched rest) ms hm = idle_has_none ms hm
 doing_in_has_none clock t (cleans exc) ms hm = idle_has_none ms hm
 doing_in_has_none clock t (replaces lost fresh) ms hm = idle_has_none ms hm

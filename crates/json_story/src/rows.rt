@@ -130,12 +130,7 @@ fn push_granted(
 }
 
 // Returns what a task was granted as a JSON object.
-fn granted_value(
-    alloc: Global,
-    ask: Ask,
-    label: &Label,
-    tick: u64,
-) -> Result<Value, AllocError>
+fn granted_value(alloc: Global, ask: Ask, label: &Label, tick: u64) -> Result<Value, AllocError>
     ensures { IfOk result (λ value. view value ≡ entry_json (grant_shown ask label.now tick)) }
 {
     let object = label_value(alloc, label)?;

@@ -1,7 +1,9 @@
 use Rattle.std.proofs.Common.{map, ap, ◌∙◌}
 use Rattle.job_story.specs.CancelledFrom.{table_in}
 use Rattle.job_meaning.specs.Clocks.{clock_of}
-use Rattle.job_runner.specs.Runs.{rows_of, scopes_cancelled_from_of}
+use Rattle.job_meaning.specs.GrantTable.{grants_made}
+use Rattle.job_runner.specs.Runs.{rows_of}
+use Rattle.task_machine.specs.Noted.{from_of}
 use Rattle.task_table.specs.Records.{row_in}
 use Rattle.job_answers.proofs.Tables.{is_of_meaning}
 use Rattle.outcomes.specs.JobOutcomes.{cancelled_in}
@@ -12,8 +14,10 @@ pub returns : goal.returns
 returns g c =
     let run = c.in_ok-run.run' in
     let table = table_in c.in_ok-table.table in
-    is_summary c.args.job.now c.args.input.now (rows_of run) table _ c.in_ok-run.ensures.records
+    let into = c.into_tables-cancelled_from in
+    is_summary c.args.job.now c.args.input.now (rows_of run) table (grants_made into.result.1) _ c.in_ok-run.ensures.records
     (c.of-clock.ensures ∙ ap clock_of c.text_format.ensures) c.end-end.ensures c.in_ok-exc.ensures
     (c.in_ok-cancelled.ensures ∙ ap (λ rs. cancelled_in (map row_in rs)) c.records.ensures)
-    (is_of_meaning table (scopes_cancelled_from_of run) c.args.job.now c.args.input.now c.law_cancelled_from_of_meaning.ensures c.in_ok-run.ensures.cancelled_from
-    c.in_ok-table.ensures) c.in_ok-events.ensures
+    (is_of_meaning table (map from_of into.result.0.items) c.args.job.now c.args.input.now c.law_cancelled_from_of_meaning.ensures
+    (ap (map from_of) into.ensures.cancelled_from ∙ c.in_ok-run.ensures.cancelled_from) c.in_ok-table.ensures)
+    (ap grants_made into.ensures.grants ∙ c.in_ok-run.ensures.granted) c.in_ok-events.ensures
