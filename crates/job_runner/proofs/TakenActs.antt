@@ -1,13 +1,11 @@
 -- What a task did to limiters and channels is taken from the world, one act after the other.
-use Rattle.std.proofs.Common.{◌≡◌, ℕ, suc, ◌<◌, List, [], ◌∷◌, ◌++◌, map, length, refl, ap, sym, ◌∙◌, arith}
+use Rattle.std.proofs.Common.{◌≡◌, ℕ, List, [], ◌++◌, map, refl, ap, sym, ◌∙◌}
 use Rattle.std.specs.Prelude.{All}
-use Rattle.std.proofs.lemmas.List.{append-nil, append_assoc, map-append}
-use Rattle.std.proofs.lemmas.List.Elements.{All-push}
-use Rattle.run_refinement.specs.Sharing.{RoundAct, round_act}
+use Rattle.std.proofs.lemmas.List.{append-nil}
+use Rattle.run_refinement.specs.Sharing.{round_act}
 use Rattle.task_machine.specs.declared.serving.ObjectAct.{ObjectAct}
 use Rattle.task_machine.specs.declared.world.World.{World}
 use Rattle.job_runner.specs.declared.runner.Runner.{Runner}
-use Rattle.job_runner.specs.declared.serving.RoundAct as held
 use Rattle.job_runner.specs.Shared.{round_act_of}
 use Rattle.job_runner.specs.Shelves.{IsActOf}
 use Rattle.job_runner.specs.Steps.{TakesActs}
