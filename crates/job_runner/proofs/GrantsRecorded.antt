@@ -1,5 +1,5 @@
 -- All that is recorded of the grants of a moment is what is granted to the tasks that wait.
-use Rattle.std.proofs.Common.{◌≡◌, inl, inr, ℕ, suc, ◌<◌, Bool, true, false, ◌==◌, Option, Some, None, List, [], ◌∷◌, map, refl, ap, sym, ◌∙◌, subst, if◌then◌else◌}
+use Rattle.std.proofs.Common.{◌≡◌, inl, inr, ℕ, suc, ◌<◌, Bool, true, false, Option, Some, None, List, [], ◌∷◌, map, refl, ap, sym, ◌∙◌, subst, if◌then◌else◌}
 use Rattle.std.specs.Prelude.{All}
 use Rattle.std.specs.Option.{option_map}
 use Rattle.std.proofs.Math.Path.{fun_ext}
@@ -15,7 +15,7 @@ use Rattle.task_machine.specs.Serving.{queue_of}
 use Rattle.task_machine.specs.Worlds.{label_at}
 use Rattle.task_machine.specs.declared.stop.TaskState.{TaskState}
 use Rattle.task_machine.specs.declared.task.Task.{Task}
-use Rattle.task_table.specs.TaskTable.{running_at, task_count, task_of, IsTaskTable}
+use Rattle.task_table.specs.TaskTable.{task_count, task_of, IsTaskTable}
 use Rattle.task_table.specs.declared.task_table.Running.{Running}
 use Rattle.turn_semantics.specs.Lists.{IsAmong}
 use Rattle.job_runner.specs.declared.runner.Runner.{Runner}

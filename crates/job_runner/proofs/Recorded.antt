@@ -1,8 +1,8 @@
 -- What is recorded of grants, one after the other: at each place that of the last task that waits there.
 use Rattle.std.proofs.Common.{◌≡◌, ◌≢◌, inl, inr, ℕ, suc, ◌+◌, ◌≤◌, Bool, true, false, ◌==◌, Option, Some, None, List, [], ◌∷◌, map, refl, ap, sym, ◌∙◌, subst, arith, if◌then◌else◌}
-use Rattle.std.specs.Prelude.{IsSome, is_some}
+use Rattle.std.specs.Prelude.{IsSome}
 use Rattle.std.specs.Option.{ForSome, option_map}
-use Rattle.std.proofs.lemmas.Bool.{eq-eqb, eqb-true, ne_eqb}
+use Rattle.std.proofs.lemmas.Bool.{eq-eqb, eqb-true}
 use Rattle.std.proofs.lemmas.Option.{none-some, same_Some}
 use Rattle.exceptions.specs.Exceptions.{Label}
 use Rattle.job_meaning.specs.GrantTable.{granted_of, is_asking}
@@ -12,7 +12,6 @@ use Rattle.objects.specs.Whats.{What}
 use Rattle.objects.specs.declared.given.Given.{Given}
 use Rattle.task_machine.specs.Serving.{queue_of}
 use Rattle.task_machine.specs.Worlds.{label_at}
-use Rattle.task_machine.specs.declared.stop.TaskState.{TaskState}
 use Rattle.task_machine.specs.declared.world.World.{World}
 use Rattle.task_table.proofs.Times.{one_if, one_same, times_cons}
 use Rattle.task_table.specs.Rows.{times}
@@ -22,7 +21,6 @@ use Rattle.task_table.specs.declared.task_table.TaskTable.{TaskTable}
 use Rattle.turn_semantics.specs.Lists.{IsAmong}
 use Rattle.job_runner.specs.Grants.{getter_of, queue_label, recorded_all, recorded_by, recorded_for}
 use Rattle.job_runner.specs.Shared.{what_if, what_or}
-use Rattle.job_runner.proofs.Options.{some_is}
 
 -- ---- one of them
 
@@ -89,9 +87,6 @@ module _ (table : TaskTable) (world : World) (object asker : Label) (u : ℕ) (t
           by_test : (b : Bool) → test q ≡ b → test q ≡ false
           by_test true e = absurd (differs (alone q e))
           by_test false e = e
-
-
-
 
       absent : (gs : List Given) → times p (map (λ (g : Given). g.who.row) gs) ≡ 0 → (g : Given) → IsAmong g gs → g.who.row ≢ p
       absent [] none g i e = absurd i
