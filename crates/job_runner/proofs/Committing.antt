@@ -131,6 +131,7 @@ placed_parts {r} b answers h current next = record {
   current = rw current (placed_same (λ (id : ℕ) (call : Call). IsCallOf r.input.now call) r.batch.current answers h.current);
   next = rw next h.next;
   later = h.later;
+  granted = h.granted;
 }
 
 -- ---- one entry is taken out
@@ -321,6 +322,7 @@ module _ {P : Type 0} {picks : P → ℕ → ℕ → P → Type 0} {was r : Runn
           current = (let rest = out.rest in rw rest (all_without (IsEntryOf r.input.now) r.batch.current out.place h.going.lent.current));
           next = (let added = out.added in rw added h.going.lent.next);
           later = h.going.lent.later;
+          granted = h.going.lent.granted;
         };
         unserved = unserved_still;
       }

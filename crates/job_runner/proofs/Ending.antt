@@ -175,6 +175,7 @@ module _ {r : Runner} {task_table : TaskTable} {id row : ℕ} {exc : Option held
           object = λ l. refl;
           round = sym (append-nil (map round_act_of r.round.items));
           granted = granted_left;
+          grants = λ object asker u. refl;
         };
       }
     where

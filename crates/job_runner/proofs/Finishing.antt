@@ -1,7 +1,8 @@
 -- A run that is over: its rows show what the job means.
-use Rattle.std.proofs.Common.{◌≡◌, ℕ, ◌≤◌, Option, Some, None, List, [], ◌∷◌, map, refl, ap, sym, ◌∙◌, subst, arith}
+use Rattle.std.proofs.Common.{◌≡◌, ℕ, suc, ◌≤◌, Option, Some, None, List, [], ◌∷◌, map, refl, ap, sym, ◌∙◌, subst, arith}
 use Rattle.std.specs.Prelude.{All, IsSome, is_some}
 use Rattle.std.specs.Option.{option_map}
+use Rattle.std.proofs.Math.Path.{fun_ext}
 use Rattle.std.proofs.lemmas.Option.{same_Some, none-some, slice_get_within}
 use Rattle.task_table.specs.declared.entry.Entry.{Entry}
 use Rattle.task_table.specs.declared.live.Live.{Live}
@@ -9,11 +10,12 @@ use Rattle.task_table.specs.Live.{live_at}
 use Rattle.cancel_scopes.specs.Sight.{Tick}
 use Rattle.exceptions.specs.Exceptions.{Label}
 use Rattle.job_meaning.specs.Follow.{follow}
+use Rattle.job_meaning.specs.GrantTable.{grants_made, AreGrantsOf}
 use Rattle.job_meaning.specs.Log.{Result, Table}
 use Rattle.job_meaning.specs.Moments.{clock_of, tick_of}
 use Rattle.job_meaning.specs.declared.clock.Clock.{Clock}
 use Rattle.job_meaning.specs.declared.clock.Clock.TheVariants.{ByTicks as by_ticks, ByRounds as by_rounds}
-use Rattle.job_meaning.specs.Meaning.{From, meaning, meaning_end, root_log, records_of, all_entered, cancelled_from_by}
+use Rattle.job_meaning.specs.Meaning.{From, meaning, meaning_end, root_log, records_of, all_entered, cancelled_from_by, meaning_grants}
 use Rattle.job_meaning.specs.Shown.{row_of}
 use Rattle.job_meaning.proofs.Settled.{settled_is_meaning, one_table_is_settled}
 use Rattle.task_machine.specs.declared.world.World.{World}
@@ -25,7 +27,7 @@ use Rattle.interleavings.specs.Rows as interleaving
 use Rattle.run_refinement.specs.RunState.{EndedTask, Refines}
 use Rattle.run_refinement.specs.Over.{IsOver, ShowsRow}
 use Rattle.run_refinement.proofs.Blocks.{root_last}
-use Rattle.run_refinement.proofs.Over.{state_over}
+use Rattle.run_refinement.proofs.Over.{state_over, state_granted}
 use Rattle.job_runner.specs.declared.finished.Run.{Run}
 use Rattle.task_table.specs.declared.task_table.TaskTable.{TaskTable}
 use Rattle.task_table.specs.declared.task_table.Running.{Running}
@@ -38,9 +40,9 @@ use Rattle.job_runner.specs.Phases.{phase_by, phase_of}
 use Rattle.turn_semantics.specs.Midway.{Tables}
 use Rattle.task_table.specs.TaskTable.{Sharing, children_by, run_state, ended_task_by, ended_task_from, ended_task_of, task_count, row_at, running_at, start_by, task_by, task_in, task_of, task_unless}
 use Rattle.task_table.specs.Rows.{AreShown, EndIsShown, IsShown, ShowRecords}
-use Rattle.job_runner.specs.Runs.{IsRun, FollowsEach, cancelled_from_in, name_of, records_in}
+use Rattle.job_runner.specs.Runs.{IsRun, FollowsEach, cancelled_from_in, granted_in, name_of, records_in}
 use Rattle.job_runner.specs.Shared.{sharing_in}
-use Rattle.job_runner.specs.Shelves.{state_in, IsUnderway}
+use Rattle.job_runner.specs.Shelves.{state_in, IsServedIf, IsUnderway}
 use Rattle.task_table.proofs.Lists.{all_by_place}
 use Rattle.job_runner.proofs.States.{meaning_of, meaning_run, meaning_settled}
 
@@ -120,6 +122,21 @@ module _ {r : Runner} (w : IsUnderway r) (over : phase_of r ≡ phases.Over) whe
   none_left p = root_last k r.job.now r.input.now r.world.tick (task_count r.task_table) (state_in r) state
       (no_task r.task_table.live (row_at r.task_table 0) root.0 root.1) p
 
+  -- what was done is served
+  all_served : r.through ≡ suc r.world.tick
+  all_served = by_batch r.batch.current over w.served
+    where
+      by_batch : (es : List Entry) → phase_by es (ended_task_of r.task_table 0) ≡ phases.Over → IsServedIf es r → r.through ≡ suc r.world.tick
+      by_batch [] e served = served.through
+      by_batch (x ∷ es) e served = absurd (let f : phases.Ready ≡ phases.Over = e in cc)
+
+  -- so all that was granted is what the limiters and channels of the meaning grant
+  all_granted : grants_made r.grants ≡ meaning_grants r.job.now r.input.now
+  all_granted =
+      fun_ext (λ object. fun_ext (λ asker. fun_ext (λ u.
+      state_granted r.job.now r.input.now w.going.sound.names w.going.sound.starts r.world.tick (task_count r.task_table) (state_in r) state all_served
+      none_left object asker u)))
+
   -- so each row has its end
   pub all_ended : (rows : List TaskRow) → rows ≡ r.task_table.rows.items → All (λ (x : TaskRow). IsSome x.end) rows
   all_ended rows same = rw same
@@ -147,13 +164,15 @@ module _ {r : Runner} (w : IsUnderway r) (over : phase_of r ≡ phases.Over) whe
 
     -- a run of the job's name with these records and moments of cancellation is what the job means over its input
     pub is_run : (run : Run) → name_of run ≡ r.job.now.name → records_in run ≡ records → cancelled_from_in run ≡ cancelled_from →
-        IsRun r.job.now r.input.now run
-    is_run run name rs fs =
+        granted_in run ≡ r.grants → IsRun r.job.now r.input.now run
+    is_run run name rs fs gs =
         record {
           name = name;
           rows = ap (map row_in) rs ∙ shown.records ∙ ap (map (row_of r.input.now)) (is_over.records shown.taken shown.order);
           slices = rw rs shown.slices;
           cancelled_from = ap (map from_of) fs ∙ shown.cancelled_from ∙ is_over.cancelled_from shown.taken shown.order;
+          granted = ap grants_made gs ∙ all_granted;
+          lent = subst (AreGrantsOf r.input.now) (sym gs) w.going.lent.granted;
         }
 
     -- so it is the result of following each pair of settled tables

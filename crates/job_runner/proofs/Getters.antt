@@ -1,5 +1,5 @@
 -- Who gets something when what was done in a moment is served: tasks that wait for it, each of them once.
-use Rattle.std.proofs.Common.{◌≡◌, ◌≢◌, inl, inr, ℕ, suc, ◌+◌, ◌≤◌, Bool, true, false, ◌&&◌, ◌==◌, nat_lt, cond, Option, Some, None, List, [], ◌∷◌, ◌++◌, map, refl, ap, sym, ◌∙◌, subst, arith, Bor}
+use Rattle.std.proofs.Common.{◌≡◌, ◌≢◌, inl, inr, ℕ, suc, ◌+◌, ◌<◌, ◌≤◌, Bool, true, false, ◌&&◌, ◌==◌, nat_lt, cond, Option, Some, None, List, [], ◌∷◌, ◌++◌, map, refl, ap, sym, ◌∙◌, subst, arith, Bor}
 use Rattle.std.specs.Prelude.{All, IsSome, is_some}
 use Rattle.std.specs.List.{filter}
 use Rattle.std.proofs.lemmas.Bool.{eq-eqb, eqb-true, ne_eqb}
@@ -9,6 +9,7 @@ use Rattle.std.proofs.lemmas.Option.{none-some, same_Some}
 use Rattle.clock.specs.Clock.{due_of}
 use Rattle.exceptions.specs.Exceptions.{Label}
 use Rattle.input_lines.specs.Part.{buffer_of}
+use Rattle.job_meaning.specs.GrantTable.{grants_made}
 use Rattle.job_meaning.specs.Log.{same_label}
 use Rattle.job_meaning.specs.Walk.{Here}
 use Rattle.job_meaning.proofs.Distinct.{same_label_itself}
@@ -30,6 +31,7 @@ use Rattle.run_refinement.specs.Ready.{AllStay}
 use Rattle.run_refinement.specs.Sharing.{RoundAct as round_act, waits_in, AreAskedBefore}
 use Rattle.run_refinement.proofs.Counts.{count}
 use Rattle.run_refinement.proofs.Counts as counts
+use Rattle.run_refinement.proofs.LabelsApart.{tasks_apart}
 use Rattle.run_refinement.proofs.GrantsOnce.{gets_once, gets_since, getter}
 use Rattle.task_table.specs.declared.entry.Call.{Call}
 use Rattle.task_table.specs.declared.entry.Call.TheVariants as calls
@@ -48,6 +50,7 @@ use Rattle.job_runner.specs.Shared.{what_of, later_calls, object_at, ready_calls
 use Rattle.job_runner.specs.Shelves.{ContinuesBy, ContinuesLater, IsCalledLater, IsGoing, IsUnserved, NoneGranted, Stays, running_times, state_in, task_state_times, timer_times, times_shelved}
 use Rattle.job_runner.proofs.AskedBy.{asked_by, asked_before_queued, queued_by_now}
 use Rattle.job_runner.proofs.Granted.{granted_none}
+use Rattle.job_runner.proofs.GrantsMeant.{grants_meant, meant_kept, meant_recorded}
 use Rattle.job_runner.proofs.Lived.{LivesBy, lives_by}
 use Rattle.job_runner.proofs.Options.{some_is}
 use Rattle.job_runner.proofs.Shelving.{times_next, times_now}
@@ -188,6 +191,10 @@ module _ {r : Runner} (going : IsGoing r) (unserved : IsUnserved r) (none : r.ba
       })
       (λ p. inl (none_granted p))
 
+  -- two tasks have different labels
+  pub labels_apart : (s p : ℕ) (x y : Task) → task_of r.task_table s ≡ Some x → task_of r.task_table p ≡ Some y → x.label ≡ y.label → s ≡ p
+  labels_apart = tasks_apart state (meaning_settled r going.sound) going.sound.names going.sound.starts
+
   module _ (ordered : List PlacedAct) (objects : ObjectTable) (given : List Given) (order : AreOrdered r.task_table r.round.items ordered)
       (serves : ServesActs (waits_in (task_of r.task_table)) r.world.tick r.objects objects (map act_of_placed ordered) given)
     where
@@ -198,11 +205,20 @@ module _ {r : Runner} (going : IsGoing r) (unserved : IsUnserved r) (none : r.ba
       abbrev pub served_state : (ℕ → Option What) → RunState
       served_state granted =
           run_state r.task_table r.world r.turns
-          (record { through = suc r.world.tick; object = object_at objects; round = []; granted = granted })
+          (record {
+            through = suc r.world.tick;
+            object = object_at objects;
+            round = [];
+            granted = granted;
+            grants = grants_meant r.world (task_of r.task_table) (task_count r.task_table) granted (grants_made r.grants);
+          })
 
       pub same_tasks : (granted : ℕ → Option What) → SameTasks (state_in r) (served_state granted)
       same_tasks granted =
           record { turns = refl; task = λ p. refl; ended_task = λ p. refl; start = λ p. refl; children = λ p. refl; path = λ p. refl }
+
+      pub rows_below : (s : ℕ) (task : Task) → task_of r.task_table s ≡ Some task → s < task_count r.task_table
+      rows_below s task lives = (lives_by r.task_table going.shelved.consistent.agree s task lives).below
 
       asked : (l : Label) → AreAskedBefore (suc r.world.tick) (object_at objects l)
       asked l =
@@ -222,6 +238,12 @@ module _ {r : Runner} (going : IsGoing r) (unserved : IsUnserved r) (none : r.ba
         asked = asked;
         round = refl;
         granted = is;
+        recorded = λ s task object asker u w lives waits gets.
+            meant_recorded r.world (task_of r.task_table) (task_count r.task_table) granted (grants_made r.grants) rows_below labels_apart object asker u s
+            task w lives waits gets;
+        kept = λ object asker u nothing_granted.
+            meant_kept r.world (task_of r.task_table) (task_count r.task_table) granted (grants_made r.grants) rows_below labels_apart object asker u
+            nothing_granted;
       }
 
       -- what is granted, by what the definitions say

@@ -4,6 +4,7 @@ use Rattle.std.specs.Prelude.{◌==◌}
 use Rattle.std.proofs.Math.Path.{fun_ext}
 use Rattle.std.proofs.lemmas.List.{append-nil, map-append}
 use Rattle.std.proofs.lemmas.List.Elements.{All-cons, All-head, All-nil, All-tail}
+use Rattle.job_meaning.specs.GrantTable.{grants_made}
 use Rattle.objects.specs.Whats.{What}
 use Rattle.run_refinement.specs.Sharing.{RoundAct}
 use Rattle.task_machine.specs.declared.stop.Stop.{Stop}
@@ -117,7 +118,7 @@ granted_none task_table calls none p = by_running (running_at task_table (id_of 
 pub shared_as : (r : Runner) (round : List RoundAct) (old new : List Added) → ((id : ℕ) → granted_among id new ≡ granted_among id old) →
     record (sharing_of r new) { round = round } ≡ record (sharing_of r old) { round = round }
 shared_as r round old new same =
-    ap (λ (f : ℕ → Option What). record { through = r.through; object = object_at r.objects; round = round; granted = f })
+    ap (λ (f : ℕ → Option What). record { through = r.through; object = object_at r.objects; round = round; granted = f; grants = grants_made r.grants })
     (fun_ext (granted_as r.task_table old new same))
 
 pub state_as : (r : Runner) (calls : List Added) → ((id : ℕ) → granted_among id calls ≡ granted_among id (ready_calls r)) →

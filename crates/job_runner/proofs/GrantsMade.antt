@@ -1,12 +1,14 @@
 -- Something is granted to tasks, one after the other: each leaves the clock and the sleepers, and continues a round later.
 use Rattle.std.proofs.Common.{◌≡◌, ◌≢◌, ℕ, suc, ◌+◌, ◌≤◌, true, false, inl, inr, Option, Some, None, List, [], ◌∷◌, ◌++◌, map, refl, ap, sym, ◌∙◌, subst, arith}
-use Rattle.std.specs.Prelude.{◌==◌, IsSome, is_some, ◌<◌}
+use Rattle.std.specs.Prelude.{◌==◌, ◌^◌, IsSome, is_some, ◌<◌}
 use Rattle.std.proofs.lemmas.List.{append-nil, append_assoc, map-append}
 use Rattle.std.proofs.lemmas.List.Elements.{All-head, All-push, All-tail}
 use Rattle.std.proofs.lemmas.Bool.Decides.{eqb_tells}
 use Rattle.std.proofs.lemmas.Option.{none-some, same_Some}
 use Rattle.clock.specs.Clock.{due_of}
 use Rattle.clock.specs.Waiting.{event_in}
+use Rattle.exceptions.specs.Exceptions.{Label}
+use Rattle.job_meaning.specs.GrantTable.{made_in}
 use Rattle.objects.specs.declared.given.Given.{Given}
 use Rattle.task_machine.specs.declared.stop.TaskState.{TaskState}
 use Rattle.task_machine.specs.Tasks.{lent_of}
@@ -18,12 +20,13 @@ use Rattle.task_table.specs.Rows.{times}
 use Rattle.task_table.specs.TaskTable.{running_at, task_count}
 use Rattle.task_table.proofs.Times.{all_others, one_if, one_same, times_append, times_cons}
 use Rattle.job_runner.specs.declared.runner.Runner.{Runner}
-use Rattle.job_runner.specs.Grants.{call_of, getter_of, Grants, GrantsOnly, MayGet, MayGetAll}
+use Rattle.job_runner.specs.Grants.{call_of, getter_of, recorded_all, recorded_by, Grants, GrantsOnly, MayGet, MayGetAll, RecordsAll}
 use Rattle.job_runner.specs.Shared.{later_calls}
 use Rattle.job_runner.specs.Shelves.{AreShelved, ContinuesBy, ContinuesLater, IsCalledLater, Stays, timer_times, times_shelved, wait_slot_of, waits_in}
 use Rattle.job_runner.proofs.Known.{known_without}
 use Rattle.job_runner.proofs.Lived.{row_below}
 use Rattle.job_runner.proofs.Options.{some_has, some_is}
+use Rattle.job_runner.proofs.States.{moment_bounded}
 use Rattle.job_runner.proofs.Shelving.{none_away, times_next}
 use Rattle.job_runner.proofs.Waking.{consistent_still}
 
@@ -91,7 +94,7 @@ module _ {old new : Runner} (g : Given) (h : Grants g old new) (s : AreShelved N
             omega (arith, more, one, not_here, still)
       ]
 
-  granted_there : AreShelved None (record old { clock = new.clock; sleepers = new.sleepers; later = new.later })
+  granted_there : AreShelved None (record old { clock = new.clock; sleepers = new.sleepers; later = new.later; grants = new.grants })
   granted_there = record {
     consistent = consistent_still s.consistent h.time;
     stay = λ key due e. s.stay key due (kept_timer key due e);
@@ -133,11 +136,14 @@ pub record IsGranting (was now : Runner) (all left : List Given) : Type 0 where
   pub shelved : AreShelved None now
   pub may : MayGetAll now left
   pub later : later_calls now ++ map (call_of was.task_table) left ≡ later_calls was ++ map (call_of was.task_table) all
+  pub made : (object asker : Label) (u : ℕ) →
+      recorded_all was.task_table was.world left object asker u (made_in now.grants object asker u)
+      ≡ recorded_all was.task_table was.world all object asker u (made_in was.grants object asker u)
   pub rest : GrantsOnly was now
 
 pub granting_first : {r : Runner} {all left : List Given} → left ≡ all → AreShelved None r → MayGetAll r all → IsGranting r r all left
 granting_first {r} {all} {left} same s may =
-    subst (IsGranting r r all) (sym same) (record { shelved = s; may = may; later = refl; rest = refl })
+    subst (IsGranting r r all) (sym same) (record { shelved = s; may = may; later = refl; made = λ object asker u. refl; rest = refl })
 
 module _ {was now : Runner} {all left rest : List Given} (g : Given) (h : IsGranting was now all left) (first : left ≡ g ∷ rest) where
   may_all : MayGetAll now (g ∷ rest)
@@ -151,6 +157,13 @@ module _ {was now : Runner} {all left rest : List Given} (g : Given) (h : IsGran
   first_below =
       subst (λ (p : ℕ). p < task_count now.task_table) may_first.row_is
       (row_below now.task_table h.shelved.consistent.agree (getter_of now.task_table g) may_first.running may_first.lives)
+
+  pub first_lives : IsSome (running_at now.task_table (getter_of now.task_table g))
+  first_lives = ap is_some may_first.lives
+
+  -- its moment is not too late to be counted
+  pub first_bounded : now.world.tick ≤ 2 ^ 62
+  first_bounded = moment_bounded h.shelved.consistent
 
   pub first_timed : IsSome (due_of now.clock (getter_of now.task_table g))
   first_timed = may_first.timed
@@ -179,12 +192,24 @@ module _ {was now : Runner} {all left rest : List Given} (g : Given) (h : IsGran
             ∙ (append_assoc (later_calls now) (call_of now.task_table g ∷ []) (map (call_of was.task_table) rest)
             ∙ (ap (λ (x : Runner). later_calls now ++ call_of x.task_table g ∷ map (call_of was.task_table) rest) h.rest
             ∙ (ap (λ (gs : List Given). later_calls now ++ map (call_of was.task_table) gs) (sym first) ∙ h.later)));
+        made = λ object asker u.
+            ap (recorded_all was.task_table was.world rest object asker u)
+            (grants.made object asker u
+            ∙ ap (λ (x : Runner). recorded_by x.world (running_at x.task_table (getter_of x.task_table g)) g object asker u
+            (made_in now.grants object asker u)) h.rest)
+            ∙ (ap (λ (gs : List Given). recorded_all was.task_table was.world gs object asker u (made_in now.grants object asker u)) (sym first)
+            ∙ h.made object asker u);
         rest =
             grants.rest
-            ∙ ap (λ (x : Runner). record x { clock = next.clock; sleepers = next.sleepers; later = next.later }) h.rest;
+            ∙ ap (λ (x : Runner). record x { clock = next.clock; sleepers = next.sleepers; later = next.later; grants = next.grants }) h.rest;
       }
 
 pub granting_last : {was now : Runner} {all left : List Given} → IsGranting was now all left → left ≡ [] →
     later_calls now ≡ later_calls was ++ map (call_of was.task_table) all
 granting_last {was} {now} {all} {left} h none =
     sym (append-nil (later_calls now)) ∙ (ap (λ (gs : List Given). later_calls now ++ map (call_of was.task_table) gs) (sym none) ∙ h.later)
+
+pub granting_recorded : {was now : Runner} {all left : List Given} → IsGranting was now all left → left ≡ [] → RecordsAll all was now
+granting_recorded {was} {now} {all} {left} h none object asker u =
+    ap (λ (gs : List Given). recorded_all was.task_table was.world gs object asker u (made_in now.grants object asker u)) (sym none)
+    ∙ h.made object asker u

@@ -286,6 +286,7 @@ module _ {r : Runner} (w : IsUnderway r) (none : r.batch.current ≡ []) where
             round = ap (map round_act_of) served.none_done;
             none_done = ap (map round_act_of) served.none_done;
             granted = granted_as r.task_table (ready_calls r) calls same;
+            grants = λ object asker u. refl;
           })
           refl
 

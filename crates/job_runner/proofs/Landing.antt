@@ -93,6 +93,7 @@ turned_parts {r} batch h current next = record {
   current = rw current (All-map (IsEntryOf r.input.now) without_answer r.batch.next h.next);
   next = rw next (All-nil (IsAddedOf r.input.now));
   later = h.later;
+  granted = h.granted;
 }
 
 -- where a batch has nothing for later, nothing was added
@@ -204,6 +205,7 @@ module _ {r : Runner} (w : IsUnderway r) (blocked : phase_of r ≡ phases.Blocke
                   current = rw current (All-map (IsEntryOf r.input.now) without_answer woken.batch.next parts);
                   next = rw next (All-nil (IsAddedOf r.input.now));
                   later = (let idle = w.nothing_added in rw idle (All-nil (IsAddedOf r.input.now)));
+                  granted = w.going.lent.granted;
                 };
               };
               unchanged = w.unchanged;

@@ -38,7 +38,10 @@ pub mod Filters
 pub mod RecordOrder
 pub mod Served
 pub mod ServedRunner
+pub mod Recorded
+pub mod GrantsMeant
 pub mod GrantsMade
 pub mod AskedBy
+pub mod GrantsRecorded
 pub mod Getters
 pub mod ServedRound

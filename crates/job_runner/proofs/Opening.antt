@@ -1,6 +1,7 @@
 -- A run that begins: the root alone, which is called to begin.
 use Rattle.std.proofs.Common.{◌≡◌, inl, inr, ℕ, zero, suc, ◌+◌, ◌≤◌, Option, Some, None, List, [], ◌∷◌, ◌++◌, map, length, refl, ap, sym, ◌∙◌, arith}
 use Rattle.std.specs.Prelude.{All, ◌==◌}
+use Rattle.std.specs.Option.{option_map}
 use Rattle.std.proofs.lemmas.Bool.Decides.{eqb_tells}
 use Rattle.std.proofs.lemmas.List.Elements.{All-append, All-cons, All-nil}
 use Rattle.std.proofs.lemmas.Option.{same_Some, none-some}
@@ -10,6 +11,7 @@ use Rattle.task_table.specs.declared.entry.Entry.{Entry}
 use Rattle.task_table.specs.Entries.{Added, NonePlaced, added_of, without_answer}
 use Rattle.exceptions.specs.Exceptions.{Label}
 use Rattle.turn_semantics.specs.Midway.{Tables}
+use Rattle.job_meaning.specs.GrantTable.{granted_of, made_in}
 use Rattle.job_meaning.specs.Moments.{clock_of}
 use Rattle.job_meaning.specs.declared.clock.Clock.{Clock}
 use Rattle.task_machine.specs.declared.task.Task.{Task}
@@ -37,12 +39,14 @@ module _ (r : Runner) {root : Task} {id : ℕ} (sound : IsSoundJob r.job.now r.i
     (world : IsNewWorld r.job.now r.world) (is_root : IsRootTask r.job.now r.input.now root)
     (has : HasRoot r.task_table root id) (turns : r.turns ≡ 0) (through : r.through ≡ 0)
     (unopened : (label : Label) → object_at r.objects label ≡ None) (idle : r.round.items ≡ [])
+    (ungranted : (object asker : Label) (u : ℕ) → made_in r.grants object asker u ≡ None)
   where
     begun : NoneGranted (ready_calls r) → (k : Tables) → Refines k r.job.now r.input.now 0 1 None (state_in r)
     begun none k =
         state_begun k r.job.now r.input.now (state_in r) root sound.in_range sound.starts sound.names sound.small world is_root has.task
         (λ p. let more : p + 1 ≡ suc p = omega arith in rw more at (has.none p)) has.ended_task has.start
         has.children turns refl through unopened (ap (map round_act_of) idle) (granted_none r.task_table (ready_calls r) none)
+        (λ object asker u. ap (option_map granted_of) (ungranted object asker u))
 
     is_refined : NoneGranted (ready_calls r) → IsRefined r
     is_refined none k settled = run_in (sym world.tick) (sym has.many) (begun none k)
@@ -152,6 +156,7 @@ module _ (r : Runner) {root : Task} {id : ℕ} (sound : IsSoundJob r.job.now r.i
                         current = rw one_entry (All-cons (IsEntryOf r.input.now) its_entry [] tt (All-nil (IsEntryOf r.input.now)));
                         next = rw next (All-nil (IsAddedOf r.input.now));
                         later = rw no_later (All-nil (IsAddedOf r.input.now));
+                        granted = λ object asker u g e. absurd (none-some g (sym (ungranted object asker u) ∙ e));
                       };
                 };
             unchanged = unchanged;

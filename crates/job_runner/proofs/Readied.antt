@@ -283,6 +283,7 @@ holds_ready {old} {new} {ids} {call} ready of h = record {
       (let same = ready.later in
       rw same (All-append (IsAddedOf old.input.now) (later_calls old) (calls_later old.world.clock ids call) h.later
       (later_called old.world.clock ids call (IsAddedOf old.input.now) (λ id. of))));
+  granted = h.granted;
 }
 
 -- ---- the shelves

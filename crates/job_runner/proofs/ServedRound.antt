@@ -9,7 +9,9 @@ use Rattle.exceptions.specs.Exceptions.{Label}
 use Rattle.interleavings.specs.Laws.{IsSettledBy}
 use Rattle.turn_semantics.specs.Midway.{Tables}
 use Rattle.turn_semantics.specs.Lists.{IsAmong}
+use Rattle.job_meaning.specs.GrantTable.{grants_made, made_in}
 use Rattle.job_meaning.specs.Log.{same_label}
+use Rattle.job_meaning.specs.Sharing.{Grants}
 use Rattle.job_meaning.proofs.Distinct.{same_label_itself}
 use Rattle.job_tree.specs.Tree.{Steps}
 use Rattle.job_tree.specs.declared.object.Ask.{Ask}
@@ -20,7 +22,7 @@ use Rattle.task_machine.specs.declared.stop.TaskState.{TaskState}
 use Rattle.task_machine.specs.declared.stop.TaskState.TheVariants.{ToBegin, Asked, Asleep, Waiting, Queued, GivingUp, Awaits, Over}
 use Rattle.task_machine.specs.declared.task.Task.{Task}
 use Rattle.task_machine.specs.Worlds.{label_at}
-use Rattle.run_refinement.specs.RunState.{Refines}
+use Rattle.run_refinement.specs.RunState.{Refines, RunState}
 use Rattle.run_refinement.specs.Sharing.{RoundAct as round_act, find_get, waits_in}
 use Rattle.run_refinement.specs.Sharing as sharing
 use Rattle.run_refinement.specs.Moved.{granted_by, granted_for, granted_to}
@@ -34,21 +36,20 @@ use Rattle.job_runner.specs.declared.objects_by_label.ObjectTable.{ObjectTable}
 use Rattle.job_runner.specs.declared.runner.Runner.{Runner}
 use Rattle.job_runner.specs.declared.serving.PlacedAct.{PlacedAct}
 use Rattle.job_runner.specs.declared.serving.RoundAct.{RoundAct}
-use Rattle.job_runner.specs.Grants.{call_of, getter_of, GrantsOnly, MayGet, MayGetAll}
+use Rattle.job_runner.specs.Grants.{call_of, getter_of, GrantsOnly, MayGet, MayGetAll, RecordsAll}
 use Rattle.job_runner.specs.Serving.{Granting, act_of_placed, granted_on, AreOrdered, ServesActs, StayLent}
 use Rattle.job_runner.specs.Shared.{what_if, what_or, granted_among, granted_of, later_calls, object_at, ready_calls, round_act_of}
 use Rattle.job_runner.specs.Shelves.{AreShelved, HoldsParts, IsActOf, IsAddedOf, IsGoing, IsUnserved, state_in}
-use Rattle.job_runner.proofs.Getters.{AreOf, AreOfNone, acts, among_map, from_among_map, getter_is, of_other, of_queued, of_unnamed, is_in_queue, may_get, same_tasks, served_state, serves_round, stay_on}
+use Rattle.job_runner.proofs.Getters.{AreOf, AreOfNone, acts, among_map, from_among_map, getter_is, of_other, of_queued, of_unnamed, is_in_queue, labels_apart, may_get, rows_below, same_tasks, served_state, serves_round, stay_on}
 use Rattle.job_runner.proofs.Granted.{among_append, among_none}
 use Rattle.job_runner.proofs.GrantedRows.{granted_nobody, granted_row}
+use Rattle.job_runner.proofs.GrantsMeant.{grants_meant}
+use Rattle.job_runner.proofs.GrantsRecorded.{grants_are}
+use Rattle.job_runner.proofs.Recorded.{all_lent, found_row}
 use Rattle.job_runner.proofs.Lived.{LivesBy, lives_by, task_at}
 use Rattle.job_runner.proofs.States.{meaning_run}
 
 -- ---- what is granted to the task of a row
-
-abbrev found_row : ℕ → List Gets → Option What
-found_row s [] = None
-found_row s (g ∷ gs) = what_or (what_if (g.who.row == s) (Some g.what)) (found_row s gs)
 
 -- by the calls of those who got something
 among_given : (table : TaskTable) (s key : ℕ) (gs : List Given) → ((g : Given) → IsAmong g gs → (getter_of table g == key) ≡ (g.who.row == s)) →
@@ -226,7 +227,7 @@ module _ {r : Runner} (going : IsGoing r) (unserved : IsUnserved r) (none : r.ba
 
         module _ {new : Runner} (through : before.through ≡ suc r.world.tick) (empty : before.round.items ≡ []) (only : GrantsOnly mid new)
             (shelved : AreShelved None new) (later : later_calls new ≡ later_calls mid ++ map (call_of mid.task_table) given)
-            (stays : StayLent r.input.now r.objects objects [] given)
+            (recorded : RecordsAll given mid new) (stays : StayLent r.input.now r.objects objects [] given)
           where
             abbrev last : Runner
             last = record r {
@@ -236,10 +237,11 @@ module _ {r : Runner} (going : IsGoing r) (unserved : IsUnserved r) (none : r.ba
               clock = new.clock;
               sleepers = new.sleepers;
               later = new.later;
+              grants = new.grants;
             }
 
             whole : new ≡ last
-            whole = only ∙ ap (λ (x : Runner). record x { clock = new.clock; sleepers = new.sleepers; later = new.later }) mid_is
+            whole = only ∙ ap (λ (x : Runner). record x { clock = new.clock; sleepers = new.sleepers; later = new.later; grants = new.grants }) mid_is
 
             later_is : later_calls new ≡ later_then
             later_is = later ∙ ap (λ (x : Runner). later_calls x ++ map (call_of x.task_table) given) mid_is
@@ -253,21 +255,51 @@ module _ {r : Runner} (going : IsGoing r) (unserved : IsUnserved r) (none : r.ba
                 ≡ granted_to (state_in r) r.world.tick (acts going unserved none nothing ordered objects given order serves) s (task_of r.task_table s)
             granted_last s = ap (λ (calls : List Added). granted_of r.task_table calls s) ready_is ∙ granted_then s
 
+            recorded_here : RecordsAll given r new
+            recorded_here = subst (λ (x : Runner). RecordsAll given x new) mid_is recorded
+
+            found_given : (s : ℕ) (task : Task) → task_of r.task_table s ≡ Some task →
+                granted_of r.task_table (ready_calls last) s ≡ found_row s (map gets_in given)
+            found_given s task e =
+                ap (λ (calls : List Added). granted_of r.task_table calls s) ready_is
+                ∙ (granted_living s task e ∙ ap (found_row s) (sym serves.given_is))
+
+            -- all that is granted so far is what is granted to the tasks that wait, and what was granted before
+            grants_last : grants_made new.grants
+                ≡ grants_meant r.world (task_of r.task_table) (task_count r.task_table) (granted_of r.task_table (ready_calls last)) (grants_made r.grants)
+            grants_last =
+                grants_are r going.shelved.consistent.agree (rows_below going unserved none nothing ordered objects given order serves)
+                (labels_apart going unserved none nothing) given
+                (may_get going unserved none nothing ordered objects given order serves (stays going.lent.objects tt).1)
+                (granted_of r.task_table (ready_calls last)) found_given new.grants recorded_here
+
+            -- the tasks of the program, where this is known of limiters and channels
+            abbrev with_shared : ℕ → List round_act → Grants → RunState
+            with_shared through round grants =
+                run_state r.task_table r.world r.turns
+                (record {
+                  through = through;
+                  object = object_at objects;
+                  round = round;
+                  granted = granted_of r.task_table (ready_calls last);
+                  grants = grants;
+                })
+
             refined : (k : Tables) → IsSettledBy k r.job.now r.input.now →
                 Refines k r.job.now r.input.now r.world.tick (task_count r.task_table) None (state_in last)
             refined k settled =
-                subst (λ (n : ℕ). Refines k r.job.now r.input.now r.world.tick (task_count r.task_table) None (run_state r.task_table r.world r.turns
-                (record { through = n; object = object_at objects; round = map round_act_of before.round.items; granted = granted_of r.task_table (ready_calls last) })))
-                (sym through)
-                (subst (λ (xs : List RoundAct). Refines k r.job.now r.input.now r.world.tick (task_count r.task_table) None (run_state r.task_table r.world r.turns
-                (record { through = suc r.world.tick; object = object_at objects; round = map round_act_of xs; granted = granted_of r.task_table (ready_calls last) })))
-                (sym empty)
+                subst (λ (n : ℕ). Is (with_shared n (map round_act_of before.round.items) (grants_made new.grants))) (sym through)
+                (subst (λ (xs : List RoundAct). Is (with_shared (suc r.world.tick) (map round_act_of xs) (grants_made new.grants))) (sym empty)
+                (subst (λ (grants : Grants). Is (with_shared (suc r.world.tick) [] grants)) (sym grants_last)
                 (served.serves k r.job.now r.input.now r.world.tick (task_count r.task_table) (state_in r)
                 (served_state going unserved none nothing ordered objects given order serves (granted_of r.task_table (ready_calls last))) settled
                 going.sound.names going.sound.starts (going.interleaving k settled)
                 (same_tasks going unserved none nothing ordered objects given order serves (granted_of r.task_table (ready_calls last)))
                 (serves_round going unserved none nothing ordered objects given order serves (granted_of r.task_table (ready_calls last)) granted_last)
-                (stay_on going unserved none nothing) refl))
+                (stay_on going unserved none nothing) refl)))
+              where
+                Is : RunState → Type 0
+                Is state = Refines k r.job.now r.input.now r.world.tick (task_count r.task_table) None state
 
             parts : HoldsParts last
             parts =
@@ -280,6 +312,9 @@ module _ {r : Runner} (going : IsGoing r) (unserved : IsUnserved r) (none : r.ba
                   later =
                       (let is_later = later_is in
                       rw is_later (All-append (IsAddedOf r.input.now) (later_calls r) (map (call_of r.task_table) given) going.lent.later (of_given given held.1)));
+                  granted = λ object asker u made e.
+                      all_lent r.input.now r.task_table r.world given object asker u (made_in r.grants object asker u) held.1
+                      (going.lent.granted object asker u) made (sym (recorded_here object asker u) ∙ e);
                 }
               where
                 of_given : (gs : List Given) → AreGivenOf r.input.now gs → All (IsAddedOf r.input.now) (map (call_of r.task_table) gs)

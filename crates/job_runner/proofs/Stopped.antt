@@ -100,6 +100,7 @@ added_going {r} {id} {row} {stop} h alive none b call grants_none of current nex
           current = rw current h.lent.current;
           next = rw next (All-push (IsAddedOf r.input.now) r.batch.next (id, call) h.lent.next of);
           later = h.lent.later;
+          granted = h.lent.granted;
         };
       };
       unserved = record { through = h.unserved.through; none_granted = h.unserved.none_granted };
@@ -253,6 +254,7 @@ module _ {id row due : ℕ} {stop : Stop} {r : Runner} (h : IsStopping id row st
               current = h.lent.current;
               next = h.lent.next;
               later = h.lent.later;
+              granted = h.lent.granted;
             };
           };
           unserved = record { through = h.unserved.through; none_granted = h.unserved.none_granted };

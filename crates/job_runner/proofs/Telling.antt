@@ -97,7 +97,7 @@ module _ {r : Runner} (going : IsGoing r) (changed : List Bool) (sleepers : Slee
   interleaving_informed k settled =
       (state_takes k r.job.now r.input.now r.world.tick (task_count r.task_table) None (state_in r) (state_in informed)
       (record { turns = refl; task = λ p. refl; ended_task = λ p. refl; start = λ p. refl; children = λ p. refl; path = λ p. refl })
-      (record { through = refl; object = λ l. refl; round = refl; granted = λ p. refl }) refl
+      (record { through = refl; object = λ l. refl; round = refl; granted = λ p. refl; grants = λ object asker u. refl }) refl
       (going.interleaving k settled)).0
 
   consistent_informed : IsConsistent r.task_table (marked r.world changed) r.clock r.limit r.turns
@@ -161,6 +161,7 @@ module _ {r : Runner} (going : IsGoing r) (changed : List Bool) (sleepers : Slee
           current = going.lent.current;
           next = going.lent.next;
           later = going.lent.later;
+          granted = going.lent.granted;
         };
       }
 

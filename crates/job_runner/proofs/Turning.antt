@@ -361,13 +361,14 @@ module _ {id : ℕ} {wake : Wake} {stop : Stop} {r after woke new : Runner} {ro 
           (asked_on w last s stop ∙ asked_same w s turn.after stop);
       granted_after = granted_else;
       granted_task = none_after;
+      grants_after = λ object asker u. refl;
     }
 
     same_tasks : SameTasks that (state_after s stop left)
     same_tasks = record { turns = refl; task = λ p. refl; ended_task = λ p. refl; start = λ p. refl; children = λ p. refl; path = λ p. refl }
 
     same_objects : SameObjects that (state_after s stop left)
-    same_objects = record { through = refl; object = λ l. refl; round = refl; granted = λ p. refl }
+    same_objects = record { through = refl; object = λ l. refl; round = refl; granted = λ p. refl; grants = λ object asker u. refl }
 
     -- for each pair of settled tables
     module _ (k : Tables) (settled : IsSettledBy k r.job.now r.input.now) where
@@ -748,6 +749,7 @@ module _ {id : ℕ} {wake : Wake} {stop : Stop} {r after woke new : Runner} {ro 
             current = parts_ready.current;
             next = parts_ready.next;
             later = parts_ready.later;
+            granted = parts_ready.granted;
           };
           unserved = record {
             through = going.unserved.through ∙ sym tick;
@@ -762,6 +764,7 @@ module _ {id : ℕ} {wake : Wake} {stop : Stop} {r after woke new : Runner} {ro 
           current = going.lent.current;
           next = going.lent.next;
           later = going.lent.later;
+          granted = going.lent.granted;
         }
 
         parts_ready : HoldsParts (record mid { batch = after.batch; later = after.later })

@@ -110,7 +110,7 @@ due_none n e = ap (λ (b : Bool). if b then 1 else 0) e
 -- what limiters and channels hold stays
 ended_parts : (r : Runner) (task_table : TaskTable) (book : NurseryBook) → HoldsParts r → HoldsParts (ended_runner r task_table book)
 ended_parts r task_table book h =
-    record { objects = h.objects; round = h.round; current = h.current; next = h.next; later = h.later }
+    record { objects = h.objects; round = h.round; current = h.current; next = h.next; later = h.later; granted = h.granted }
 
 -- ---- a root that ended
 

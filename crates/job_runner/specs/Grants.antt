@@ -55,19 +55,27 @@ queue_label world None = None
 queue_label world (Some key) = label_at world key
 
 -- what is recorded of a grant, by the labels of the limiter or channel, if there is one, and of the task
-abbrev pub recorded_for : Runner → Option Label → Label → Given → (object asker : Label) → ℕ → Option Recorded
-recorded_for r None task g object asker u = made_in r.grants object asker u
-recorded_for r (Some label) task g object asker u =
-    if is_asking label task g.who.since object asker u then Some (record { at = suc r.world.tick; grant = g.grant })
-    else made_in r.grants object asker u
+abbrev pub recorded_for : ℕ → Option Label → Label → Given → (object asker : Label) → ℕ → Option Recorded → Option Recorded
+recorded_for t None task g object asker u before = before
+recorded_for t (Some label) task g object asker u before =
+    if is_asking label task g.who.since object asker u then Some (record { at = suc t; grant = g.grant }) else before
 
-abbrev pub recorded_by : Runner → Option Running → Given → (object asker : Label) → ℕ → Option Recorded
-recorded_by r None g object asker u = made_in r.grants object asker u
-recorded_by r (Some x) g object asker u = recorded_for r (queue_label r.world (queue_of x.task.task_state)) x.task.label g object asker u
+abbrev pub recorded_by : World → Option Running → Given → (object asker : Label) → ℕ → Option Recorded → Option Recorded
+recorded_by world None g object asker u before = before
+recorded_by world (Some x) g object asker u before =
+    recorded_for world.tick (queue_label world (queue_of x.task.task_state)) x.task.label g object asker u before
+
+-- what is recorded of all of them, one after the other
+abbrev pub recorded_all : TaskTable → World → List Given → (object asker : Label) → ℕ → Option Recorded → Option Recorded
+recorded_all table world [] object asker u before = before
+recorded_all table world (g ∷ given) object asker u before =
+    recorded_all table world given object asker u (recorded_by world (running_at table (getter_of table g)) g object asker u before)
 
 -- a grant was recorded for the task with an id
 pub record Records (id : ℕ) (g : Given) (old new : Runner) : Type 0 where
-  pub made : (object asker : Label) (u : ℕ) → made_in new.grants object asker u ≡ recorded_by old (running_at old.task_table id) g object asker u
+  pub made : (object asker : Label) (u : ℕ) →
+      made_in new.grants object asker u
+      ≡ recorded_by old.world (running_at old.task_table id) g object asker u (made_in old.grants object asker u)
   pub rest : new ≡ record old { grants = new.grants }
 
 -- It was granted, and that is recorded: the task has no timer any more, sees no cancellation, and continues a round later.
@@ -79,8 +87,15 @@ pub record Grants (g : Given) (old new : Runner) : Type 0 where
   pub later : later_calls new ≡ later_calls old ++ call_of old.task_table g ∷ []
   pub current : new.later.current ≡ old.later.current
   pub made : (object asker : Label) (u : ℕ) →
-      made_in new.grants object asker u ≡ recorded_by old (running_at old.task_table (getter_of old.task_table g)) g object asker u
+      made_in new.grants object asker u
+      ≡ recorded_by old.world (running_at old.task_table (getter_of old.task_table g)) g object asker u (made_in old.grants object asker u)
   pub rest : new ≡ record old { clock = new.clock; sleepers = new.sleepers; later = new.later; grants = new.grants }
+
+-- All these grants were recorded.
+abbrev pub RecordsAll : List Given → Runner → Runner → Type 0
+RecordsAll given old new =
+    (object asker : Label) (u : ℕ) →
+    made_in new.grants object asker u ≡ recorded_all old.task_table old.world given object asker u (made_in old.grants object asker u)
 
 -- nothing else changes
 abbrev pub GrantsOnly : Runner → Runner → Type 0

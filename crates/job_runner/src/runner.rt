@@ -282,12 +282,6 @@ impl<'a> Runner<'a> {
             ..
         } = self;
         let (records, cancelled_from) = records_of(alloc, task_table.into_rows())?;
-        Ok(Run::new(
-            job.name(),
-            records,
-            cancelled_from,
-            grants,
-            turns,
-        ))
+        Ok(Run::new(job.name(), records, cancelled_from, grants, turns))
     }
 }

@@ -1,9 +1,9 @@
 //! What tasks do to limiters and channels in a moment is served at its end, in the order of records.
-ghost use Rattle.std.specs.Prelude.{◌≡◌, ◌<◌, ◌++◌, ℕ, [], None, List, IsSome, All, IfOk, OnOk, map};
+ghost use Rattle.std.specs.Prelude.{◌≡◌, ◌<◌, ◌≤◌, ◌^◌, ◌++◌, ℕ, [], None, List, IsSome, All, IfOk, OnOk, map};
 ghost use Rattle.clock.specs.Clock.{due_of};
 ghost use Rattle.run_refinement.specs.Sharing.{waits_in};
-ghost use Rattle.task_table.specs.TaskTable.{task_count, task_of, IsTaskTable};
-ghost use Rattle.job_runner.specs.Grants.{call_of, getter_of, Grants, GrantsOnly, MayGetAll, ServesRound};
+ghost use Rattle.task_table.specs.TaskTable.{running_at, task_count, task_of, IsTaskTable};
+ghost use Rattle.job_runner.specs.Grants.{call_of, getter_of, Grants, GrantsOnly, MayGetAll, RecordsAll, ServesRound};
 ghost use Rattle.job_runner.specs.Serving.{act_of_placed, AreOrdered, ArePlaced, ServesAct, ServesActs, StayLent};
 ghost use Rattle.job_runner.specs.Shared.{later_calls};
 ghost use Rattle.job_runner.specs.Shelves.{AreShelved, IsActOf, IsGoing, IsUnserved};
@@ -151,6 +151,7 @@ impl<'a> Runner<'a> {
         requires may { MayGetAll self.old given.items }
         ensures shelved { OnOk result (AreShelved None self.new) }
         ensures later { OnOk result (later_calls self.new ≡ later_calls self.old ++ map (call_of self.old.task_table) given.entry.items) }
+        ensures recorded { OnOk result (RecordsAll given.entry.items self.old self.new) }
         ensures rest { OnOk result (GrantsOnly self.old self.new) }
     {
         'given: for one in given {
@@ -162,7 +163,9 @@ impl<'a> Runner<'a> {
     // One task does.
     fn grant(&mut self, given: Given<'a>) -> Result<(), AllocError>
         requires row { given.who.row < task_count self.old.task_table }
+        requires lives { IsSome (running_at self.old.task_table (getter_of self.old.task_table given)) }
         requires timed { IsSome (due_of self.old.clock (getter_of self.old.task_table given)) }
+        requires bounded { self.old.world.tick ≤ 2 ^ 62 }
         ensures { OnOk result (Grants given.entry self.old self.new) }
     {
         let id = self.task_table.id(given.who.row);

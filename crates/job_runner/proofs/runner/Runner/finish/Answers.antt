@@ -9,7 +9,7 @@ records_of-requires-clause-ended c =
 pub returns-clause-run : goal.returns-clause-run
 returns-clause-run c =
     is_run c.requires.underway c.requires.over (ap (λ v. v.items) c.into_rows.ensures) c.in_ok-records.ensures c.new.result
-    (c.new.ensures.name ∙ c.name.ensures) c.new.ensures.records c.new.ensures.cancelled_from
+    (c.new.ensures.name ∙ c.name.ensures) c.new.ensures.records c.new.ensures.cancelled_from c.new.ensures.grants
 
 pub returns-clause-in_time : goal.returns-clause-in_time
 returns-clause-in_time c =
@@ -20,4 +20,4 @@ returns-clause-follows c =
     let same = ap (λ v. v.items) c.into_rows.ensures in
     follows_each c.requires.underway c.requires.over same c.in_ok-records.ensures c.new.result
     (is_run c.requires.underway c.requires.over same c.in_ok-records.ensures c.new.result
-    (c.new.ensures.name ∙ c.name.ensures) c.new.ensures.records c.new.ensures.cancelled_from)
+    (c.new.ensures.name ∙ c.name.ensures) c.new.ensures.records c.new.ensures.cancelled_from c.new.ensures.grants)

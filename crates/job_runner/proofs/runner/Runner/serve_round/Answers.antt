@@ -27,7 +27,7 @@ returns-clause-going c =
     (subst (λ v. AreOrdered c.args.self.now.task_table v.items c.in_ok-ordered.ordered.items) c.replace-round.ensures.value c.in_ok-ordered.ensures.order)
     c.in_ok-given.ensures.serves refl refl c.in_ok-given.ensures.rest (let now = c.now.ensures in omega (arith, now))
     (ap (λ v. v.items) c.replace-round.ensures.after ∙ c.new.ensures.items) c.in_ok-grant_all.ensures.rest c.in_ok-grant_all.ensures.shelved
-    c.in_ok-grant_all.ensures.later
+    c.in_ok-grant_all.ensures.later c.in_ok-grant_all.ensures.recorded
     (c.in_ok-given.ensures.lent
     (c.in_ok-ordered.ensures.lent c.args.self.now.input.now
     (subst (λ v. All (IsActOf c.args.self.now.input.now) v.items) (sym c.replace-round.ensures.value) c.requires.going.lent.round)))
