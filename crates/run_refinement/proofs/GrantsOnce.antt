@@ -1,5 +1,5 @@
 -- What a round grants goes to tasks that wait for what they asked of that limiter or channel, and to each of them once.
-use Rattle.std.proofs.Common.{◌≡◌, ◌⊎◌, inl, inr, ℕ, suc, ◌+◌, ◌<◌, ◌≤◌, Bool, true, false, ◌&&◌, ◌==◌, Option, Some, None, List, [], ◌∷◌, ◌++◌, map, refl, ap, sym, ◌∙◌, subst, arith, Bor, if◌then◌else◌}
+use Rattle.std.proofs.Common.{◌≡◌, ◌⊎◌, inl, inr, ℕ, suc, ◌+◌, ◌<◌, ◌≤◌, Bool, true, false, ◌&&◌, ◌==◌, Option, Some, None, List, [], ◌∷◌, map, refl, ap, sym, ◌∙◌, subst, arith, Bor, if◌then◌else◌}
 use Rattle.std.proofs.lemmas.Bool.{eqb-true, eq-eqb}
 use Rattle.exceptions.specs.Exceptions.{Label}
 use Rattle.job_tree.specs.Tree.{Tree as Job, Steps}
@@ -7,7 +7,7 @@ use Rattle.job_tree.specs.Names.{GivesNamesOnce}
 use Rattle.job_tree.specs.Starting.{StartsInNurseries}
 use Rattle.job_tree.specs.declared.object.Ask.{Ask}
 use Rattle.cancel_scopes.specs.Tree.{outer_of}
-use Rattle.objects.specs.Held.{ObjectOf, Gets, object_in}
+use Rattle.objects.specs.Held.{Gets, object_in}
 use Rattle.objects.specs.declared.ticket.Ticket.{Ticket}
 use Rattle.std.specs.Option.{option_map}
 use Rattle.job_meaning.specs.Log.{same_label}
@@ -32,7 +32,7 @@ use Rattle.task_machine.specs.Worlds.{label_at}
 use Rattle.run_refinement.specs.RunState.{RunState, Follows, Refines}
 use Rattle.run_refinement.specs.Ready.{AllStay}
 use Rattle.run_refinement.specs.Moved.{SameTasks, ServesRound}
-use Rattle.run_refinement.specs.Sharing.{RoundAct, done_before, object_after, waits_in, waits_by, is_queued, asked_at, AsksBefore, acts_on, serve_all}
+use Rattle.run_refinement.specs.Sharing.{done_before, object_after, waits_in, waits_by, is_queued, asked_at, AsksBefore, acts_on, serve_all}
 use Rattle.run_refinement.proofs.Counts.{one_if, count, count_append, askers_in, in_object, of_asker, of_given, acts_give}
 use Rattle.run_refinement.proofs.Gone.{asked_then, all_count, sorted_count}
 use Rattle.run_refinement.proofs.LabelsApart.{below_of}
