@@ -4,6 +4,7 @@
     python3 bench/check.py BUILT CRATE                      # checks it, and keeps its library for the crates above it
     python3 bench/check.py BUILT CRATE --only CRATE::PATH   # a function, or those of a module
     python3 bench/check.py BUILT CRATE --test               # with its tests
+    python3 bench/check.py BUILT CRATE --fix-imports        # removes imports that nothing uses
 
 BUILT is the top of a checkout in which `rt ci` or bench/build.py has proved the crates below. `rt check` would check all of them again in
 a new checkout, which takes most of an hour; this takes as long as the crate alone, and after an edit only as long as what changed. A
@@ -58,6 +59,7 @@ def main():
     parser.add_argument("crate")
     parser.add_argument("--only", default=None)
     parser.add_argument("--test", action="store_true")
+    parser.add_argument("--fix-imports", action="store_true")
     asked = parser.parse_args()
     crates = dependencies()
     if asked.crate not in crates:
@@ -65,7 +67,7 @@ def main():
     folder = os.path.join(TOP, "crates", asked.crate)
     out = os.path.join(folder, "out", "checked")
     os.makedirs(out, exist_ok=True)
-    whole = asked.only is None and not asked.test
+    whole = asked.only is None and not asked.test and not asked.fix_imports
     root = "src/lib.rt" if os.path.exists(os.path.join(folder, "src", "lib.rt")) else "src/main.rt"
     words = [KIT + "/bin/rattle", "build" if whole else "check", "--crate-name", asked.crate, root]
     for name in ["std", *crates[asked.crate]]:
@@ -79,6 +81,8 @@ def main():
         words += ["--only", asked.only]
     if asked.test:
         words += ["--test"]
+    if asked.fix_imports:
+        words += ["--fix-imports"]
     elif root == "src/lib.rt":
         words += ["--incremental", os.path.join(out, "kept")]
     if whole:

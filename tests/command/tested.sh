@@ -136,7 +136,7 @@ rm both.* refused.* wait.feed wait.expect
 
 # Each line of a report and of a story is a pattern that it matches itself: none is refused.
 mkdir told
-for feed in "$top"/examples/*.feed "$top"/tests/rounds/*.feed "$top"/tests/events/*.feed "$top"/tests/ticks/*.feed "$top"/tests/limits/endless/*.feed; do
+for feed in "$top"/examples/*.feed "$top"/tests/rounds/*.feed "$top"/tests/events/*.feed "$top"/tests/sharing/*.feed "$top"/tests/ticks/*.feed "$top"/tests/limits/endless/*.feed; do
     copy=told/$(basename "$(dirname "$feed")")-$(basename "$feed" .feed)
     cp "$feed" "$copy.feed"
     touch "$copy.report" "$copy.story"

@@ -9,7 +9,7 @@ folder=$(mktemp -d)
 trap 'rm -rf "$folder"' EXIT
 
 for workers in 1 3 64; do
-    "$nursery" test examples tests/races tests/faults tests/rounds tests/events tests/ticks --workers "$workers"
+    "$nursery" test examples tests/races tests/faults tests/rounds tests/events tests/sharing tests/ticks --workers "$workers"
     "$nursery" test tests/limits/endless --limit 100 --workers "$workers"
     "$nursery" test tests/limits/again tests/limits/again_in_ticks --limit 20 --workers "$workers"
 done

@@ -5,7 +5,7 @@
     python3 tests/random/sharing_rows.py --trio
 
 Each row has the steps of a job without an input, and its records, which were worked out by hand: start, end and outcome of each task, and its
-entries. The feeds are those of format 3 in examples/, tests/events and tests/rounds, unless some are given. With `--trio`, which wants Trio, each
+entries. The feeds are those of format 3 in examples/, tests/events, tests/rounds and tests/sharing, unless some are given. With `--trio`, which wants Trio, each
 row is run in plain Trio too (against_trio.py), and its records have to be the only outcome under eight seeds. Rows that begin with `race` may
 have others, and those that begin with `own` have steps that Trio does not have.
 """
@@ -19,7 +19,7 @@ import sharing
 from reading import Reader
 
 ROOT = os.path.join(os.path.dirname(os.path.abspath(__file__)), "..", "..")
-FOLDERS = ["examples", "tests/events", "tests/rounds"]
+FOLDERS = ["examples", "tests/events", "tests/rounds", "tests/sharing"]
 
 ROWS = [
     (

@@ -1,16 +1,15 @@
 -- Worked examples of limiters and channels, each a theorem by computing. The expected records were worked out by hand.
-use Rattle.std.specs.Prelude.{◌≡◌, ℕ, zero, suc, false, None, Some, List, [], ◌∷◌, refl, codes}
-use Rattle.job_tree.specs.Tree.{Step, sleep, checkpoint, forever, raise, cancel, ask_for, close_channel, object, repeat}
+use Rattle.std.specs.Prelude.{◌≡◌, ℕ, zero, suc, None, Some, List, [], ◌∷◌, refl, codes}
+use Rattle.job_tree.specs.Tree.{Step, sleep, forever, cancel, ask_for, close_channel, object}
 use Rattle.job_tree.specs.declared.object.Ask.TheVariants.{Acquire, Send, Receive}
 use Rattle.job_tree.specs.declared.object.ObjectKind.TheVariants.{Limiter, Channel}
-use Rattle.exceptions.specs.Exceptions.{cancelled}
 use Rattle.job_meaning.specs.Log.{Result, nil, task}
 use Rattle.job_meaning.specs.Sharing.{Grants, no_grants, grants_of}
-use Rattle.job_meaning.specs.Moments.{tick_of, only_at}
+use Rattle.job_meaning.specs.Moments.{only_at}
 use Rattle.job_meaning.specs.declared.clock.Clock.TheVariants.{ByRounds as by_rounds}
 use Rattle.job_meaning.specs.Walk.{two_walks, no_stack, walk, and_then, sleep_result, pace_result, lines_result, raise_result, need_result, cancel_result, set_result, event_wait, close_result, with_token_back, ask_result, block, event_block, with_sign, nursery_result, child, handler_result, cleanup_result}
 use Rattle.job_meaning.specs.Meaning.{Record, records_of}
-use Rattle.job_meaning.specs.Examples.{block_of, scope_of, timed_scope, scope_at, timed_shield, nursery_of, start_of, try_except, label_named, raised_by, group_by, scope_caught, scope_passed, nursery_caught, nursery_passed, got, record_of, main_ran}
+use Rattle.job_meaning.specs.Examples.{block_of, timed_scope, nursery_of, start_of, label_named, raised_by, group_by, scope_caught, nursery_caught, nursery_passed, got, record_of, main_ran}
 
 -- limiter NAME N { .. }, channel NAME N { .. }
 abbrev pub limiter_of : List ℕ → ℕ → List Step → Step

@@ -1,6 +1,5 @@
 -- What limiters and channels grant, by what is done to them in a job.
 use Rattle.std.specs.Prelude.{ℕ, ◌+◌, ◌==◌, Bool, true, false, not, ◌&&◌, if◌then◌else◌, Option, Some, None, List, [], ◌∷◌, ◌++◌, nat_le, map}
-use Rattle.job_tree.specs.declared.object.Ask.{Ask}
 use Rattle.job_tree.specs.declared.object.Ask.TheVariants.{Acquire, Send, Receive}
 use Rattle.job_tree.specs.declared.object.ObjectKind.{ObjectKind}
 use Rattle.job_tree.specs.declared.object.ObjectKind.TheVariants as kinds

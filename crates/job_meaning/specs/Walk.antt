@@ -4,7 +4,6 @@ use Rattle.std.specs.Str.{bytes_eq}
 use Rattle.job_tree.specs.Tree.{Step, sleep, checkpoint, forever, pace, find, head, longest, need, raise, cancel, set_event, wait_for, ask_for, close_channel, scope, nursery, event, object, start, repeat, attempt, Steps, stop, step, Handled, unhandled, except, Cleaned, uncleaned, finally}
 use Rattle.job_tree.specs.declared.object.Ask.{Ask}
 use Rattle.job_tree.specs.declared.object.Ask.TheVariants.{Acquire, Send, Receive}
-use Rattle.job_tree.specs.declared.object.ObjectKind.{ObjectKind}
 use Rattle.input_lines.specs.Lines.{Range, Span}
 use Rattle.input_lines.specs.Cuts.{cut_of}
 use Rattle.input_lines.specs.Kernels.{found_in, head_of, longest_in, needed_in, count_in}

@@ -24,7 +24,10 @@ use Rattle.task_table.specs.TaskTable.{running_at, task_count, run_state}
 use Rattle.task_table.specs.Rows.{times}
 use Rattle.job_runner.specs.Shared.{what_of, what_if, what_or, call_by, granted_among, later_calls, ready_calls, sharing_of, IsCallOf}
 use Rattle.job_runner.specs.Shelves.{AreShelved, GoesBy, HoldsParts, IsAddedOf, IsEntryOf, IsBetweenTurns, IsCalled, IsCalledEntry, IsGoing, IsRight, IsSameJob, IsServed, IsServedIf, IsTurning, IsUnderway, IsUnserved, NoneChanged, running_times, times_shelved}
+use Rattle.job_runner.specs.Grants.{ServesRound}
 use Rattle.job_runner.specs.Steps.{SeesOnly}
+use Rattle.job_runner.specs.Turns.{Commits}
+use Rattle.task_machine.specs.declared.world.World.{World}
 use Rattle.task_table.proofs.Lists.{all_without, at_place}
 use Rattle.task_table.proofs.Times.{one_else, one_if, one_same, times_cons, times_without}
 use Rattle.job_runner.proofs.Options.{some_kept}
@@ -461,3 +464,34 @@ module _ {was r informed : Runner} (left b : Batches) (h : IsCommitting was r) (
       let c : r.turns + length r.batch.current ≡ was.turns + length was.batch.current = h.turns in
       let d : informed.turns ≡ r.turns = ap (λ (x : Runner). x.turns) only in
       omega (arith, a, c, d)
+
+-- ---- what was done in the moment is served
+
+module _ {r new : Runner} (serves : ServesRound r new) where
+  -- once it is, the run is underway
+  pub commits_served : IsGoing new → NoneChanged r.world → NonePlaced r.batch.current → r.batch.current ≡ [] → r.batch.next ≡ [] → IsUnderway new
+  commits_served going unchanged fresh none nothing =
+      record {
+        going = going;
+        unchanged = subst (λ (x : Runner). NoneChanged x.world) (sym serves.rest) unchanged;
+        unplaced = subst (λ (x : Runner). NonePlaced x.batch.current) (sym serves.rest) fresh;
+        nothing_added = ap (λ (x : Runner). x.batch.next) serves.rest ∙ nothing;
+        served =
+            subst (λ (es : List Entry). IsServedIf es new) (sym (ap (λ (x : Runner). x.batch.current) serves.rest ∙ none))
+            (record { through = serves.through ∙ ap (λ (x : Runner). suc x.world.tick) (sym serves.rest); none_done = serves.none_done });
+      }
+
+  -- and what was committed is
+  pub served_commits : {P : Type 0} {picks : P → ℕ → ℕ → P → Type 0} {was : Runner} {answers : List Answer} {before after : P} →
+      Commits picks was r answers before after → Commits picks was new answers before after
+  served_commits c = record {
+    last = c.last;
+    turns = c.turns;
+    none_left = c.none_left;
+    task_table = ap (λ (x : Runner). x.task_table) serves.rest ∙ c.task_table;
+    world =
+        subst (λ (w : World). w ≡ record c.last.world { scopes = record (c.last.world.scopes) { changed = w.scopes.changed } })
+        (sym (ap (λ (x : Runner). x.world) serves.rest)) c.world;
+    ready = ap (λ (x : Runner). x.batch.current) serves.rest ∙ c.ready;
+    moment = ap (λ (x : Runner). x.world.tick) serves.rest ∙ c.moment;
+  }

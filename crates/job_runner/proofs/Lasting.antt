@@ -5,12 +5,12 @@ use Rattle.job_tree.specs.InRange.{IsInRange}
 use Rattle.job_tree.specs.Names.{size_of}
 use Rattle.job_tree.specs.Tree.{Tree}
 use Rattle.job_meaning.specs.declared.limits.TheConstants.{MAX_INPUT}
-use Rattle.job_meaning.specs.Meaning.{meaning, meaning_end, root_here, root_walk}
-use Rattle.job_meaning.specs.Moments.{clock_of, tick_of, only_at}
+use Rattle.job_meaning.specs.Meaning.{meaning, meaning_end, meaning_grants, root_walk}
+use Rattle.job_meaning.specs.Moments.{clock_of, tick_of}
 use Rattle.job_meaning.specs.declared.clock.Clock.{Clock}
 use Rattle.job_meaning.specs.declared.clock.Clock.TheVariants.{ByTicks as by_ticks, ByRounds as by_rounds}
-use Rattle.job_meaning.specs.Walk.{two_walks, no_stack}
-use Rattle.job_meaning.proofs.Ends.{reach, span, ends_by}
+use Rattle.job_meaning.specs.Walk.{two_walks}
+use Rattle.job_meaning.proofs.Ends.{reach, root_ends_by, span}
 use Rattle.job_runner.specs.declared.fault.RunFault.{RunFault}
 use Rattle.job_runner.specs.declared.fault.RunFault.TheVariants.{Limit}
 use Rattle.job_runner.specs.Limits.{last_tick}
@@ -25,9 +25,9 @@ pub ends_by_last : (job : Tree) (input : List ℕ) → IsInRange job → length 
     meaning_end job input ≤ last_tick (clock_of job.format)
 unfolding meaning
 ends_by_last job input in_range small =
-    by_last_tick (clock_of job.format) (size_of job.steps) (root_walk two_walks job input).end
+    by_last_tick (clock_of job.format) (size_of job.steps) (root_walk (two_walks (meaning_grants job input)) job input).end
     (let size = in_range.size in let most = few_steps job.format in omega (arith, size, most))
-    (ends_by two_walks job.steps (root_here job input) no_stack (only_at 0) in_range.numbers small).end
+    (root_ends_by (two_walks (meaning_grants job input)) job input in_range small).end
 
 -- so no run is past it
 pub never_late : (job : Tree) (input : List ℕ) (clock : Clock) (last limit : ℕ) (fault : RunFault) → IsInRange job →

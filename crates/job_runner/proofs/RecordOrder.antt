@@ -24,6 +24,7 @@ use Rattle.job_runner.specs.declared.serving.RoundAct.{RoundAct}
 use Rattle.job_runner.specs.Serving.{act_of_placed, AreOrdered, ArePlaced}
 use Rattle.job_runner.specs.Shared.{round_act_of}
 use Rattle.job_runner.specs.Shelves.{IsActOf}
+use Rattle.job_runner.proofs.Filters.{all_of_map, filter_as, none_left, none_pass, one_passes}
 
 -- ---- two lists of rows
 
@@ -104,44 +105,6 @@ end_of_path (suc n) parent (suc p) = end_append 0 (suc p) (path_by n parent (par
 path_apart : (table : TaskTable) (p q : ℕ) → path_of table p ≡ path_of table q → p ≡ q
 path_apart table p q e =
     sym (end_of_path p (parent_of table) p) ∙ (ap (end_of 0) e ∙ end_of_path q (parent_of table) q)
-
--- ---- lists of acts
-
-module _ {X : Type 0} where
-  filter_as : (p q : X → Bool) (xs : List X) → All (λ (x : X). p x ≡ q x) xs → filter p xs ≡ filter q xs
-  filter_as p q [] all = refl
-  filter_as p q (x ∷ xs) all =
-      ap (λ (b : Bool). cond b (x ∷ filter p xs) (filter p xs)) (All-head (λ (y : X). p y ≡ q y) x xs all)
-      ∙ ap (λ (ys : List X). cond (q x) (x ∷ ys) ys) (filter_as p q xs (All-tail (λ (y : X). p y ≡ q y) x xs all))
-
-  none_left : (p : X → Bool) (xs : List X) → All (λ (x : X). p x ≡ false) xs → filter p xs ≡ []
-  none_left p [] all = refl
-  none_left p (x ∷ xs) all =
-      ap (λ (b : Bool). cond b (x ∷ filter p xs) (filter p xs)) (All-head (λ (y : X). p y ≡ false) x xs all)
-      ∙ none_left p xs (All-tail (λ (y : X). p y ≡ false) x xs all)
-
-  -- where none passes a test, each fails it
-  none_pass : (p : X → Bool) (xs : List X) → filter p xs ≡ [] → All (λ (x : X). p x ≡ false) xs
-  none_pass p [] e = All-nil (λ (x : X). p x ≡ false)
-  none_pass p (x ∷ xs) e = by_test (p x) refl (none_pass p xs)
-    where
-      by_test : (b : Bool) → p x ≡ b → (filter p xs ≡ [] → All (λ (y : X). p y ≡ false) xs) → All (λ (y : X). p y ≡ false) (x ∷ xs)
-      by_test true f more =
-          absurd (let g : x ∷ filter p xs ≡ [] = sym (ap (λ (b : Bool). cond b (x ∷ filter p xs) (filter p xs)) f) ∙ e in
-          let n : suc (length (filter p xs)) ≡ 0 = ap length g in omega (arith, n))
-      by_test false f more =
-          All-cons (λ (y : X). p y ≡ false) x xs f
-          (more (sym (ap (λ (b : Bool). cond b (x ∷ filter p xs) (filter p xs)) f) ∙ e))
-
-  -- one that passes it has what each has
-  one_passes : (P : X → Type 0) (p : X → Bool) (xs ys : List X) (y : X) → All P xs → filter p xs ≡ y ∷ ys → (x : X) × P x × (p x ≡ true)
-  one_passes P p [] ys y all e = absurd (let n : 0 ≡ suc (length ys) = ap length e in omega (arith, n))
-  one_passes P p (x ∷ xs) ys y all e = by_test (p x) refl (one_passes P p xs ys y (All-tail P x xs all))
-    where
-      by_test : (b : Bool) → p x ≡ b → (filter p xs ≡ y ∷ ys → (z : X) × P z × (p z ≡ true)) → (z : X) × P z × (p z ≡ true)
-      by_test true f more = (x, All-head P x xs all, f)
-      by_test false f more =
-          more (sym (ap (λ (b : Bool). cond b (x ∷ filter p xs) (filter p xs)) f) ∙ e)
 
 -- ---- acts that were sorted
 
@@ -242,8 +205,8 @@ module _ (table : TaskTable) where
     precedes_all x [] e all up = tt
     precedes_all x (z ∷ zs) e all up = (
       ap (λ (ws : List ℕ). precedes ws (path_of table z.act.row)) (sym e)
-      ∙ (ap (precedes x.path.items) (sym (All-head IsPlaced z zs all))
-      ∙ not_after x.path.items z.path.items (All-head (λ (y : PlacedAct). comes_before y x ≡ false) z zs up)),
+          ∙ (ap (precedes x.path.items) (sym (All-head IsPlaced z zs all))
+          ∙ not_after x.path.items z.path.items (All-head (λ (y : PlacedAct). comes_before y x ≡ false) z zs up)),
       precedes_all x zs e (All-tail IsPlaced z zs all) (All-tail (λ (y : PlacedAct). comes_before y x ≡ false) z zs up),
     )
 
@@ -271,15 +234,9 @@ module _ (table : TaskTable) where
     -- with the parts that they had
     pub order_lent : {round : List RoundAct} → map act_of_placed xs ≡ round → (input : List ℕ) → All (IsActOf input) round →
         All (IsActOf input) (map act_of_placed ys)
-    order_lent {round} e input all =
+    order_lent e input all =
         All-map (IsActOf input) act_of_placed ys
-        (All-permutation (λ (p : PlacedAct). IsActOf input p.act) xs ys moved (from_map xs (subst (All (IsActOf input)) (sym e) all)))
-      where
-        from_map : (zs : List PlacedAct) → All (IsActOf input) (map act_of_placed zs) → All (λ (p : PlacedAct). IsActOf input p.act) zs
-        from_map [] h = All-nil (λ (p : PlacedAct). IsActOf input p.act)
-        from_map (z ∷ zs) h =
-            All-cons (λ (p : PlacedAct). IsActOf input p.act) z zs (All-head (IsActOf input) z.act (map act_of_placed zs) h)
-            (from_map zs (All-tail (IsActOf input) z.act (map act_of_placed zs) h))
+        (All-permutation (λ (p : PlacedAct). IsActOf input p.act) xs ys moved (all_of_map (IsActOf input) act_of_placed xs (subst (All (IsActOf input)) (sym e) all)))
 
 -- ---- acts that get their places
 

@@ -33,17 +33,9 @@ use Rattle.job_runner.specs.declared.serving.Done.TheVariants.{Opens as opened, 
 use Rattle.job_runner.specs.declared.serving.RoundAct.{RoundAct}
 use Rattle.job_runner.specs.Serving.{Granting, granted_on, served_on, OthersStay, OpensIf, Opens, ServesIf, ServesDone, ServesAct, ServesActs, StayLent}
 use Rattle.job_runner.specs.Shared.{act_of, object_at, round_act_of}
-use Rattle.job_runner.specs.Shelves.{IsActOf}
+use Rattle.job_runner.proofs.Filters.{filter_again}
 
 -- ---- one act
-
-filter_again : {X : Type 0} (p : X → Bool) (xs : List X) → filter p (filter p xs) ≡ filter p xs
-filter_again p [] = refl
-filter_again {X} p (x ∷ xs) = by_test (p x) refl (filter_again p xs)
-  where
-    by_test : (b : Bool) → p x ≡ b → filter p (filter p xs) ≡ filter p xs → filter p (cond b (x ∷ filter p xs) (filter p xs)) ≡ cond b (x ∷ filter p xs) (filter p xs)
-    by_test true e h = ap (λ (c : Bool). cond c (x ∷ filter p (filter p xs)) (filter p (filter p xs))) e ∙ ap (λ (ys : List X). x ∷ ys) h
-    by_test false e h = h
 
 module _ (waits : Ticket → Bool) (who : Ticket) where
   -- what was served so

@@ -82,112 +82,7 @@ use Rattle.job_runner.proofs.Shelving.{no_timer, timer_else}
 use Rattle.job_runner.proofs.Signalled.{Woken, stay_set, known_set, timers_set}
 use Rattle.job_runner.proofs.Staying.{SameEvent, same_event, stays_still}
 use Rattle.job_runner.proofs.States.{meaning_of, meaning_settled, moment_bounded, turning_run, turning_bounded}
-
--- ---- a world from which the started tasks, the events that were set and what was done to limiters and channels were taken
-
--- another world has these
-abbrev left_of : World → World → World
-left_of w x = record w { started = x.started; set = x.set; acts = x.acts }
-
-timely_on : (w : World) (x : World) (what : Option What) (scope : Option ℕ) (task_state : TaskState) (wake : Wake) →
-    IsTimely w what scope task_state wake → IsTimely (left_of w x) what scope task_state wake
-timely_on w x what scope (ToBegin at) wake h = h
-timely_on w x what scope (Asleep paced ticks since) wakes.Due h = h
-timely_on w x what scope (Asleep paced ticks since) wakes.Seen h = h
-timely_on w x what scope (Waiting event since) wakes.Due h = h
-timely_on w x what scope (Waiting event since) wakes.Seen h = h
-timely_on w x what scope (Queued object ask since body) (wakes.Granted grant) h = h
-timely_on w x what scope (Queued object ask since body) wakes.Seen h = h
-timely_on w x what scope (Queued object ask since body) wakes.Due h = h
-timely_on w x what scope (GivingUp since) wake h = h
-timely_on w x what scope (Awaits id since) wake h = h
-timely_on w x what scope _ _ h = h
-
-goes_on : (w : World) (x : World) (what : Option What) (task : Task) (wake : Wake) → MayGo w what task wake → MayGo (left_of w x) what task wake
-goes_on w x what task wake h =
-    record { fits = h.fits; timely = timely_on w x what (scope_of task) task.task_state wake h.timely }
-
-says_on : (w : World) (x : World) (task : Task) (stop : Stop) → StopSays w task stop → StopSays (left_of w x) task stop
-says_on w x task (Ask request) h = h
-says_on w x task (Sleep due) h =
-    record {
-      paced = h.paced;
-      ticks = h.ticks;
-      task_state = h.task_state;
-      short = h.short;
-      due_is = h.due_is;
-      later = h.later;
-      unseen = h.unseen;
-    }
-says_on w x task (WaitFor event) h = record { task_state = h.task_state; set = h.set; is_event = h.is_event }
-says_on w x task (Queue request) h =
-    record {
-      body = h.body;
-      task_state = h.task_state;
-      label = h.label;
-      labelled = h.labelled;
-      buffer = h.buffer;
-      range = h.range;
-    }
-says_on w x task (GiveUp due) h = record { since = h.since; since_is = h.since_is; task_state = h.task_state; due_is = h.due_is }
-says_on w x task (Wait id) h = record { task_state = h.task_state; last = h.last }
-says_on w x task (Ended exc) h = tt
-
--- what a task asks that stopped so
-asked_same : (w : World) (s : ℕ) (task : Task) (stop : Stop) → asked_in w s stop ≡ asked_by s task (label_at w) stop
-asked_same w s task (Ask request) = refl
-asked_same w s task (Sleep due) = refl
-asked_same w s task (WaitFor event) = refl
-asked_same w s task (Queue request) = refl
-asked_same w s task (GiveUp due) = refl
-asked_same w s task (Wait id) = refl
-asked_same w s task (Ended exc) = refl
-
-asked_on : (w : World) (x : World) (s : ℕ) (stop : Stop) → asked_in (left_of w x) s stop ≡ asked_in w s stop
-asked_on w x s (Ask request) = refl
-asked_on w x s (Sleep due) = refl
-asked_on w x s (WaitFor event) = refl
-asked_on w x s (Queue request) = refl
-asked_on w x s (GiveUp due) = refl
-asked_on w x s (Wait id) = refl
-asked_on w x s (Ended exc) = refl
-
--- a task that continues in the next moment waits for no event
-continues_event : (old new : Events) (lent : Lent) (next due : ℕ) (task_state : TaskState) (call : Call) →
-    ContinuesBy lent next due task_state call → SameEvent old new task_state
-continues_event old new lent next due (Waiting event since) call h = absurd h
-continues_event old new lent next due (ToBegin at) call h = tt
-continues_event old new lent next due (Asked kernel purpose) call h = tt
-continues_event old new lent next due (Asleep paced ticks since) call h = tt
-continues_event old new lent next due (Queued object ask since body) call h = tt
-continues_event old new lent next due (GivingUp since) call h = tt
-continues_event old new lent next due (Awaits id since) call h = tt
-continues_event old new lent next due Over call h = tt
-
--- ---- before the turn
-
--- a task that has its turn now and may continue may have its turn
-pub may_turn : {id : ℕ} {r : Runner} (wake : Wake) → IsTurning id wake r → IsSound r.world.scopes →
-    (x : Running) → running_at r.task_table id ≡ Some x → MayTurn r.world x.task wake
-may_turn {id} {r} wake going sound x lives =
-    let may = some_of (running_at r.task_table id) (λ (y : Running). MayGo r.world (what_of (call_by wake)) y.task wake) x lives going.goes in
-    let c = turning_run r going in
-    let at = task_at r.task_table going.shelved.consistent.agree id x lives in
-    record {
-      fits =
-          state_fits (meaning_of r) r.job.now r.input.now r.world.tick (task_count r.task_table) None (state_turning id wake r) c sound x.row
-          x.task at;
-      in_range = (c.follows x.row x.task at).in_range;
-      wake = may.fits;
-    }
-
--- a run had at most 2,000,001 turns
-pub turns_few : {id : ℕ} {wake : Wake} (r : Runner) → IsTurning id wake r → r.turns ≤ 2000001
-turns_few r going =
-    let few = turning_bounded r going in
-    let size : size_of r.job.now.steps ≤ most_steps r.job.now.format = going.sound.in_range.size in
-    let most : most_steps r.job.now.format ≤ 1000000 = few_steps r.job.now.format in
-    omega (arith, few, size, most)
+use Rattle.job_runner.proofs.LeftWorlds.{left_of, timely_on, goes_on, says_on, asked_same, asked_on, continues_event}
 
 -- the moment and the number of tasks may be said otherwise
 stopped_in : {k : Tables} {job : Job} {input : List ℕ} {t u m n s : ℕ} {stop : Stop} {state : RunState} → t ≡ u → m ≡ n →
@@ -220,7 +115,7 @@ module _ {id : ℕ} {wake : Wake} {stop : Stop} {r after woke new : Runner} {ro 
 
     -- the same with the events as they were before the turn
     abbrev unset : World
-    unset = record w { started = after.world.started; events = r.world.events }
+    unset = record w { started = after.world.started; events = r.world.events; acts = new.world.acts }
 
     abbrev left : Runner
     left = record mid {
@@ -346,7 +241,7 @@ module _ {id : ℕ} {wake : Wake} {stop : Stop} {r after woke new : Runner} {ro 
     none_new other y differs lives = not_new other y (turn.others other differs ∙ lives)
 
     -- it lives on itself
-    its_later : Running
+    abbrev its_later : Running
     its_later = record { task = turn.after; row = s }
 
     lives_later : running_at after.task_table id ≡ Some its_later
@@ -880,74 +775,3 @@ module _ {id : ℕ} {wake : Wake} {stop : Stop} {r after woke new : Runner} {ro 
 
         parts_ready : HoldsParts (record mid { batch = after.batch; later = after.later })
         parts_ready = holds_ready ready tt parts_mid
-
--- ---- for the code
-
--- a turn is of the row that its task has
-pub row_is : {id : ℕ} {ro : TaskTable} {w : World} {wake : Wake} {stop : Stop} (r : Runner) (row : ℕ) →
-    IsSomeAnd (running_at r.task_table id) (λ (x : Running). x.row ≡ row) →
-    (turn : HasTurn r.task_table ro r.world w id wake stop) → turn.row ≡ row
-row_is {id} r row is turn =
-    some_of (running_at r.task_table id) (λ (x : Running). x.row ≡ row) (record { task = turn.before; row = turn.row }) turn.lived is
-
--- the row of a task that had its turn is one of the table's
-pub row_within : {id : ℕ} {r : Runner} {ro : TaskTable} {w : World} {wake : Wake} {stop : Stop} (row : ℕ) → IsTurning id wake r →
-    IsSomeAnd (running_at r.task_table id) (λ (x : Running). x.row ≡ row) →
-    HasTurn r.task_table ro r.world w id wake stop → row < task_count ro
-row_within {id} {r} {ro} row going is turn =
-    let e = row_is r row is turn in
-    let lt : turn.row < task_count r.task_table =
-    row_below r.task_table going.shelved.consistent.agree id (record { task = turn.before; row = turn.row }) turn.lived in
-    let same : task_count ro ≡ task_count r.task_table = turn.same.many in
-    omega (arith, e, lt, same)
-
--- after a turn each task that has a timer lives
-pub timers_live : {id : ℕ} {r : Runner} {ro : TaskTable} {w : World} {wake : Wake} {stop : Stop} → IsTurning id wake r →
-    HasTurn r.task_table ro r.world w id wake stop → (key due : ℕ) → due_of r.clock key ≡ Some due → IsSome (running_at ro key)
-timers_live {r = r} going turn key due e =
-    let y = some_is (running_at r.task_table key) (λ (z : Running). Stays r.world due z.task) (going.shelved.stay key due e) in
-    ap is_some (turn.others key (timer_else going.shelved key due e) ∙ y.1)
-
--- and the clock shows the world's moment, which is not too late
-pub turn_now : {id : ℕ} {r : Runner} {ro : TaskTable} {w : World} {wake : Wake} {stop : Stop} → IsTurning id wake r →
-    HasTurn r.task_table ro r.world w id wake stop → now_of r.clock ≡ w.tick
-turn_now going turn = going.shelved.consistent.now ∙ sym (ap (λ (x : World). x.tick) turn.keeps.world)
-
-pub turn_bounded : {id : ℕ} {r : Runner} {ro : TaskTable} {w : World} {wake : Wake} {stop : Stop} → IsTurning id wake r →
-    HasTurn r.task_table ro r.world w id wake stop → w.tick ≤ 2 ^ 62
-turn_bounded going turn =
-    let same = ap (λ (x : World). x.tick) turn.keeps.world in
-    rw same (moment_bounded going.shelved.consistent)
-
--- after the started tasks were taken, the clock still shows the world's moment
-pub started_now : (r : Runner) {after : Runner} {ro : TaskTable} {w : World} {turns row : ℕ} →
-    TakesStarted (record r { world = w; task_table = ro; turns = turns }) after row → now_of r.clock ≡ w.tick →
-    now_of after.clock ≡ after.world.tick
-started_now r takes now = ap (λ (x : Runner). now_of x.clock) takes.ready.rest ∙ now ∙ sym (ap (λ (x : World). x.tick) takes.world)
-
--- which is not too late
-pub started_bounded : (r : Runner) {after : Runner} {ro : TaskTable} {w : World} {turns row : ℕ} →
-    TakesStarted (record r { world = w; task_table = ro; turns = turns }) after row → w.tick ≤ 2 ^ 62 → after.world.tick ≤ 2 ^ 62
-started_bounded r takes bounded = let same = ap (λ (x : World). x.tick) takes.world in rw same bounded
-
--- and each task that waits for an event has a timer
-pub started_timed : {id : ℕ} {wake : Wake} {r after : Runner} {ro : TaskTable} {w : World} {turns row : ℕ} → IsTurning id wake r →
-    TakesStarted (record r { world = w; task_table = ro; turns = turns }) after row → (key event : ℕ) →
-    event_in after.waiters key ≡ Some event → IsSome (due_of after.clock key)
-started_timed going takes key event e =
-    let z = waiter_in going.shelved.known key event (ap (λ (x : Runner). event_in x.waiters key) (sym takes.ready.rest) ∙ e) in
-    ap is_some (readied_timer takes.ready key ∙ z.timer)
-
--- after a turn whose started tasks, events that were set and acts on limiters and channels were taken, its task is one that stopped so
-pub goes_stopping : {id : ℕ} {r after woke new : Runner} {ro : TaskTable} {w : World} {wake : Wake} {stop : Stop} (row : ℕ) →
-    IsTurning id wake r → IsSomeAnd (running_at r.task_table id) (λ (x : Running). x.row ≡ row) →
-    (turn : HasTurn r.task_table ro r.world w id wake stop) → IsSound r.world.scopes → IsSound w.scopes →
-    TakesStarted (record r { world = w; task_table = ro; turns = r.turns + 1 }) after row → TakesSet after woke → TakesActs woke new row →
-    IsStopping id row stop new
-goes_stopping {r = r} row going is turn sound sound_after takes sets acts =
-    let e = row_is r row is turn in
-    rw (← e) (is_stopping going turn sound sound_after (rw e takes) sets (rw e acts))
-
--- a tree is sound if its stacks are chains that begin with their own scopes, each once
-pub scopes_sound : {tree other : Tree} → tree ≡ other → IsOwn tree → IsChain tree → IsApart tree → IsSound other
-scopes_sound e own chain apart = rw (← e) (record { own = own; chain = chain; apart = apart })

@@ -15,7 +15,7 @@ use Rattle.task_table.specs.TaskTable.{running_at, HasTurn}
 use Rattle.job_runner.specs.declared.runner.Runner.{Runner}
 use Rattle.job_runner.specs.Steps.{TakesStarted, TakesSet, TakesActs, SeesOnly}
 use Rattle.job_runner.specs.Turns.{GoesOn, ComesOf, TakesTurn, TakesTurns, no_turn, and_turn, with_answers, Commits}
-use Rattle.job_runner.proofs.Turning.{row_is}
+use Rattle.job_runner.proofs.TurnsTaken.{row_is}
 
 -- a task that had its turn, and whose started tasks, events that were set and acts were taken, continued
 pub goes_on : {id : ℕ} {r woken new : Runner} {ro : TaskTable} {w : World} {wake : Wake} {stop : Stop} (row : ℕ) (after : Runner) →

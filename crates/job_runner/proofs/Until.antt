@@ -106,7 +106,7 @@ queued_now u t s since saw is before to (inr now) =
     ]
 
 -- a task that is among some has what each of these has
-one_among : (P : Added → Type 0) (id : ℕ) (xs : List Added) → All P xs → 1 ≤ times_next id xs → (a : Added) × P a × (a.0 ≡ id)
+pub one_among : (P : Added → Type 0) (id : ℕ) (xs : List Added) → All P xs → 1 ≤ times_next id xs → (a : Added) × P a × (a.0 ≡ id)
 one_among P id [] all some = absurd (let none : times_next id [] ≡ 0 = refl in omega (arith, some, none))
 one_among P id (x ∷ xs) all some =
     let step : times id (x.0 ∷ map (λ (a : Added). a.0) xs) ≡ one_if (x.0 == id) + times_next id xs =

@@ -1,4 +1,4 @@
-ghost use Rattle.std.specs.Prelude.{◌≡◌, ℕ, ◌+◌, ◌≤◌, ◌<◌, ◌^◌, None, Some, [], ◌∷◌, IsSome, IsSomeAnd, IfOk, OnOk, length};
+ghost use Rattle.std.specs.Prelude.{◌≡◌, ℕ, ◌+◌, ◌≤◌, ◌<◌, ◌^◌, None, Some, [], ◌∷◌, IsSome, IsSomeAnd, IfOk, MatchBool, OnOk, length};
 ghost use Rattle.clock.specs.Clock.{now_of, due_of};
 ghost use Rattle.task_table.specs.Entries.{requests_of};
 ghost use Rattle.job_meaning.specs.declared.limits.TheConstants.{MAX_INPUT};
@@ -163,10 +163,22 @@ impl<'a> Runner<'a> {
         }
         runner.see_changed()?;
         runner.batch.turn_over();
-        if runner.batch.is_empty() && runner.through <= runner.world.now() {
-            runner.serve_round()?;
+        if !runner.has_to_serve() {
+            return Ok(runner);
         }
+        runner.serve_round()?;
         Ok(runner)
+    }
+
+    // Whether no task is ready in this moment any more, and what was done in it to limiters and channels is not served yet.
+    fn has_to_serve(&self) -> bool
+        ensures { MatchBool result ((self.now.batch.current ≡ []) × (self.now.through ≤ self.now.world.tick))
+            (self.now.batch.current ≡ [] → self.now.world.tick < self.now.through) }
+    {
+        if !self.batch.is_empty() {
+            return false;
+        }
+        self.through <= self.world.now()
     }
 
     // The sleepers are updated with each effective deadline (`sight`) that a cancellation lowered.

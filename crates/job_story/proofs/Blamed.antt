@@ -1,16 +1,17 @@
 -- The scope or nursery that a story names for a cancellation is the one that the task sees.
 use Rattle.std.proofs.Common.{◌≡◌, ℕ, true≢false, Bool, true, false, Option, Some, None, [], ◌∷◌, refl, ap, sym, ◌∙◌, subst, ◌⊎◌, inl, inr, arith}
 use Rattle.std.proofs.lemmas.Bool.Decides.{nat_tests}
-use Rattle.std.specs.Prelude.{nat_lt, if◌then◌else◌}
+use Rattle.std.specs.Prelude.{nat_le, nat_lt, if◌then◌else◌}
+use Rattle.job_tree.specs.declared.object.Ask.{Ask}
 use Rattle.exceptions.specs.Exceptions.{Label}
 use Rattle.cancel_scopes.specs.Sight.{Tick, earlier, sight}
 use Rattle.job_meaning.specs.Log.{Table}
 use Rattle.job_meaning.specs.Moments.{Now, only_at}
 use Rattle.job_meaning.specs.declared.clock.Clock.{Clock}
 use Rattle.job_meaning.specs.Walk.{Levels, no_stack}
-use Rattle.job_story.specs.Story.{During, at_checkpoint, sleeping, waiting_for, Happening, enters_event, finds, misses, raises, handles, cleans, replaces, Story, happened, then_story}
-use Rattle.job_story.specs.Tell.{is_from, seer, story_of_one, root_scene, tale_by}
-use Rattle.job_story.specs.Blame.{IsInnermost, IsRaisedAt, IsBlamed, AllBlamed}
+use Rattle.job_story.specs.Story.{During, at_checkpoint, sleeping, waiting_for, in_queue, before_asking, Happening, enters_event, enters_object, gives_token_back, closes_channel, finds, misses, raises, handles, cleans, replaces, Story, happened, then_story}
+use Rattle.job_story.specs.Tell.{is_from, seer, blamed_at, story_of_one, root_scene, tale_by}
+use Rattle.job_story.specs.Blame.{IsInnermost, IsRaisedAt, IsBlamed, IsBlamedIfNamed, AllBlamed}
 use Rattle.job_story.specs.LawsOfCauses.{CancellationsAreSeen}
 use Rattle.job_story.proofs.Telling.{then_assoc, then_no_more, IsPlain, left_in, IsOf, IsKept, kept_tell}
 
@@ -68,6 +69,24 @@ blamed table st t from during of e when =
     let named = seer_is table st from of e in
     record { label = named.0; from = from; named = named.1; in_table = named.2; seen = e; innermost = named.3; raised = when }
 
+-- a task that does not ask: where the story names a scope or nursery, that is the one whose cancellation is seen
+unasked : (table : Table) (st : Levels) (t : ℕ) (ask : Ask) (label : Label) → IsOf table st →
+    IsBlamedIfNamed table st t (blamed_at st t (sight st)) (before_asking ask label)
+unasked table st t ask label of = by_seen (sight st) refl
+  where
+    if_named : (o : Option Label) → IsBlamed table st t o (before_asking ask label) → IsBlamedIfNamed table st t o (before_asking ask label)
+    if_named None b = tt
+    if_named (Some l) b = b
+
+    by_reached : (from : ℕ) (b : Bool) → nat_le from t ≡ b → sight st ≡ Some from →
+        IsBlamedIfNamed table st t (if b then seer st from else None) (before_asking ask label)
+    by_reached from true reached e = if_named (seer st from) (blamed table st t from (before_asking ask label) of e (grind (arith, nat_tests)))
+    by_reached from false missed e = tt
+
+    by_seen : (from : Tick) → sight st ≡ from → IsBlamedIfNamed table st t (blamed_at st t from) (before_asking ask label)
+    by_seen None e = tt
+    by_seen (Some from) e = by_reached from (nat_le from t) refl e
+
 -- ---- the stories of a walk
 
 -- a story whose cancellations name what they should, before any rest whose cancellations do
@@ -82,6 +101,9 @@ leads_plain table st now (raises name) plain of rest h = (tt, h)
 leads_plain table st now (handles matched left) plain of rest h = (tt, h)
 leads_plain table st now (cleans exc) plain of rest h = (tt, h)
 leads_plain table st now (replaces lost fresh) plain of rest h = (tt, h)
+leads_plain table st now (enters_object kind label) plain of rest h = (tt, h)
+leads_plain table st now (gives_token_back label) plain of rest h = (tt, h)
+leads_plain table st now (closes_channel label) plain of rest h = (tt, h)
 leads_plain table st now _ plain of rest h = absurd plain
 
 leads : (table : Table) (clock : Clock) → IsKept clock table (Leads table)
@@ -101,6 +123,14 @@ leads table clock =
       checked = λ st now label set of rest h. (tt, h);
       expected = λ st now u label is le of rest h. (tt, (tt, h));
       given_up = λ st now from label c e lt before of rest h. (tt, (blamed table st from from (waiting_for label now.at) of e (lt, refl), h));
+      unasked = λ st now ask label c of rest h. (unasked table st now.at ask label of, h);
+      granted = λ st now got label asked is of rest h. (tt, h);
+      closed = λ st now got label asked is of rest h. (tt, h);
+      granted_later = λ st now g ask got label lent lt of rest h. (tt, (tt, h));
+      closed_later = λ st now g ask got label lent lt of rest h. (tt, (tt, h));
+      left_queue = λ st now from ask label lent c e lt of rest h.
+          (tt, (blamed table st from from (in_queue ask label now.at) of e (lt, refl), h));
+      deadlocked = λ st now u ask label lent lt of rest h. (tt, (tt, h));
       blocked = λ st now last kind label d shield inside a f of rest h. (
         tt,
         subst (AllBlamed table _) (sym (then_assoc a _ rest))
@@ -112,8 +142,8 @@ leads table clock =
 
 pub cancellations_are_seen : CancellationsAreSeen
 unfolding tale_by
-cancellations_are_seen table job input = (
-  subst (AllBlamed table []) (then_no_more (tale_by table job input).story)
-      (kept_tell table (λ c. Leads table) (leads table) job.steps (root_scene job input) no_stack (only_at 0) tt tt _ tt),
+cancellations_are_seen k job input = (
+  subst (AllBlamed k.cancelled_from []) (then_no_more (tale_by k job input).story)
+      (kept_tell k (λ c. Leads k.cancelled_from) (leads k.cancelled_from) job.steps (root_scene job input) no_stack (only_at 0) tt tt _ tt),
   tt,
 )

@@ -7,14 +7,16 @@ use Rattle.exceptions.specs.Exceptions.{Label, Exc}
 use Rattle.exceptions.specs.Held.{exc_of}
 use Rattle.cancel_scopes.specs.Sight.{Tick, catches}
 use Rattle.job_tree.specs.Tree.{Steps}
+use Rattle.job_tree.specs.declared.object.ObjectKind.{ObjectKind}
 use Rattle.job_meaning.specs.Log.{Table}
+use Rattle.job_meaning.specs.Tables.{Tables}
 use Rattle.job_meaning.specs.Moments.{tick_of, Now}
 use Rattle.job_meaning.specs.declared.clock.Clock.{Clock}
 use Rattle.job_meaning.specs.Walk.{Kind, Levels, Stack, Left, from_for, stack_for, left_with, exc_after}
 use Rattle.job_story.specs.Events.{event, starts, ends}
 use Rattle.job_story.specs.Held.{event_of}
-use Rattle.job_story.specs.Story.{Tale, enters, enters_event, leaves, waits}
-use Rattle.job_story.specs.Tell.{Scene, story_of_one, tell, tell_block, tell_event, tell_left, tell_wait, tell_gathered, tell_child}
+use Rattle.job_story.specs.Story.{Tale, enters, enters_event, enters_object, leaves, waits}
+use Rattle.job_story.specs.Tell.{Scene, story_of_one, tell, tell_block, tell_event, tell_object, tell_left, tell_wait, tell_gathered, tell_child}
 use Rattle.job_story.specs.declared.event.Event as held
 use Rattle.job_story.specs.declared.progress.Progress.{Progress}
 use Rattle.job_story.specs.declared.stretch.Stretch.{Stretch}
@@ -94,6 +96,19 @@ tells_event me a b d table label m inside w h k =
       own = k.own;
     }
 
+-- a limiter or channel is entered, and its inside walked
+pub tells_object : (me : Label) (a b : List held.Event) (d : Progress) (table : Table) (kind : ObjectKind) (label : Label) (m : ℕ)
+    (inside : Tick → Tale) (w : Stretch) →
+    Adds me a b (story_of_one m (enters_object kind label)) → Tells me b w d (inside (table label)) →
+    Tells me a w d (tell_object table kind label m inside)
+unfolding tell_object
+tells_object me a b d table kind label m inside w h k =
+    record {
+      stretch = stretch_like w (inside (table label)) (tell_object table kind label m inside) k.stretch refl refl refl;
+      events = adds_then me a b d.events.items _ (inside (table label)).story h k.events;
+      own = k.own;
+    }
+
 -- a task is started, and walked up to its end
 pub tells_child : (me l : Label) (home : Option Label) (scene : Scene) (begins : ℕ) (tale : Tale) (here : Now) (a b : List held.Event)
     (c d : Progress) (stretch w : Stretch) →
@@ -114,7 +129,7 @@ tells_child me l home scene begins tale here a b c d stretch w first h last own 
     }
 
 -- the same steps, walked where the input is the same
-pub tells_in : (me : Label) (a : List held.Event) (b : Progress) (w : Stretch) (k : Table) (ss : Steps) (clock : Clock) (x y : List ℕ)
+pub tells_in : (me : Label) (a : List held.Event) (b : Progress) (w : Stretch) (k : Tables) (ss : Steps) (clock : Clock) (x y : List ℕ)
     (p : Range) (l : Label) (in_cleanup : Bool) (st : Stack) (now : Now) → x ≡ y →
     Tells me a w b (tell k ss
     (record { here = record { clock = clock; input = x; part = p; task = l; path = l.indices }; in_cleanup = in_cleanup }) st now) →
@@ -131,7 +146,7 @@ scene_on clock l in_cleanup x p path =
     record { here = record { clock = clock; input = x; part = p; task = l; path = path }; in_cleanup = in_cleanup }
 
 -- the same steps on an equal part of an equal buffer, with an equal path
-pub tells_on : (me : Label) (a : List held.Event) (b : Progress) (w : Stretch) (k : Table) (ss : Steps) (clock : Clock) (l : Label)
+pub tells_on : (me : Label) (a : List held.Event) (b : Progress) (w : Stretch) (k : Tables) (ss : Steps) (clock : Clock) (l : Label)
     (in_cleanup : Bool) (st : Stack) (now : Now) (x y : List ℕ) (p q : Range) (is js : List ℕ) → x ≡ y → p ≡ q → is ≡ js →
     Tells me a w b (tell k ss (scene_on clock l in_cleanup x p is) st now) →
     Tells me a w b (tell k ss (scene_on clock l in_cleanup y q js) st now)
@@ -141,7 +156,7 @@ tells_on me a b w k ss clock l in_cleanup st now x y p q is js e f g h =
     (subst (λ (path : List ℕ). Tells me a w b (tell k ss (scene_on clock l in_cleanup x p path) st now)) g h))
 
 -- equal steps, walked from an equal moment
-pub tells_at : (me : Label) (a : List held.Event) (b : Progress) (w : Stretch) (k : Table) (ss body : Steps) (scene : Scene) (st : Stack)
+pub tells_at : (me : Label) (a : List held.Event) (b : Progress) (w : Stretch) (k : Tables) (ss body : Steps) (scene : Scene) (st : Stack)
     (u v : Now) →
     ss ≡ body → u ≡ v →
     Tells me a w b (tell k ss scene st u) → Tells me a w b (tell k body scene st v)

@@ -1,4 +1,4 @@
--- Every cancellation of a job's story by a settled table has a cause.
+-- Every cancellation of a job's story by settled tables that names a scope or nursery has a cause.
 use Rattle.std.proofs.Common.{◌≡◌, ℕ, ◌+◌, true≢false, Bool, true, false, Option, Some, None, List, [], ◌∷◌, refl, ap, sym, ◌∙◌, subst, ◌⊎◌, inl, inr, arith}
 use Rattle.std.proofs.lemmas.Bool.Decides.{nat_tests}
 use Rattle.std.specs.Prelude.{◌==◌, is_some, if◌then◌else◌}
@@ -7,20 +7,21 @@ use Rattle.job_tree.specs.Names.{GivesNamesOnce}
 use Rattle.input_lines.specs.Lines.{Span}
 use Rattle.exceptions.specs.Exceptions.{Label, Exc}
 use Rattle.cancel_scopes.specs.Sight.{Tick, earlier, next}
-use Rattle.job_meaning.specs.Log.{Result, Log, nil, entry, sign, entered, task, followed_by, tick_if, least_sign, either, deadline_if, deadline_of, entered_from, Table, same_label}
-use Rattle.job_meaning.specs.Walk.{Levels, Kind, by_table, log_of_lines, sign_if}
+use Rattle.job_meaning.specs.Log.{Result, Log, nil, entry, sign, entered, act, task, followed_by, tick_if, least_sign, either, deadline_if, deadline_of, entered_from, Table, same_label}
+use Rattle.job_meaning.specs.Walk.{Levels, Kind, log_of_lines, sign_if}
+use Rattle.job_meaning.specs.Tables.{Tables, by_tables}
 use Rattle.job_meaning.specs.Meaning.{root_label}
 use Rattle.job_meaning.specs.Follow.{follow, IsSettled}
 use Rattle.job_meaning.proofs.Distinct.{same_label_equal, same_label_itself}
 use Rattle.job_meaning.proofs.Touched.{Gives, either_nothing, deadline_followed, least_followed, no_deadline}
 use Rattle.job_meaning.proofs.Once.{GivesOnce, job_gives_once}
-use Rattle.job_story.specs.Story.{Happening, enters, enters_event, is_cancelled, finds, cancels, sets, waits, Story, no_more, happened, started, erased_one, erased_log}
+use Rattle.job_story.specs.Story.{During, at_checkpoint, sleeping, waiting_for, in_queue, before_asking, Happening, enters, enters_event, is_cancelled, finds, cancels, sets, enters_object, gets, finds_closed, closes_channel, waits, Story, no_more, happened, started, erased_one, erased_log}
 use Rattle.job_story.specs.Tell.{is_from, tale_by, story_by}
 use Rattle.job_story.specs.Events.{What, happens, ends, Event, event, events_of}
 use Rattle.job_story.specs.Causes.{Cause, by_deadline, by_task, by_set, Entering, entering_by, entering_of, is_label, cause_by, cause_if, cause_in, or_later, signed_by, cause_by_entering, cause_from, cause_of}
 use Rattle.job_story.specs.Sentences.{job_events}
-use Rattle.job_story.specs.Blame.{IsBlamedIn, AllBlamed, open_after}
-use Rattle.job_story.specs.Shown.{IsIn, IsEntered, HasACause}
+use Rattle.job_story.specs.Blame.{IsBlamedFor, IsBlamedIn, AllBlamed, open_after}
+use Rattle.job_story.specs.Shown.{IsIn, IsEntered, IsCaused, HasACauseFor, HasACause}
 use Rattle.job_story.specs.LawsOfCauses.{CancelledFromHasCauses, CancellationsHaveCauses}
 use Rattle.job_story.proofs.Erasing.{telling_is_following}
 use Rattle.job_story.proofs.Blamed.{is_from_itself, earlier_is, cancellations_are_seen}
@@ -35,6 +36,7 @@ EnteredIn l d nil = ⊥
 EnteredIn l d (entry t e rest) = EnteredIn l d rest
 EnteredIn l d (sign m t rest) = EnteredIn l d rest
 EnteredIn l d (entered m t x rest) = ((l ≡ m) × (d ≡ x)) ⊎ EnteredIn l d rest
+EnteredIn l d (act m t a rest) = EnteredIn l d rest
 EnteredIn l d (task m s u e own rest) = EnteredIn l d own ⊎ EnteredIn l d rest
 
 entered_first : (l : Label) (d : Tick) (a b : Log) → EnteredIn l d a → EnteredIn l d (followed_by a b)
@@ -43,6 +45,7 @@ entered_first l d (entry t e rest) b h = entered_first l d rest b h
 entered_first l d (sign m t rest) b h = entered_first l d rest b h
 entered_first l d (entered m t x rest) b (inl e) = inl e
 entered_first l d (entered m t x rest) b (inr h) = inr (entered_first l d rest b h)
+entered_first l d (act m t a rest) b h = entered_first l d rest b h
 entered_first l d (task m s u e own rest) b (inl h) = inl h
 entered_first l d (task m s u e own rest) b (inr h) = inr (entered_first l d rest b h)
 
@@ -51,6 +54,7 @@ entered_second l d nil b h = h
 entered_second l d (entry t e rest) b h = entered_second l d rest b h
 entered_second l d (sign m t rest) b h = entered_second l d rest b h
 entered_second l d (entered m t x rest) b h = inr (entered_second l d rest b h)
+entered_second l d (act m t a rest) b h = entered_second l d rest b h
 entered_second l d (task m s u e own rest) b h = inr (entered_second l d rest b h)
 
 entered_gives : (l : Label) (d : Tick) (a : Log) → EnteredIn l d a → Gives l a
@@ -59,6 +63,7 @@ entered_gives l d (entry t e rest) h = entered_gives l d rest h
 entered_gives l d (sign m t rest) h = entered_gives l d rest h
 entered_gives l d (entered m t x rest) (inl e) = inl e.0
 entered_gives l d (entered m t x rest) (inr h) = inr (entered_gives l d rest h)
+entered_gives l d (act m t a rest) h = entered_gives l d rest h
 entered_gives l d (task m s u e own rest) (inl h) = inr (inl (entered_gives l d own h))
 entered_gives l d (task m s u e own rest) (inr h) = inr (inr (entered_gives l d rest h))
 
@@ -78,6 +83,7 @@ entered_deadline l d (entered m t x rest) once (inr h) = by_test (same_label l m
     by_test true same others =
         absurd (once.0 (subst (λ (y : Label). Gives y rest) (same_label_equal l m same) (entered_gives l d rest h)))
     by_test false differs others = others
+entered_deadline l d (act m t a rest) once h = entered_deadline l d rest once h
 entered_deadline l d (task m s u e own rest) once (inl h) =
     ap (λ (o : Option Tick). either o (deadline_of l rest)) (entered_deadline l d own once.1 h)
 entered_deadline l d (task m s u e own rest) once (inr h) =
@@ -94,6 +100,13 @@ entered_past l d t (cancels None) r h = h
 entered_past l d t (cancels (Some m)) r h = h
 entered_past l d t (sets None) r h = h
 entered_past l d t (sets (Some m)) r h = h
+entered_past l d t (enters_object kind label) r h = inr h
+entered_past l d t (gets ask label None) r h = h
+entered_past l d t (gets ask label (Some asked)) r h = h
+entered_past l d t (finds_closed ask label None) r h = h
+entered_past l d t (finds_closed ask label (Some asked)) r h = h
+entered_past l d t (closes_channel None) r h = h
+entered_past l d t (closes_channel (Some label)) r h = h
 entered_past l d t (waits nursery None) r h = h
 entered_past l d t (waits nursery (Some e)) r h = h
 entered_past l d t _ r h = h
@@ -136,7 +149,7 @@ sign_deadline l (Some e) (Some m) t = refl
 abbrev EntersIt : Label → Tick → Happening → Type 0
 EntersIt l d what = (kind : Kind) × (shield : Bool) × (enters kind l d shield ≡ what)
 
--- an event is entered with no deadline
+-- an event, a limiter or a channel is entered with no deadline
 deadline_past : (l : Label) (f t : ℕ) (what : Happening) (r : Log) → deadline_of l (erased_one t what r) ≡ Some (Some f) →
     EntersIt l (Some f) what ⊎ (deadline_of l r ≡ Some (Some f))
 deadline_past l f t (enters kind label x shield) r h = by_test (same_label l label) refl h
@@ -160,6 +173,18 @@ deadline_past l f t (cancels None) r h = inr h
 deadline_past l f t (cancels (Some m)) r h = inr h
 deadline_past l f t (sets None) r h = inr h
 deadline_past l f t (sets (Some m)) r h = inr h
+deadline_past l f t (enters_object kind label) r h = by_test (same_label l label) h
+  where
+    by_test : (b : Bool) → either (deadline_if b None) (deadline_of l r) ≡ Some (Some f) →
+        EntersIt l (Some f) (enters_object kind label) ⊎ (deadline_of l r ≡ Some (Some f))
+    by_test true k = absurd (cc)
+    by_test false k = inr k
+deadline_past l f t (gets ask label None) r h = inr h
+deadline_past l f t (gets ask label (Some asked)) r h = inr h
+deadline_past l f t (finds_closed ask label None) r h = inr h
+deadline_past l f t (finds_closed ask label (Some asked)) r h = inr h
+deadline_past l f t (closes_channel None) r h = inr h
+deadline_past l f t (closes_channel (Some label)) r h = inr h
 deadline_past l f t (waits nursery None) r h = inr h
 deadline_past l f t (waits nursery (Some e)) r h = inr h
 deadline_past l f t _ r h = inr h
@@ -239,6 +264,12 @@ sign_past l u t me (sets (Some m)) r h = by_test (same_label l m) h
         by_earlier (inl e) = inl (some_is t u e, by_set me t, refl)
         by_earlier (inr e) = inr e
     by_test false k = inr k
+sign_past l u t me (gets ask label None) r h = inr h
+sign_past l u t me (gets ask label (Some asked)) r h = inr h
+sign_past l u t me (finds_closed ask label None) r h = inr h
+sign_past l u t me (finds_closed ask label (Some asked)) r h = inr h
+sign_past l u t me (closes_channel None) r h = inr h
+sign_past l u t me (closes_channel (Some label)) r h = inr h
 sign_past l u t me (waits nursery None) r h = inr h
 sign_past l u t me (waits nursery (Some exc)) r h = by_test (same_label l nursery) h
   where
@@ -378,34 +409,34 @@ by_due (Some x) l from es h f =
 
 -- ---- the story of a job
 
-module _ (table : Table) (job : Tree) (input : List ℕ) where
+module _ (k : Tables) (job : Tree) (input : List ℕ) where
   abbrev pub own_log : Log
-  own_log = erased_log (tale_by table job input).story
+  own_log = erased_log (tale_by k job input).story
 
   abbrev pub walked : List Event
-  walked = events_of (root_label job.name) (story_by table job input)
+  walked = events_of (root_label job.name) (story_by k job input)
 
-  module _ (once : GivesNamesOnce job) (settled : IsSettled table job input) where
-    log_is : own_log ≡ (follow table job input).log
-    log_is = ap (λ (r : Result). r.log) (telling_is_following table job input)
+  module _ (once : GivesNamesOnce job) (settled : IsSettled k.cancelled_from k.granted job input) where
+    log_is : own_log ≡ (follow k.cancelled_from k.granted job input).log
+    log_is = ap (λ (r : Result). r.log) (telling_is_following k job input)
 
     own_once : GivesOnce own_log
     unfolding follow
-    own_once = subst GivesOnce (sym log_is) (job_gives_once (by_table table) job input once)
+    own_once = subst GivesOnce (sym log_is) (job_gives_once (by_tables k) job input once)
 
     -- the events of the root are its start, those of its own story, and its end
-    from_own : (x : Event) → IsIn x (events_of (root_label job.name) (tale_by table job input).story) → IsIn x walked
-    from_own x i = inr (append_left x (events_of (root_label job.name) (tale_by table job input).story) _ i)
+    from_own : (x : Event) → IsIn x (events_of (root_label job.name) (tale_by k job input).story) → IsIn x walked
+    from_own x i = inr (append_left x (events_of (root_label job.name) (tale_by k job input).story) _ i)
 
     root_entered : (l : Label) (d : Tick) (t : ℕ) (who : Label) (kind : Kind) (shield : Bool) →
         IsIn (event t who (happens (enters kind l d shield))) walked → EnteredIn l d own_log
     root_entered l d t who kind shield (inl e) = absurd (no_start (enters kind l d shield) _ _ (ap (λ (x : Event). x.what) e))
-    root_entered l d t who kind shield (inr i) = by_part (in_append _ (events_of (root_label job.name) (tale_by table job input).story) _ i)
+    root_entered l d t who kind shield (inr i) = by_part (in_append _ (events_of (root_label job.name) (tale_by k job input).story) _ i)
       where
-        by_part : IsIn (event t who (happens (enters kind l d shield))) (events_of (root_label job.name) (tale_by table job input).story)
+        by_part : IsIn (event t who (happens (enters kind l d shield))) (events_of (root_label job.name) (tale_by k job input).story)
             ⊎ IsIn (event t who (happens (enters kind l d shield)))
-            (event (tale_by table job input).end (root_label job.name) (ends None (tale_by table job input).exc) ∷ []) → EnteredIn l d own_log
-        by_part (inl j) = event_entered (root_label job.name) (tale_by table job input).story l d t who kind shield j
+            (event (tale_by k job input).end (root_label job.name) (ends None (tale_by k job input).exc) ∷ []) → EnteredIn l d own_log
+        by_part (inl j) = event_entered (root_label job.name) (tale_by k job input).story l d t who kind shield j
         by_part (inr (inl e)) = absurd (no_end (enters kind l d shield) _ _ (ap (λ (x : Event). x.what) e))
         by_part (inr (inr j)) = absurd j
 
@@ -422,17 +453,17 @@ module _ (table : Table) (job : Tree) (input : List ℕ) where
 
       -- A label that is cancelled has a cause in these events, if they have all of the moment before, and the entering of the label if that has
       -- a deadline which cancels it.
-      pub cause_among : (l : Label) (from : ℕ) → table l ≡ Some from → ((x : Event) → IsIn x walked → x.tick + 1 ≡ from → IsIn x es) →
-          (deadline_of l own_log ≡ Some (Some from) → is_some (entering_of l es) ≡ true) → is_some (cause_of table es l) ≡ true
+      pub cause_among : (l : Label) (from : ℕ) → k.cancelled_from l ≡ Some from → ((x : Event) → IsIn x walked → x.tick + 1 ≡ from → IsIn x es) →
+          (deadline_of l own_log ≡ Some (Some from) → is_some (entering_of l es) ≡ true) → is_some (cause_of k.cancelled_from es l) ≡ true
       cause_among l from in_table before enters_it =
           ap (λ (f : Tick). is_some (cause_from f l es)) in_table
           ∙ by_deadline_of (deadline_of l own_log) refl
-          (ap (λ (log : Log). entered_from (deadline_of l log) (least_sign l log)) log_is ∙ (sym (settled l) ∙ in_table))
+          (ap (λ (log : Log). entered_from (deadline_of l log) (least_sign l log)) log_is ∙ (sym (settled.froms l) ∙ in_table))
         where
           signed : (s : Tick) → least_sign l own_log ≡ s → next s ≡ Some from → is_some (cause_by_entering (entering_of l es) l from es) ≡ true
           signed None is h = absurd (cc)
           signed (Some u) is h =
-              let e = sign_event (root_label job.name) (tale_by table job input).story l u is in
+              let e = sign_event (root_label job.name) (tale_by k job input).story l u is in
               let at : e.0.tick + 1 ≡ from = ap (λ (n : ℕ). n + 1) e.2 ∙ some_is (u + 1) from h in
               by_sign (entering_of l es) l from es (signed_found l from es e.0 e.3 (before e.0 (from_own e.0 e.1) at) at e.4)
 
@@ -448,25 +479,67 @@ module _ (table : Table) (job : Tree) (input : List ℕ) where
           by_deadline_of None is h = absurd (cc)
           by_deadline_of (Some d) is h = by_either d is (earlier_is d (next (least_sign l own_log)) from h)
 
-    cause_there : (l : Label) (from : ℕ) → table l ≡ Some from → is_some (cause_of table (job_events table job input) l) ≡ true
+    cause_there : (l : Label) (from : ℕ) → k.cancelled_from l ≡ Some from → is_some (cause_of k.cancelled_from (job_events k job input) l) ≡ true
     cause_there l from in_table =
-        cause_among (job_events table job input) (λ x i. from_order x walked i) l from in_table (λ x i at. to_order x walked i)
+        cause_among (job_events k job input) (λ x i. from_order x walked i) l from in_table (λ x i at. to_order x walked i)
         (λ is.
-        let e = deadline_event (root_label job.name) (tale_by table job input).story l from is in
-        entering_found l (job_events table job input) _ e.kind (Some from) e.shield (to_order _ walked (from_own _ e.entered)) refl)
+        let e = deadline_event (root_label job.name) (tale_by k job input).story l from is in
+        entering_found l (job_events k job input) _ e.kind (Some from) e.shield (to_order _ walked (from_own _ e.entered)) refl)
 
 pub cancelled_from_has_causes : CancelledFromHasCauses
-cancelled_from_has_causes table job input l from once settled in_table = cause_there table job input once settled l from in_table
+cancelled_from_has_causes k job input l from once settled in_table = cause_there k job input once settled l from in_table
 
 -- ---- the cancellations of a story
 
+-- what holds of the scope or nursery that a cancellation names: a task that does not ask need not name one
+abbrev pub IfNamed : (Option Label → Type 0) → Option Label → During → Type 0
+IfNamed P None (before_asking ask label) = Unit {0}
+IfNamed P by during = P by
+
+pub if_some : (P : Option Label → Type 0) (by : Option Label) (during : During) (l : Label) → by ≡ Some l → P by → IfNamed P by during
+if_some P None during l e h = absurd (cc)
+if_some P (Some m) during l e h = h
+
+pub if_named : (P Q : Option Label → Type 0) → ((by : Option Label) → P by → Q by) → (by : Option Label) (during : During) →
+    IfNamed P by during → IfNamed Q by during
+if_named P Q f None at_checkpoint h = f None h
+if_named P Q f None (sleeping since) h = f None h
+if_named P Q f None (waiting_for label since) h = f None h
+if_named P Q f None (in_queue ask label since) h = f None h
+if_named P Q f None (before_asking ask label) h = tt
+if_named P Q f (Some l) during h = f (Some l) h
+
+pub cause_for : (table : Table) (all : List Event) (by : Option Label) (during : During) → IfNamed (IsCaused table all) by during →
+    HasACauseFor table all by during
+cause_for table all None at_checkpoint h = h
+cause_for table all None (sleeping since) h = h
+cause_for table all None (waiting_for label since) h = h
+cause_for table all None (in_queue ask label since) h = h
+cause_for table all None (before_asking ask label) h = tt
+cause_for table all (Some l) during h = h
+
 -- a cancellation names a label that the table cancels
+abbrev IsNamedBy : Table → Option Label → Type 0
+IsNamedBy table by = (l : Label) × (by ≡ Some l) × (from : ℕ) × (table l ≡ Some from)
+
 abbrev IsNamed : Table → What → Type 0
-IsNamed table (happens (is_cancelled by during in_cleanup)) = (l : Label) × (by ≡ Some l) × (from : ℕ) × (table l ≡ Some from)
+IsNamed table (happens (is_cancelled by during in_cleanup)) = IfNamed (IsNamedBy table) by during
 IsNamed table _ = Unit {0}
 
+named_for : (table : Table) (st : Levels) (t : ℕ) (by : Option Label) (during : During) → IsBlamedFor table st t by during →
+    IfNamed (IsNamedBy table) by during
+named_for table st t by at_checkpoint b = if_some (IsNamedBy table) by at_checkpoint b.label b.named (b.label, b.named, b.from, b.in_table)
+named_for table st t by (sleeping since) b =
+    if_some (IsNamedBy table) by (sleeping since) b.label b.named (b.label, b.named, b.from, b.in_table)
+named_for table st t by (waiting_for label since) b =
+    if_some (IsNamedBy table) by (waiting_for label since) b.label b.named (b.label, b.named, b.from, b.in_table)
+named_for table st t by (in_queue ask label since) b =
+    if_some (IsNamedBy table) by (in_queue ask label since) b.label b.named (b.label, b.named, b.from, b.in_table)
+named_for table st t None (before_asking ask label) b = tt
+named_for table st t (Some l) (before_asking ask label) b = (b.label, b.named, b.from, b.in_table)
+
 one_named : (table : Table) (st : Levels) (t : ℕ) (what : Happening) → IsBlamedIn table st t what → IsNamed table (happens what)
-one_named table st t (is_cancelled by during in_cleanup) b = (b.label, b.named, b.from, b.in_table)
+one_named table st t (is_cancelled by during in_cleanup) b = named_for table st t by during b
 one_named table st t _ b = tt
 
 all_named : (table : Table) (st : Levels) (me : Label) (s : Story) → AllBlamed table st s → (x : Event) → IsIn x (events_of me s) →
@@ -487,11 +560,19 @@ all_named table st me (started m home part s u exc own rest) h x (inr i) =
     by_part (inr (inr j)) f g = g j
 
 pub cancellations_have_causes : CancellationsHaveCauses
-cancellations_have_causes table job input once settled e i =
+cancellations_have_causes k job input once settled e i =
     by_what e.what
-    (all_named table [] (root_label job.name) (story_by table job input) (cancellations_are_seen table job input) e
-    (from_order e (events_of (root_label job.name) (story_by table job input)) i))
+    (all_named k.cancelled_from [] (root_label job.name) (story_by k job input) (cancellations_are_seen k job input) e
+    (from_order e (events_of (root_label job.name) (story_by k job input)) i))
   where
-    by_what : (w : What) → IsNamed table w → HasACause table (job_events table job input) w
-    by_what (happens (is_cancelled by during in_cleanup)) h = (h.0, h.1, cause_there table job input once settled h.0 h.2 h.3)
+    all : List Event
+    all = job_events k job input
+
+    caused : (by : Option Label) → IsNamedBy k.cancelled_from by → IsCaused k.cancelled_from all by
+    caused by h = (h.0, h.1, cause_there k job input once settled h.0 h.2 h.3)
+
+    by_what : (w : What) → IsNamed k.cancelled_from w → HasACause k.cancelled_from all w
+    by_what (happens (is_cancelled by during in_cleanup)) h =
+        cause_for k.cancelled_from all by during
+        (if_named (IsNamedBy k.cancelled_from) (IsCaused k.cancelled_from all) caused by during h)
     by_what _ h = tt

@@ -1,26 +1,31 @@
--- A story with everything erased that a log does not contain is the log of following the table.
-use Rattle.std.proofs.Common.{◌≡◌, ℕ, zero, suc, ◌-◌, ◌≤◌, true≢false, Bool, true, false, Option, Some, None, List, refl, ap, sym, ◌∙◌, arith}
+-- A story with everything erased that a log does not contain is the log of following the tables.
+use Rattle.std.proofs.Common.{◌≡◌, ℕ, zero, suc, ◌-◌, ◌≤◌, codes, true≢false, Bool, true, false, Option, Some, None, List, refl, ap, sym, ◌∙◌, arith}
 use Rattle.std.proofs.lemmas.Bool.Decides.{nat_tests}
 use Rattle.std.specs.Prelude.{nat_le, nat_lt, max, if◌then◌else◌}
-use Rattle.job_tree.specs.Tree.{Step, sleep, checkpoint, forever, pace, find, head, longest, need, raise, cancel, set_event, wait_for, scope, nursery, event, start, repeat, attempt, Steps, stop, step, Handled, unhandled, except, Cleaned, uncleaned, finally}
+use Rattle.job_tree.specs.Tree.{Step, sleep, checkpoint, forever, pace, find, head, longest, need, raise, cancel, set_event, wait_for, ask_for, close_channel, scope, nursery, event, object, start, repeat, attempt, Steps, stop, step, Handled, unhandled, except, Cleaned, uncleaned, finally}
+use Rattle.job_tree.specs.declared.object.Ask.{Ask}
+use Rattle.job_tree.specs.declared.object.ObjectKind.{ObjectKind}
+use Rattle.job_tree.specs.declared.object.Ask.TheVariants.{Acquire, Send, Receive}
 use Rattle.input_lines.specs.Lines.{Span}
 use Rattle.input_lines.specs.Cuts.{cut_of}
-use Rattle.exceptions.specs.Exceptions.{Label, Exc, cancelled}
+use Rattle.exceptions.specs.Exceptions.{Label, Exc, cancelled, raised}
 use Rattle.exceptions.specs.Split.{Wanted, named, keep, drop}
-use Rattle.cancel_scopes.specs.Sight.{Tick, Level, sight, catches}
-use Rattle.job_meaning.specs.Log.{waited, Log, nil, entry, entered, task, followed_by, Result, Table}
+use Rattle.cancel_scopes.specs.Sight.{Tick, Level, sight, seen, is_reached, catches}
+use Rattle.job_meaning.specs.Log.{waited, was_granted, opens, asks, Log, nil, entry, entered, task, followed_by, Result}
+use Rattle.job_meaning.specs.Sharing.{What, a_token, was_sent, a_part, closed_resource, end_of_channel, Granted}
+use Rattle.job_meaning.specs.Tables.{Tables, by_tables}
 use Rattle.job_meaning.specs.Follow.{follow}
 use Rattle.job_meaning.specs.Meaning.{root_log, root_label}
 use Rattle.job_meaning.specs.Moments.{tick_of, a_round_after, wakes_at, gives_up_at, Now, only_at, far}
 use Rattle.job_meaning.specs.declared.clock.Clock.{Clock}
-use Rattle.job_meaning.specs.Walk.{Levels, Stack, no_stack, by_table, Here, walk, walk_step, walk_handler, walk_cleanup, in_sequence, then_if, and_then, done_at, raised_at, wait_by_sight, wait_until, set_moment, with_line_if, event_wait, sleep_result, pace_result, log_of_lines, lines_result, raise_result, need_result, sign_of, cancel_result, set_result, Kind, from_for, stack_for, exit_with_from, left_with, block, event_block, event_result, sign_if, home_of, with_sign, nursery_result, child, each, passes, handler_result, cleanup_result, with_outcome, handler_exc, label_here, label_over, stack_inside, stack_in_event, here_in, cuts_over, in_pass}
+use Rattle.job_meaning.specs.Walk.{Levels, Stack, no_stack, Mode, by_table, Here, walk, walk_step, walk_handler, walk_cleanup, in_sequence, then_if, and_then, done_at, raised_at, wait_by_sight, wait_until, set_moment, with_line_if, event_wait, sleep_result, pace_result, log_of_lines, lines_result, raise_result, need_result, sign_of, cancel_result, set_result, Kind, from_for, stack_for, exit_with_from, left_with, block, event_block, event_result, with_act, close_result, with_token_back, last_grant, leaves_queue, in_time, left_result, granted_result, asked_result, asks_in, ask_result, sign_if, home_of, with_sign, nursery_result, child, each, passes, handler_result, cleanup_result, with_outcome, handler_exc, label_here, label_over, stack_inside, stack_in_event, here_in, cuts_over, in_pass}
 use Rattle.job_meaning.specs.Walk as walks
 use Rattle.job_meaning.proofs.MomentLemmas.{round_after}
 use Rattle.job_meaning.proofs.Finish.{followed_assoc}
 use Rattle.job_meaning.proofs.Clips.{followed_nil}
 use Rattle.job_meaning.proofs.Settled.{settled_is_meaning}
-use Rattle.job_story.specs.Story.{at_checkpoint, waiting_for, Happening, enters, enters_event, sleeps, is_cancelled, finds, misses, raises, cancels, sets, awaits, was_set, handles, cleans, replaces, waits, leaves, Story, no_more, happened, started, then_story, erased_one, erased_log, Tale, result_of}
-use Rattle.job_story.specs.Tell.{Scene, ended_at, now_of, story_of_one, and_tale, tale_if, then_tale, failed_at, after_this, seer, asleep_for, during_sleep, tell_slept, tell_sleep, tell_pace, tell_waiting, with_set_if, tell_event_wait, tell_lines, tell_need, tell_raise, tell_cancel, tell_set, tell_left, tell_block, tell_event, tell_wait, tell_gathered, tell_child, tell_each, tell_passes, handled_if, handled_exc, tell_handled, replacement, cleaned_by, tell_cleaned, at_place, tell, tell_step, tell_handler, tell_cleanup, root_scene, tale_by}
+use Rattle.job_story.specs.Story.{at_checkpoint, waiting_for, in_queue, Asked, Happening, enters, enters_event, sleeps, is_cancelled, finds, misses, raises, cancels, sets, awaits, was_set, enters_object, queues, gets, finds_closed, deadlocks, gives_token_back, closes_channel, handles, cleans, replaces, waits, leaves, Story, no_more, happened, started, then_story, erased_ask, erased_one, erased_log, Tale, result_of}
+use Rattle.job_story.specs.Tell.{Scene, ended_at, now_of, story_of_one, and_tale, tale_if, then_tale, failed_at, after_this, seer, asleep_for, during_sleep, tell_slept, tell_sleep, tell_pace, tell_waiting, with_set_if, tell_event_wait, tell_lines, tell_need, tell_raise, tell_cancel, tell_set, tell_left, tell_block, tell_event, tell_object, tell_close, with_token_told, tell_left_queue, tell_granted, queues_if, asked_if, tell_got, tell_asked, tell_asks, tell_unasked, tell_ask, tell_wait, tell_gathered, tell_child, tell_each, tell_passes, handled_if, handled_exc, tell_handled, replacement, cleaned_by, tell_cleaned, at_place, tell, tell_step, tell_handler, tell_cleanup, root_scene, tale_by}
 use Rattle.job_story.specs.Laws.{TellingIsFollowing, StoriesAreTrue}
 
 -- ---- stories, one after another
@@ -38,6 +43,16 @@ erased_before t (cancels label) a b = followed_assoc (sign_of label t) a b
 erased_before t (sets label) a b = followed_assoc (sign_of label t) a b
 erased_before t (awaits label) a b = refl
 erased_before t (was_set label) a b = refl
+erased_before t (enters_object kind label) a b = refl
+erased_before t (queues ask label part left) a b = refl
+erased_before t (gets ask label None) a b = refl
+erased_before t (gets ask label (Some asked)) a b = refl
+erased_before t (finds_closed ask label None) a b = refl
+erased_before t (finds_closed ask label (Some asked)) a b = refl
+erased_before t (deadlocks ask label) a b = refl
+erased_before t (gives_token_back label) a b = refl
+erased_before t (closes_channel None) a b = refl
+erased_before t (closes_channel (Some label)) a b = refl
 erased_before t (handles matched left) a b = refl
 erased_before t (cleans exc) a b = refl
 erased_before t (replaces lost fresh) a b = refl
@@ -220,22 +235,114 @@ set_step_is clock (Some l) now = refl
 
 -- ---- blocks
 
-block_is : (clock : Clock) (table : Table) (kind : Kind) (label : Label) (m : ℕ) (d : Tick) (shield : Bool) (st : Stack) (inside : Tick → Tale)
+block_is : (clock : Clock) (k : Tables) (kind : Kind) (label : Label) (m : ℕ) (d : Tick) (shield : Bool) (st : Stack) (inside : Tick → Tale)
     (walked : Tick → Result) → ((f : Tick) → result_of (inside f) ≡ walked f) →
-    result_of (tell_block clock table kind label m d shield st.scopes inside) ≡ block clock (by_table table) kind label m d shield st walked
+    result_of (tell_block clock k.cancelled_from kind label m d shield st.scopes inside)
+    ≡ block clock (by_tables k) kind label m d shield st walked
 unfolding tell_block block
-block_is clock table kind label m d shield st inside walked h =
-    let a = inside (table label) in
+block_is clock k kind label m d shield st inside walked h =
+    let from = k.cancelled_from label in
+    let a = inside from in
     with_log
     (tell_left clock kind label m d shield
-    (left_with (catches (from_for a.own a.end label (table label)) shield (stack_for a.own a.end st.scopes) a.end) a.exc) a) _
+    (left_with (catches (from_for a.own a.end label from) shield (stack_for a.own a.end st.scopes) a.end) a.exc) a) _
     (ap (λ (x : Log). entered label m d x) (erased_then a.story _))
-    ∙ ap (λ (r : Result). exit_with_from clock kind label m d shield st (table label) r) (h (table label))
+    ∙ ap (λ (r : Result). exit_with_from clock kind label m d shield st from r) (h from)
 
-event_is : (table : Table) (label : Label) (m : ℕ) (inside : Tick → Tale) (walked : Tick → Result) → ((f : Tick) → result_of (inside f) ≡ walked f) →
-    result_of (tell_event table label m inside) ≡ event_block (by_table table) label m walked
+event_is : (k : Tables) (label : Label) (m : ℕ) (inside : Tick → Tale) (walked : Tick → Result) → ((f : Tick) → result_of (inside f) ≡ walked f) →
+    result_of (tell_event k.cancelled_from label m inside) ≡ event_block (by_tables k) label m walked
 unfolding tell_event event_block
-event_is table label m inside walked h = ap (λ (r : Result). event_result label m r) (h (table label))
+event_is k label m inside walked h = ap (λ (r : Result). event_result label m r) (h (k.cancelled_from label))
+
+-- ---- limiters and channels
+
+object_is : (k : Tables) (kind : ObjectKind) (label : Label) (m : ℕ) (inside : Tick → Tale) (walked : Tick → Result) →
+    ((f : Tick) → result_of (inside f) ≡ walked f) →
+    result_of (tell_object k.cancelled_from kind label m inside) ≡ with_act label m (opens kind) (event_block (by_tables k) label m walked)
+unfolding tell_object event_block
+object_is k kind label m inside walked h =
+    ap (λ (r : Result). with_act label m (opens kind) (event_result label m r)) (h (k.cancelled_from label))
+
+close_is : (label : Option Label) (now : Now) → result_of (tell_close label now) ≡ close_result label now
+unfolding tell_close close_result
+close_is None now = refl
+close_is (Some l) now = refl
+
+token_is : (label : Label) (a : Tale) (r : Result) → result_of a ≡ r → result_of (with_token_told label a) ≡ with_token_back label r
+unfolding with_token_told with_token_back
+token_is label a r e =
+    with_log (with_token_told label a) _ (erased_then a.story (story_of_one a.end (gives_token_back label)))
+    ∙ ap (λ (x : Result). with_token_back label x) e
+
+-- what was asked at once is in the log before what was granted
+abbrev with_ask : Label → Option Asked → Result → Result
+with_ask label asked r = record r { log = erased_ask label asked r.log }
+
+left_queue_is : (ask : Ask) (label : Label) (scene : Scene) (levels : Levels) (m left : ℕ) →
+    result_of (tell_left_queue ask label scene levels m left) ≡ left_result scene.here (sight levels) left
+left_queue_is ask label scene levels m left = by_sight (is_reached (sight levels) left)
+  where
+    by_sight : (b : Bool) →
+        result_of (if b
+        then failed_at cancelled (only_at left) (story_of_one left (is_cancelled (seer levels left) (in_queue ask label m) scene.in_cleanup))
+        else failed_at (raised (codes "Deadlock") scene.here.task (tick_of scene.here.clock left)) (only_at left)
+        (story_of_one left (deadlocks ask label)))
+        ≡ (if b then raised_at cancelled (only_at left)
+        else raised_at (raised (codes "Deadlock") scene.here.task (tick_of scene.here.clock left)) (only_at left))
+    by_sight true = refl
+    by_sight false = refl
+
+granted_is : (label : Label) (here : Here) (g : ℕ) (what : What) (asked : Option Asked) (go : Here → Now → Tale) (walked : Here → Now → Result) →
+    ((inner : Here) (later : Now) → result_of (go inner later) ≡ walked inner later) →
+    result_of (tell_granted label here g what asked go) ≡ with_ask label asked (granted_result label here g what walked)
+granted_is label here g a_token asked go walked h =
+    ap (λ (r : Result). with_ask label asked (record r { log = entry g (was_granted Acquire label) r.log }))
+    (token_is label (go here (only_at g)) (walked here (only_at g)) (h here (only_at g)))
+granted_is label here g was_sent asked go walked h =
+    ap (λ (r : Result). with_ask label asked (record r { log = entry g (was_granted Send label) r.log })) (h here (only_at g))
+granted_is label here g (a_part lent) asked go walked h =
+    ap (λ (r : Result). with_ask label asked (record r { log = entry g (was_granted Receive label) r.log }))
+    (h (record here { part = lent }) (only_at g))
+granted_is label here g closed_resource asked go walked h = refl
+granted_is label here g end_of_channel asked go walked h = refl
+
+got_is : (ask : Ask) (label : Label) (here : Here) (m : ℕ) (g : Granted) (go : Here → Now → Tale) (walked : Here → Now → Result) →
+    ((inner : Here) (later : Now) → result_of (go inner later) ≡ walked inner later) →
+    result_of (tell_got ask label here m g go) ≡ with_act label m (asks ask here.part None) (granted_result label here g.at g.what walked)
+got_is ask label here m g go walked h = by_round (nat_le g.at (suc m))
+  where
+    by_round : (b : Bool) →
+        (let a = tell_granted label here g.at g.what (asked_if b ask m here.part) go in
+        result_of (record a { story = then_story (queues_if b ask label here.part m) a.story }))
+        ≡ with_act label m (asks ask here.part None) (granted_result label here g.at g.what walked)
+    by_round true = granted_is label here g.at g.what (asked_if true ask m here.part) go walked h
+    by_round false = ap (λ (r : Result). with_act label m (asks ask here.part None) r) (granted_is label here g.at g.what None go walked h)
+
+asked_is : (ask : Ask) (label : Label) (scene : Scene) (levels : Levels) (m left : ℕ) (o : Option Granted) (go : Here → Now → Tale)
+    (walked : Here → Now → Result) → ((inner : Here) (later : Now) → result_of (go inner later) ≡ walked inner later) →
+    result_of (tell_asked ask label scene levels m left o go) ≡ asked_result ask label scene.here (sight levels) m left o walked
+asked_is ask label scene levels m left None go walked h =
+    ap (λ (r : Result). with_act label m (asks ask scene.here.part (Some left)) r) (left_queue_is ask label scene levels m left)
+asked_is ask label scene levels m left (Some g) go walked h = got_is ask label scene.here m g go walked h
+
+ask_is : (k : Tables) (ask : Ask) (label : Option Label) (scene : Scene) (st : Stack) (now : Now) (go : Here → Now → Tale)
+    (walked : Here → Now → Result) → ((inner : Here) (later : Now) → result_of (go inner later) ≡ walked inner later) →
+    result_of (tell_ask k ask label scene st.scopes now go) ≡ ask_result (by_tables k) ask label scene.here st now walked
+unfolding tell_ask ask_result
+ask_is k ask None scene st now go walked h = refl
+ask_is k ask (Some label) scene st now go walked h = by_sight (seen (stack_for now.own now.at st.scopes) now.at)
+  where
+    by_sight : (b : Bool) →
+        result_of (if b then tell_unasked ask label scene st.scopes (gives_up_at scene.here.clock 0 now.at)
+        else tell_asks k ask label scene st.scopes now.at go)
+        ≡ (if b then raised_at cancelled (only_at (gives_up_at scene.here.clock 0 now.at))
+        else asks_in (by_tables k) ask label scene.here st now.at walked)
+    by_sight true = refl
+    by_sight false =
+        let left = leaves_queue (sight st.scopes) (last_grant scene.here.clock now.at) in
+        asked_is ask label scene st.scopes now.at left (in_time now.at left (k.granted label scene.here.task now.at)) go walked h
+
+-- ---- nurseries and started tasks
 
 wait_is : (label : Label) (shield : Bool) (from : Tick) (st : Stack) (a : Tale) (r : Result) → result_of a ≡ r →
     result_of (tell_wait label a) ≡ with_sign (stack_inside label shield from st) r
@@ -316,15 +423,15 @@ mutual
   unfolding tell walk
 
   -- the story of the steps of a block is the log of walking them
-  pub tell_is : (k : Table) (b : Steps) (scene : Scene) (st : Stack) (now : Now) →
-      result_of (tell k b scene st now) ≡ walk (by_table k) b scene.here st now
+  pub tell_is : (k : Tables) (b : Steps) (scene : Scene) (st : Stack) (now : Now) →
+      result_of (tell k b scene st now) ≡ walk (by_tables k) b scene.here st now
   tell_is k stop scene st now = refl
   tell_is k (step s ss) scene st now =
-      then_is (tell_step k s scene st now) (walk_step (by_table k) s scene.here st now) (λ later. tell k ss scene st later)
-      (λ later. walk (by_table k) ss scene.here st later) (step_is k s scene st now) (λ later. tell_is k ss scene st later)
+      then_is (tell_step k s scene st now) (walk_step (by_tables k) s scene.here st now) (λ later. tell k ss scene st later)
+      (λ later. walk (by_tables k) ss scene.here st later) (step_is k s scene st now) (λ later. tell_is k ss scene st later)
 
-  pub step_is : (k : Table) (s : Step) (scene : Scene) (st : Stack) (now : Now) →
-      result_of (tell_step k s scene st now) ≡ walk_step (by_table k) s scene.here st now
+  pub step_is : (k : Tables) (s : Step) (scene : Scene) (st : Stack) (now : Now) →
+      result_of (tell_step k s scene st now) ≡ walk_step (by_tables k) s scene.here st now
   step_is k (sleep n) scene st now = sleep_is scene.here.clock st scene.in_cleanup _ n now.at
   step_is k checkpoint scene st now = sleep_is scene.here.clock st scene.in_cleanup _ 0 now.at
   step_is k forever scene st now =
@@ -338,6 +445,9 @@ mutual
   step_is k (cancel name) scene st now = cancel_is scene.here.clock _ now
   step_is k (set_event name) scene st now = set_step_is scene.here.clock _ now
   step_is k (wait_for name) scene st now = event_wait_is scene.here.clock st scene.in_cleanup _ now
+  step_is k (ask_for name ask body) scene st now =
+      ask_is k ask _ scene st now _ _ (λ inner later. tell_is k body (at_place inner scene) st later)
+  step_is k (close_channel name) scene st now = close_is _ now
   step_is k (scope name d shield fail body) scene st now =
       block_is scene.here.clock k _ (label_here name scene.here) now.at _ shield st _ _
       (λ f. tell_is k body scene (stack_inside (label_here name scene.here) shield f st) now)
@@ -348,6 +458,9 @@ mutual
       (tell_is k body scene (stack_inside (label_here name scene.here) shield f st) now)))
   step_is k (event name body) scene st now =
       event_is k (label_here name scene.here) now.at _ _
+      (λ f. tell_is k body scene (stack_in_event (label_here name scene.here) f st) now)
+  step_is k (object name kind body) scene st now =
+      object_is k kind (label_here name scene.here) now.at _ _
       (λ f. tell_is k body scene (stack_in_event (label_here name scene.here) f st) now)
   step_is k (start name None body) scene st now =
       let inner = at_place (here_in (label_here name scene.here) scene.here.part scene.here) scene in
@@ -363,13 +476,13 @@ mutual
   step_is k (attempt body handler cleanup) scene st now =
       cleanup_is k cleanup scene st _ _ (handler_is k handler scene st _ _ (tell_is k body scene st now))
 
-  pub handler_is : (k : Table) (x : Handled) (scene : Scene) (st : Stack) (a : Tale) (r : Result) → result_of a ≡ r →
-      result_of (tell_handler k x scene st a) ≡ walk_handler (by_table k) x scene.here st r
+  pub handler_is : (k : Tables) (x : Handled) (scene : Scene) (st : Stack) (a : Tale) (r : Result) → result_of a ≡ r →
+      result_of (tell_handler k x scene st a) ≡ walk_handler (by_tables k) x scene.here st r
   handler_is k unhandled scene st a r e = e
   handler_is k (except name body) scene st a r e = handled_is (named name) a r _ _ e (λ later. tell_is k body scene st later)
 
-  cleanup_is : (k : Table) (x : Cleaned) (scene : Scene) (st : Stack) (a : Tale) (r : Result) → result_of a ≡ r →
-      result_of (tell_cleanup k x scene st a) ≡ walk_cleanup (by_table k) x scene.here st r
+  cleanup_is : (k : Tables) (x : Cleaned) (scene : Scene) (st : Stack) (a : Tale) (r : Result) → result_of a ≡ r →
+      result_of (tell_cleanup k x scene st a) ≡ walk_cleanup (by_tables k) x scene.here st r
   cleanup_is k uncleaned scene st a r e = e
   cleanup_is k (finally body) scene st a r e =
       cleaned_is a r _ _ e (λ later. tell_is k body (record scene { in_cleanup = true }) st later)
@@ -378,14 +491,14 @@ mutual
 
 pub telling_is_following : TellingIsFollowing
 unfolding tale_by follow
-telling_is_following table job input = tell_is table job.steps (root_scene job input) no_stack (only_at 0)
+telling_is_following k job input = tell_is k job.steps (root_scene job input) no_stack (only_at 0)
 
--- so the story by a settled table is the log of the meaning
+-- so the story by settled tables is the log of the meaning
 pub stories_are_true : StoriesAreTrue
-stories_are_true table job input once settled =
-    let e = telling_is_following table job input ∙ settled_is_meaning table job input once settled in
-    ap (λ (x : Log). task (root_label job.name) 0 (tale_by table job input).end (tale_by table job input).exc x nil)
-    (followed_by_none (tale_by table job input).exc (erased_log (tale_by table job input).story) (tale_by table job input).end)
+stories_are_true k job input once in_range small settled =
+    let e = telling_is_following k job input ∙ settled_is_meaning k.cancelled_from k.granted job input once in_range small settled in
+    let a = tale_by k job input in
+    ap (λ (x : Log). task (root_label job.name) 0 a.end a.exc x nil) (followed_by_none a.exc (erased_log a.story) a.end)
     ∙ ap (λ (r : Result). root_log job r) e
   where
     followed_by_none : (o : Option Exc) (a : Log) (t : ℕ) → followed_by a (sign_if o None t) ≡ a

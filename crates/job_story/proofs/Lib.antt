@@ -20,4 +20,5 @@ pub mod Going
 pub mod Steps
 pub mod Passing
 pub mod Waited
+pub mod Queued
 pub mod Rooted

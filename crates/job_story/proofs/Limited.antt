@@ -1,8 +1,11 @@
--- Every cancellation of a job's story up to a limit, by a settled table, has a cause in the events up to the limit.
-use Rattle.std.proofs.Common.{◌≡◌, ℕ, ◌≤◌, true≢false, Bool, true, false, Some, List, [], ◌∷◌, ◌++◌, refl, ap, sym, ◌∙◌, subst, ◌⊎◌, inl, inr, arith}
+-- Every cancellation of a job's story up to a limit, by settled tables, has a cause in the events up to the limit if it names a scope or
+-- nursery.
+use Rattle.std.proofs.Common.{◌≡◌, ℕ, suc, ◌<◌, ◌≤◌, true≢false, Bool, true, false, Option, Some, None, List, [], ◌∷◌, ◌++◌, refl, ap, sym, ◌∙◌, subst, ◌⊎◌, inl, inr, arith}
 use Rattle.std.proofs.lemmas.Bool.Decides.{nat_tests}
 use Rattle.std.specs.Prelude.{is_some, nat_le, if◌then◌else◌}
 use Rattle.job_tree.specs.Tree.{Tree}
+use Rattle.job_tree.specs.declared.object.Ask.{Ask}
+use Rattle.job_meaning.specs.Tables.{Tables}
 use Rattle.exceptions.specs.Exceptions.{Label}
 use Rattle.cancel_scopes.specs.Sight.{Tick, sight}
 use Rattle.job_meaning.specs.Log.{Table}
@@ -13,18 +16,18 @@ use Rattle.job_meaning.specs.Walk.{Levels, no_stack, Kind}
 use Rattle.job_meaning.specs.Meaning.{root_label}
 use Rattle.job_meaning.proofs.Distinct.{OnLevels}
 use Rattle.job_meaning.proofs.MomentLemmas.{round_after}
-use Rattle.job_story.specs.Story.{During, at_checkpoint, sleeping, waiting_for, Happening, enters, enters_event, sleeps, is_cancelled, finds, misses, raises, awaits, was_set, handles, cleans, replaces, Story, no_more, happened, started, then_story}
-use Rattle.job_story.specs.Tell.{story_of_one, seer, root_scene, tale_by, story_by}
+use Rattle.job_story.specs.Story.{During, at_checkpoint, sleeping, waiting_for, in_queue, before_asking, Happening, enters, enters_event, enters_object, queues, gets, finds_closed, deadlocks, gives_token_back, closes_channel, sleeps, is_cancelled, finds, misses, raises, awaits, was_set, handles, cleans, replaces, Story, no_more, happened, started, then_story}
+use Rattle.job_story.specs.Tell.{story_of_one, seer, blamed_at, root_scene, tale_by, story_by}
 use Rattle.job_story.specs.Events.{What, starts, happens, ends, Event, event, events_of, in_order}
 use Rattle.job_story.specs.Causes.{cause_of}
 use Rattle.job_story.specs.Limit.{by_limit, walked_to}
 use Rattle.job_story.specs.Blame.{levels_inside, IsInnermost}
-use Rattle.job_story.specs.Shown.{IsIn, HasACause}
+use Rattle.job_story.specs.Shown.{IsIn, IsCaused, HasACause}
 use Rattle.job_story.specs.LawsOfCauses.{CancellationsHaveCausesByLimit}
 use Rattle.job_story.proofs.Telling.{IsPlain, left_in, Passes, IsOf, IsKept, kept_tell}
 use Rattle.job_story.proofs.Blamed.{seer_is}
 use Rattle.job_story.proofs.Members.{in_append, append_left, append_right, from_order, to_order}
-use Rattle.job_story.proofs.Caused.{walked, entering_found, cause_among}
+use Rattle.job_story.proofs.Caused.{walked, entering_found, cause_among, IfNamed, if_some, if_named, cause_for}
 
 -- ---- the events up to a limit
 
@@ -111,9 +114,11 @@ on_stack l from (k ∷ ks) (inl h) = inl h.0
 on_stack l from (k ∷ ks) (inr h) = inr (on_stack l from ks h.2)
 
 -- a cancellation in moment t names a label that is cancelled from then on or before, and was entered by then
+abbrev IsCoveredBy : Table → List Event → ℕ → Option Label → Type 0
+IsCoveredBy table all t by = (l : Label) × (by ≡ Some l) × (from : ℕ) × (table l ≡ Some from) × (from ≤ t) × BeganBy l t all
+
 abbrev IsCovered : Table → List Event → ℕ → What → Type 0
-IsCovered table all t (happens (is_cancelled by during in_cleanup)) =
-    (l : Label) × (by ≡ Some l) × (from : ℕ) × (table l ≡ Some from) × (from ≤ t) × BeganBy l t all
+IsCovered table all t (happens (is_cancelled by during in_cleanup)) = IfNamed (IsCoveredBy table all t) by during
 IsCovered table all t _ = Unit {0}
 
 abbrev AllCovered : Table → List Event → List Event → Type 0
@@ -148,7 +153,22 @@ seen_covered : (table : Table) (all : List Event) (st : Levels) (t u from : ℕ)
     t ≤ u → sight st ≡ Some from → from ≤ u → IsCovered table all u (happens (is_cancelled (seer st from) during c))
 seen_covered table all st t u from during c of known le e at =
     let named = seer_is table st from of e in
+    if_some (IsCoveredBy table all u) (seer st from) during named.0 named.1
     (named.0, named.1, from, named.2, at, later named.0 t u all le (known named.0 (on_stack named.0 from st named.3)))
+
+unasked_covered : (table : Table) (all : List Event) (st : Levels) (t : ℕ) (ask : Ask) (label : Label) (c : Bool) → IsOf table st →
+    Known st t all → IsCovered table all t (happens (is_cancelled (blamed_at st t (sight st)) (before_asking ask label) c))
+unasked_covered table all st t ask label c of known = by_seen (sight st) refl
+  where
+    by_reached : (from : ℕ) (b : Bool) → nat_le from t ≡ b → sight st ≡ Some from →
+        IsCovered table all t (happens (is_cancelled (if b then seer st from else None) (before_asking ask label) c))
+    by_reached from true reached e =
+        seen_covered table all st t t from (before_asking ask label) c of known (omega arith) e (grind (arith, nat_tests))
+    by_reached from false missed e = tt
+
+    by_seen : (from : Tick) → sight st ≡ from → IsCovered table all t (happens (is_cancelled (blamed_at st t from) (before_asking ask label) c))
+    by_seen None e = tt
+    by_seen (Some from) e = by_reached from (nat_le from t) refl e
 
 none_covered : (table : Table) (all : List Event) → AllCovered table all []
 none_covered table all x i = absurd i
@@ -182,6 +202,9 @@ covers_plain table st now (raises name) plain all me of known within = (omega ar
 covers_plain table st now (handles matched left) plain all me of known within = (omega arith, more_covered table all now.at me _ [] tt (none_covered table all))
 covers_plain table st now (cleans exc) plain all me of known within = (omega arith, more_covered table all now.at me _ [] tt (none_covered table all))
 covers_plain table st now (replaces lost fresh) plain all me of known within = (omega arith, more_covered table all now.at me _ [] tt (none_covered table all))
+covers_plain table st now (enters_object kind label) plain all me of known within = (omega arith, more_covered table all now.at me _ [] tt (none_covered table all))
+covers_plain table st now (gives_token_back label) plain all me of known within = (omega arith, more_covered table all now.at me _ [] tt (none_covered table all))
+covers_plain table st now (closes_channel label) plain all me of known within = (omega arith, more_covered table all now.at me _ [] tt (none_covered table all))
 covers_plain table st now _ plain all me of known within = absurd plain
 
 covers_blocked : (table : Table) (st : Levels) (now last : Now) (kind : Kind) (label : Label) (d : Tick) (shield : Bool) (left : Happening)
@@ -215,6 +238,16 @@ after_time by_rounds m t passes = omega arith
 after_a_round : (clock : Clock) (m t : ℕ) → a_round_after clock m ≤ t → m ≤ t
 after_a_round by_ticks m t le = le
 after_a_round by_rounds m t le = omega arith
+
+-- two events in turn, the second in a later moment
+covers_two : (table : Table) (st : Levels) (now : Now) (u : ℕ) (what next : Happening) → now.at < u →
+    ((all : List Event) → IsCovered table all now.at (happens what)) → ((all : List Event) → IsCovered table all u (happens next)) →
+    Covers table st now (only_at u) (happened now.at what (story_of_one u next))
+covers_two table st now u what next lt first second all me of known within = (
+  omega arith,
+  more_covered table all now.at me (happens what) (event u me (happens next) ∷ []) (first all)
+      (more_covered table all u me (happens next) [] (second all) (none_covered table all)),
+)
 
 covers : (table : Table) (clock : Clock) → IsKept clock table (Covers table)
 covers table clock =
@@ -254,6 +287,26 @@ covers table clock =
             (more_covered table all from me (happens (is_cancelled (seer st from) (waiting_for label now.at) c)) []
             (seen_covered table all st now.at from from (waiting_for label now.at) c of known (omega arith) e (omega arith)) (none_covered table all)),
       );
+      unasked = λ st now ask label c all me of known within. (
+        omega arith,
+        more_covered table all now.at me (happens (is_cancelled (blamed_at st now.at (sight st)) (before_asking ask label) c)) []
+            (unasked_covered table all st now.at ask label c of known) (none_covered table all),
+      );
+      granted = λ st now got label asked is all me of known within. (omega arith, more_covered table all (suc now.at) me _ [] tt (none_covered table all));
+      closed = λ st now got label asked is all me of known within. (omega arith, more_covered table all (suc now.at) me _ [] tt (none_covered table all));
+      granted_later = λ st now g ask got label lent lt.
+          covers_two table st now g (queues ask label lent None) (gets got label None) lt (λ all. tt) (λ all. tt);
+      closed_later = λ st now g ask got label lent lt.
+          covers_two table st now g (queues ask label lent None) (finds_closed got label None) lt (λ all. tt) (λ all. tt);
+      left_queue = λ st now from ask label lent c e lt all me of known within. (
+        omega arith,
+        more_covered table all now.at me (happens (queues ask label lent (Some from)))
+            (event from me (happens (is_cancelled (seer st from) (in_queue ask label now.at) c)) ∷ []) tt
+            (more_covered table all from me (happens (is_cancelled (seer st from) (in_queue ask label now.at) c)) []
+            (seen_covered table all st now.at from from (in_queue ask label now.at) c of known (omega arith) e (omega arith)) (none_covered table all)),
+      );
+      deadlocked = λ st now u ask label lent lt.
+          covers_two table st now u (queues ask label lent (Some u)) (deadlocks ask label) lt (λ all. tt) (λ all. tt);
       blocked = λ st now last kind label d shield inside a f.
           covers_blocked table st now last kind label d shield (left_in clock table st last kind label shield inside) a (λ all. tt) f;
       child = λ st now last label part exc a f all me of known within. (
@@ -268,41 +321,56 @@ covers table clock =
 
 -- ---- the story of a job
 
-module _ (table : Table) (job : Tree) (input : List ℕ) where
-  all_covered : AllCovered table (walked table job input) (walked table job input)
+module _ (k : Tables) (job : Tree) (input : List ℕ) where
+  abbrev story_events : List Event
+  story_events = walked k job input
+
+  all_covered : AllCovered k.cancelled_from story_events story_events
   unfolding tale_by
   all_covered =
-      let a = tale_by table job input in
+      let table = k.cancelled_from in
+      let a = tale_by k job input in
       let own = events_of (root_label job.name) a.story in
-      let inner = kept_tell table (λ c. Covers table) (covers table) job.steps (root_scene job input) no_stack (only_at 0) tt (walked table job input)
+      let inner = kept_tell k (λ c. Covers table) (covers table) job.steps (root_scene job input) no_stack (only_at 0) tt story_events
       (root_label job.name) tt (λ l i. absurd i) (λ x i. inr (append_left x own _ i)) in
-      more_covered table (walked table job input) 0 (root_label job.name) _ _ tt
-      (both_covered table (walked table job input) own _ inner.1
-      (more_covered table (walked table job input) a.end (root_label job.name) _ [] tt (none_covered table (walked table job input))))
+      more_covered table story_events 0 (root_label job.name) _ _ tt
+      (both_covered table story_events own _ inner.1
+      (more_covered table story_events a.end (root_label job.name) _ [] tt (none_covered table story_events)))
 
 pub cancellations_have_causes_by_limit : CancellationsHaveCausesByLimit
-cancellations_have_causes_by_limit table limit job input once settled e i =
-    by_what e.what (limited e i).1 (all_covered table job input e (limited e i).0)
+cancellations_have_causes_by_limit k limit job input once settled e i =
+    by_what e.what (limited e i).1 (all_covered k job input e (limited e i).0)
   where
-    limited : (x : Event) → IsIn x (walked_to table limit job input) → IsIn x (events_of (root_label job.name) (story_by table job input)) × (tick_of (clock_of job.format) x.tick ≤ limit)
-    limited x j = limit_in (clock_of job.format) limit x (events_of (root_label job.name) (story_by table job input)) j
+    clock : Clock
+    clock = clock_of job.format
 
-    to_limit : (x : Event) → IsIn x (events_of (root_label job.name) (story_by table job input)) → tick_of (clock_of job.format) x.tick ≤ limit →
-        IsIn x (in_order (walked_to table limit job input))
-    to_limit x j le =
-        to_order x (walked_to table limit job input) (in_limit (clock_of job.format) limit x (events_of (root_label job.name) (story_by table job input)) j le)
+    table : Table
+    table = k.cancelled_from
 
-    there : (l : Label) (from : ℕ) → table l ≡ Some from → from ≤ e.tick → tick_of (clock_of job.format) e.tick ≤ limit →
-        BeganBy l e.tick (events_of (root_label job.name) (story_by table job input)) →
-        is_some (cause_of table (in_order (walked_to table limit job input)) l) ≡ true
+    story : List Event
+    story = events_of (root_label job.name) (story_by k job input)
+
+    shown : List Event
+    shown = in_order (walked_to k limit job input)
+
+    limited : (x : Event) → IsIn x (walked_to k limit job input) → IsIn x story × (tick_of clock x.tick ≤ limit)
+    limited x j = limit_in clock limit x story j
+
+    to_limit : (x : Event) → IsIn x story → tick_of clock x.tick ≤ limit → IsIn x shown
+    to_limit x j le = to_order x (walked_to k limit job input) (in_limit clock limit x story j le)
+
+    there : (l : Label) (from : ℕ) → table l ≡ Some from → from ≤ e.tick → tick_of clock e.tick ≤ limit → BeganBy l e.tick story →
+        is_some (cause_of table shown l) ≡ true
     there l from in_table le most began =
-        cause_among table job input once settled (in_order (walked_to table limit job input))
-        (λ x j. (limited x (from_order x (walked_to table limit job input) j)).0) l from in_table
-        (λ x j at. to_limit x j (by_then (clock_of job.format) limit x.tick e.tick (omega arith) most))
-        (λ is. entering_found l (in_order (walked_to table limit job input)) _ began.kind began.deadline began.shield
-        (to_limit _ began.entered (by_then (clock_of job.format) limit began.tick e.tick began.by most)) refl)
+        cause_among k job input once settled shown (λ x j. (limited x (from_order x (walked_to k limit job input) j)).0) l from in_table
+        (λ x j at. to_limit x j (by_then clock limit x.tick e.tick (omega arith) most))
+        (λ is. entering_found l shown _ began.kind began.deadline began.shield
+        (to_limit _ began.entered (by_then clock limit began.tick e.tick began.by most)) refl)
 
-    by_what : (w : What) → tick_of (clock_of job.format) e.tick ≤ limit → IsCovered table (events_of (root_label job.name) (story_by table job input)) e.tick w →
-        HasACause table (in_order (walked_to table limit job input)) w
-    by_what (happens (is_cancelled by during in_cleanup)) most h = (h.0, h.1, there h.0 h.2 h.3 h.4 most h.5)
+    caused : tick_of clock e.tick ≤ limit → (by : Option Label) → IsCoveredBy table story e.tick by → IsCaused table shown by
+    caused most by h = (h.0, h.1, there h.0 h.2 h.3 h.4 most h.5)
+
+    by_what : (w : What) → tick_of clock e.tick ≤ limit → IsCovered table story e.tick w → HasACause table shown w
+    by_what (happens (is_cancelled by during in_cleanup)) most h =
+        cause_for table shown by during (if_named (IsCoveredBy table story e.tick) (IsCaused table shown) (caused most) by during h)
     by_what _ most h = tt

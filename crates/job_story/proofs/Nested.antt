@@ -1,5 +1,5 @@
 -- The scopes and nurseries of a story are nested.
-use Rattle.std.proofs.Common.{◌≡◌, ℕ, ◌+◌, ◌<◌, ◌≤◌, Bool, true, false, Option, Some, None, List, [], ◌∷◌, refl, ap, sym, ◌∙◌, subst, ◌⊎◌, inl, inr, arith}
+use Rattle.std.proofs.Common.{◌≡◌, ℕ, suc, ◌+◌, ◌<◌, ◌≤◌, Bool, true, false, Option, Some, None, List, [], ◌∷◌, refl, ap, sym, ◌∙◌, subst, ◌⊎◌, inl, inr, arith}
 use Rattle.std.proofs.lemmas.Bool.Decides.{nat_tests}
 use Rattle.std.specs.Prelude.{◌==◌, if◌then◌else◌}
 use Rattle.std.proofs.lemmas.Slice.Eq.{bytes_eq-Decides}
@@ -10,7 +10,7 @@ use Rattle.job_meaning.specs.Moments.{clock_of, a_round_after, Now, only_at}
 use Rattle.job_meaning.specs.declared.clock.Clock.{Clock}
 use Rattle.job_meaning.specs.declared.clock.Clock.TheVariants.{ByTicks as by_ticks, ByRounds as by_rounds}
 use Rattle.job_meaning.specs.Walk.{Levels, no_stack, Kind, label_if, label_on, with_own}
-use Rattle.job_story.specs.Story.{Happening, enters_event, finds, misses, raises, handles, cleans, replaces, Story, happened, then_story}
+use Rattle.job_story.specs.Story.{Happening, enters_event, enters_object, gives_token_back, closes_channel, finds, misses, raises, handles, cleans, replaces, Story, happened, then_story}
 use Rattle.job_story.specs.Tell.{story_of_one, root_scene, tale_by}
 use Rattle.job_story.specs.Blame.{levels_inside}
 use Rattle.job_story.specs.Nesting.{own_at, IsOpen, IsNestedIn, AllNested}
@@ -83,6 +83,22 @@ reads_event by_ticks read now h = (own_none read now.at h.0, h.1)
 reads_event by_rounds read now h =
     (omega arith, own_now (let own = own_at read now.at in record { at = now.at; own = own }) ∙ h.1)
 
+-- after an event in a later moment, and after two
+reads_in_later : (clock : Clock) (read now : Now) (t : ℕ) → Reads clock read now → now.at < t →
+    Reads clock (let own = own_at read t in record { at = t; own = own }) (only_at t)
+reads_in_later clock read now t h lt =
+    reads_event clock read (only_at t) (reads_later clock read now t h (inr (round_before clock now.at t lt)))
+  where
+    round_before : (c : Clock) (m u : ℕ) → m < u → a_round_after c m ≤ u
+    round_before by_ticks m u le = omega arith
+    round_before by_rounds m u le = omega arith
+
+reads_two : (clock : Clock) (read now : Now) (t : ℕ) → Reads clock read now → now.at < t →
+    (let first : Now = record { at = now.at; own = own_at read now.at } in
+    Reads clock (let own = own_at first t in record { at = t; own = own }) (only_at t))
+reads_two clock read now t h lt =
+    reads_in_later clock (let own = own_at read now.at in record { at = now.at; own = own }) now t (reads_event clock read now h) lt
+
 -- after a `cancel`, or a `set`
 reads_cancel : (clock : Clock) (read now : Now) (label : Option Label) → Reads clock read now →
     Reads clock (let own = with_own clock label (own_at read now.at) in record { at = now.at; own = own })
@@ -111,6 +127,9 @@ leads_plain table clock st now (raises name) plain outside read rest r h = (tt, 
 leads_plain table clock st now (handles matched left) plain outside read rest r h = (tt, h _ (reads_event clock read now r))
 leads_plain table clock st now (cleans exc) plain outside read rest r h = (tt, h _ (reads_event clock read now r))
 leads_plain table clock st now (replaces lost fresh) plain outside read rest r h = (tt, h _ (reads_event clock read now r))
+leads_plain table clock st now (enters_object kind label) plain outside read rest r h = (tt, h _ (reads_event clock read now r))
+leads_plain table clock st now (gives_token_back label) plain outside read rest r h = (tt, h _ (reads_event clock read now r))
+leads_plain table clock st now (closes_channel label) plain outside read rest r h = (tt, h _ (reads_event clock read now r))
 leads_plain table clock st now _ plain outside read rest r h = absurd plain
 
 -- a block is left as the story says
@@ -136,14 +155,7 @@ leads table clock =
       marked = λ st now label outside read rest r h. (tt, h _ (reads_cancel clock read now label r));
       slept = λ st now u until e le outside read rest r h. (tt, h _ (reads_later clock _ now u (reads_event clock read now r) (inr le)));
       seen = λ st now from c e le outside read rest r h. (tt, h _ (reads_event clock read now r));
-      cut = λ st now from until c e lt le outside read rest r h. (
-        tt,
-        (
-          tt,
-          h _ (reads_event clock _ (only_at from)
-              (reads_later clock _ now from (reads_event clock read now r) (inr (round_before clock now.at from lt)))),
-        ),
-      );
+      cut = λ st now from until c e lt le outside read rest r h. (tt, (tt, h _ (reads_two clock read now from r lt)));
       checked = λ st now label set outside read rest r h. (tt, h _ (reads_event clock read now r));
       expected = λ st now u label is le outside read rest r h. (
         tt,
@@ -152,14 +164,14 @@ leads table clock =
           h _ (reads_event clock _ (only_at u) (reads_later clock _ now u (reads_event clock read now r) (inr (omega arith)))),
         ),
       );
-      given_up = λ st now from label c e lt before outside read rest r h. (
-        tt,
-        (
-          tt,
-          h _ (reads_event clock _ (only_at from)
-              (reads_later clock _ now from (reads_event clock read now r) (inr (round_before clock now.at from lt)))),
-        ),
-      );
+      given_up = λ st now from label c e lt before outside read rest r h. (tt, (tt, h _ (reads_two clock read now from r lt)));
+      unasked = λ st now ask label c outside read rest r h. (tt, h _ (reads_event clock read now r));
+      granted = λ st now got label asked is outside read rest r h. (tt, h _ (reads_in_later clock read now (suc now.at) r (omega arith)));
+      closed = λ st now got label asked is outside read rest r h. (tt, h _ (reads_in_later clock read now (suc now.at) r (omega arith)));
+      granted_later = λ st now g ask got label lent lt outside read rest r h. (tt, (tt, h _ (reads_two clock read now g r lt)));
+      closed_later = λ st now g ask got label lent lt outside read rest r h. (tt, (tt, h _ (reads_two clock read now g r lt)));
+      left_queue = λ st now from ask label lent c e lt outside read rest r h. (tt, (tt, h _ (reads_two clock read now from r lt)));
+      deadlocked = λ st now u ask label lent lt outside read rest r h. (tt, (tt, h _ (reads_two clock read now u r lt)));
       blocked = λ st now last kind label d shield inside a f outside read rest r h. (
         tt,
         subst (AllNested clock table _ outside (levels_inside label shield (table label) st)) (sym (then_assoc a _ rest))
@@ -176,18 +188,15 @@ leads table clock =
         h read r,
       );
     }
-  where
-    round_before : (c : Clock) (m t : ℕ) → m < t → a_round_after c m ≤ t
-    round_before by_ticks m t lt = omega arith
-    round_before by_rounds m t lt = omega arith
 
 pub blocks_are_nested : BlocksAreNested
 unfolding tale_by
-blocks_are_nested table job input =
-    let clock = clock_of job.format in (
+blocks_are_nested k job input =
+    let clock = clock_of job.format in
+    let table = k.cancelled_from in (
       refl,
-      subst (AllNested clock table (only_at 0) [] []) (then_no_more (tale_by table job input).story)
-          (kept_tell table (Leads table) (leads table) job.steps (root_scene job input) no_stack (only_at 0) tt [] (only_at 0) _ (reads_start clock 0)
+      subst (AllNested clock table (only_at 0) [] []) (then_no_more (tale_by k job input).story)
+          (kept_tell k (Leads table) (leads table) job.steps (root_scene job input) no_stack (only_at 0) tt [] (only_at 0) _ (reads_start clock 0)
           (λ next s. refl)),
       refl,
     )

@@ -13,7 +13,7 @@ use Rattle.job_story.specs.declared.event.Event as held
 use Rattle.job_story.specs.declared.here.Here.{Here}
 use Rattle.job_story.specs.declared.progress.Progress.{Progress}
 use Rattle.job_story.specs.declared.stretch.Stretch.{Stretch}
-use Rattle.job_story.specs.Heres.{CanWalk, here_of, scene_of, stack_of, table_of, pass}
+use Rattle.job_story.specs.Heres.{CanWalk, here_of, scene_of, stack_of, tables_of, pass}
 use Rattle.job_story.specs.Rooms.{base, reach, span}
 use Rattle.job_story.specs.Tales.{IsStretchOf, Tells, now_in}
 use Rattle.job_story.proofs.Going.{Going, going_start, going_failed, going_next, going_stop}
@@ -61,7 +61,7 @@ left_size i count size lt =
 pub room_pass : (cuts : Option ℕ) (h : Here) (now : Now) (count : ℕ) (body : Steps) (i : ℕ) (start : List held.Event) (w : Stretch) (mid : Progress) →
     AtPass cuts h now count body i start w mid → i < count → CanWalk (size_of body) h w.end
 room_pass cuts h now count body i start w mid at lt =
-    record { room = fits (span h.clock) at.room.room; small = at.room.small }
+    record { room = fits (span h.clock) at.room.room; small = at.room.small; lent = at.room.lent }
   where
     fits : (n : ℕ) → reach h.clock w.end + (count - i) * (1 + size_of body) * n ≤ 4611686018427387904 →
         reach h.clock w.end + size_of body * n ≤ 4611686018427387904
@@ -89,7 +89,7 @@ pub pass_next : (cuts : Option ℕ) (h : Here) (now : Now) (count : ℕ) (body :
     AtPass cuts h now count body (i + 1) start x over
 pass_next cuts h now count body i start mid over w v x at lt u ends tells join well =
     let ends_by : max v.end v.open_until ≤ reach h.clock u + size_of body * span h.clock =
-    ends_small v (table_of h) body (at_place (in_pass cuts i (here_of h)) (scene_of h)) (stack_of h) (now_in u mid) at.in_range at.room.small
+    ends_small v (tables_of h) body (at_place (in_pass cuts i (here_of h)) (scene_of h)) (stack_of h) (now_in u mid) at.in_range at.room.small
     tells.stretch in
     let from : u ≡ w.end = ends in
     let last : x.end ≡ v.end = (join at.going.before _ at.going.tells.stretch tells.stretch).end ∙ sym tells.stretch.end in
@@ -99,7 +99,7 @@ pass_next cuts h now count body i start mid over w v x at lt u ends tells join w
           (pass cuts body h) y) at.going
           (first_left i count (pass cuts body h) lt) u ends tells join well;
       in_range = at.in_range;
-      room = record { room = fits (span h.clock) (base h.clock) ends_by from last at.room.room; small = at.room.small };
+      room = record { room = fits (span h.clock) (base h.clock) ends_by from last at.room.room; small = at.room.small; lent = at.room.lent };
     }
   where
     fits : (n low : ℕ) → max v.end v.open_until ≤ max u low + size_of body * n → u ≡ w.end → x.end ≡ v.end →

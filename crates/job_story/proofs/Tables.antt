@@ -5,7 +5,7 @@ use Rattle.job_tree.specs.Tree.{Tree}
 use Rattle.exceptions.specs.Exceptions.{Label}
 use Rattle.exceptions.specs.Labels.{same_label}
 use Rattle.cancel_scopes.specs.Sight.{Tick}
-use Rattle.job_meaning.specs.Log.{Log, nil, entry, sign, entered, task, Table, deadline_of, deadline_if, either, entered_from, least_sign}
+use Rattle.job_meaning.specs.Log.{Log, nil, entry, sign, entered, act, task, Table, deadline_of, deadline_if, either, entered_from, least_sign}
 use Rattle.job_meaning.specs.Meaning.{cancelled_from_by, entered_by, all_entered, root_log, meaning, meaning_table}
 use Rattle.job_meaning.proofs.Distinct.{same_label_equal, same_label_itself}
 use Rattle.job_story.specs.CancelledFrom.{never, set_in}
@@ -35,6 +35,7 @@ no_deadline l (sign m t rest) own all = no_deadline l rest own all
 no_deadline l (entered m t d rest) own all =
     let h = or_false (same_label l m) (is_one l (entered_by rest)) own in
     ap (λ (b : Bool). either (deadline_if b d) (deadline_of l rest)) h.0 ∙ no_deadline l rest h.1 all
+no_deadline l (act m t a rest) own all = no_deadline l rest own all
 no_deadline l (task m s u e mine rest) own all =
     let first = not_in_both l (entered_by mine) (all_entered mine ++ all_entered rest) all in
     let second = not_in_both l (all_entered mine) (all_entered rest) first.1 in

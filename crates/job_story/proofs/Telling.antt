@@ -1,23 +1,27 @@
 -- What holds of each story that a walk tells, by induction over the job's tree.
-use Rattle.std.proofs.Common.{◌≡◌, ℕ, zero, suc, ◌+◌, ◌-◌, ◌*◌, ◌/◌, min, max, ◌<◌, ◌≤◌, Bool, true, false, Option, Some, None, List, [], ◌∷◌, refl, ap, sym, subst, arith}
+use Rattle.std.proofs.Common.{◌≡◌, true≢false, ℕ, zero, suc, ◌+◌, ◌-◌, ◌*◌, ◌/◌, min, max, ◌<◌, ◌≤◌, Bool, true, false, ◌&&◌, Option, Some, None, List, [], ◌∷◌, refl, ap, sym, subst, arith}
 use Rattle.std.proofs.lemmas.Bool.Decides.{nat_tests}
 use Rattle.std.specs.Str.{bytes_eq}
-use Rattle.std.specs.Prelude.{nat_le, nat_lt, if◌then◌else◌}
-use Rattle.job_tree.specs.Tree.{Step, sleep, checkpoint, forever, pace, find, head, longest, need, raise, cancel, set_event, wait_for, scope, nursery, event, start, repeat, attempt, Steps, stop, step, Handled, unhandled, except, Cleaned, uncleaned, finally}
+use Rattle.std.specs.Prelude.{nat_le, nat_lt, if◌then◌else◌, codes}
+use Rattle.job_tree.specs.Tree.{Step, sleep, checkpoint, forever, pace, find, head, longest, need, raise, cancel, set_event, wait_for, ask_for, close_channel, scope, nursery, event, object, start, repeat, attempt, Steps, stop, step, Handled, unhandled, except, Cleaned, uncleaned, finally}
+use Rattle.job_tree.specs.declared.object.Ask.{Ask}
+use Rattle.job_tree.specs.declared.object.ObjectKind.{ObjectKind}
 use Rattle.input_lines.specs.Lines.{Range, Span}
 use Rattle.input_lines.specs.Cuts.{cut_of}
-use Rattle.exceptions.specs.Exceptions.{Label, Exc, cancelled}
+use Rattle.exceptions.specs.Exceptions.{Label, Exc, cancelled, raised}
 use Rattle.exceptions.specs.Split.{Wanted, named, keep, drop}
-use Rattle.cancel_scopes.specs.Sight.{Tick, Level, sight, catches}
+use Rattle.cancel_scopes.specs.Sight.{Tick, Level, sight, seen, is_reached, catches}
 use Rattle.job_meaning.specs.Log.{Table}
+use Rattle.job_meaning.specs.Sharing.{What, a_token, was_sent, a_part, closed_resource, end_of_channel, Granted, granted_if}
+use Rattle.job_meaning.specs.Tables.{Tables}
 use Rattle.job_meaning.specs.Moments.{tick_of, a_round_after, wakes_at, gives_up_at, start_of, Now, only_at, far}
 use Rattle.job_meaning.specs.declared.clock.Clock.{Clock}
 use Rattle.job_meaning.specs.declared.clock.Clock.TheVariants.{ByTicks as by_ticks, ByRounds as by_rounds}
-use Rattle.job_meaning.specs.Walk.{Levels, Stack, Here, Kind, home_of, set_moment, label_on, level_if, event_on, with_own, from_for, stack_for, left_with, exc_after, latest, label_here, label_over, stack_inside, stack_in_event, here_in, cuts_over, in_pass}
-use Rattle.job_meaning.proofs.Late.{latest_ends}
-use Rattle.job_meaning.proofs.MomentLemmas.{round_after, wakes_after, gives_up_after}
-use Rattle.job_story.specs.Story.{at_checkpoint, sleeping, waiting_for, Happening, enters, enters_event, sleeps, is_cancelled, finds, misses, raises, cancels, sets, awaits, was_set, handles, cleans, replaces, waits, leaves, Story, no_more, happened, started, then_story, Tale}
-use Rattle.job_story.specs.Tell.{Scene, ended_at, now_of, story_of_one, tale_if, then_tale, failed_at, seer, tell_slept, tell_sleep, tell_pace, tell_waiting, with_set_if, tell_event_wait, tell_lines, tell_need, tell_raise, tell_cancel, tell_set, tell_block, tell_event, tell_wait, tell_gathered, tell_child, tell_each, tell_passes, handled_if, handled_exc, tell_handled, replacement, tell_cleaned, at_place, tell, tell_step, tell_handler, tell_cleanup}
+use Rattle.job_meaning.specs.Walk.{Levels, Stack, Here, Kind, home_of, set_moment, label_on, level_if, event_on, with_own, from_for, stack_for, left_with, exc_after, last_grant, leaves_queue, in_time, latest, label_here, label_over, stack_inside, stack_in_event, here_in, cuts_over, in_pass}
+use Rattle.job_meaning.proofs.Late.{latest_ends, unseen_for}
+use Rattle.job_meaning.proofs.MomentLemmas.{round_after, wakes_after, gives_up_after, last_grant_later}
+use Rattle.job_story.specs.Story.{at_checkpoint, sleeping, waiting_for, in_queue, before_asking, Asked, Happening, enters, enters_event, sleeps, is_cancelled, finds, misses, raises, cancels, sets, awaits, was_set, enters_object, queues, gets, finds_closed, deadlocks, gives_token_back, closes_channel, handles, cleans, replaces, waits, leaves, Story, no_more, happened, started, then_story, Tale}
+use Rattle.job_story.specs.Tell.{Scene, ended_at, now_of, story_of_one, tale_if, then_tale, failed_at, seer, tell_slept, tell_sleep, tell_pace, tell_waiting, with_set_if, tell_event_wait, tell_lines, tell_need, tell_raise, tell_cancel, tell_set, tell_block, tell_event, tell_object, tell_close, with_token_told, blamed_at, tell_granted, queues_if, asked_if, tell_leaving, tell_got, tell_asked, tell_asks, tell_unasked, tell_ask, tell_wait, tell_gathered, tell_child, tell_each, tell_passes, handled_if, handled_exc, tell_handled, replacement, tell_cleaned, at_place, tell, tell_step, tell_handler, tell_cleanup}
 use Rattle.job_story.specs.Blame.{levels_inside}
 use Rattle.job_story.specs.Waking.{until_tick, IsSetBy}
 
@@ -44,6 +48,9 @@ IsPlain (raises name) = Unit {0}
 IsPlain (handles matched left) = Unit {0}
 IsPlain (cleans exc) = Unit {0}
 IsPlain (replaces lost fresh) = Unit {0}
+IsPlain (enters_object kind label) = Unit {0}
+IsPlain (gives_token_back label) = Unit {0}
+IsPlain (closes_channel label) = Unit {0}
 IsPlain _ = ⊥
 
 -- how a block is left
@@ -82,6 +89,22 @@ pub record IsKept (clock : Clock) (k : Table) (P : Levels → Now → Now → St
   pub given_up : (st : Levels) (now : Now) (from : ℕ) (label : Label) (c : Bool) → sight st ≡ Some from → now.at < from →
       from < set_moment clock (k label) now.at →
       P st now (only_at from) (happened now.at (awaits label) (story_of_one from (is_cancelled (seer st from) (waiting_for label now.at) c)))
+  pub unasked : (st : Levels) (now : Now) (ask : Ask) (label : Label) (c : Bool) →
+      P st now now (story_of_one now.at (is_cancelled (blamed_at st now.at (sight st)) (before_asking ask label) c))
+  pub granted : (st : Levels) (now : Now) (got : Ask) (label : Label) (asked : Asked) → asked.since ≡ now.at →
+      P st now (only_at (suc now.at)) (story_of_one (suc now.at) (gets got label (Some asked)))
+  pub closed : (st : Levels) (now : Now) (got : Ask) (label : Label) (asked : Asked) → asked.since ≡ now.at →
+      P st now (only_at (suc now.at)) (story_of_one (suc now.at) (finds_closed got label (Some asked)))
+  pub granted_later : (st : Levels) (now : Now) (g : ℕ) (ask got : Ask) (label : Label) (lent : Range) → now.at < g →
+      P st now (only_at g) (happened now.at (queues ask label lent None) (story_of_one g (gets got label None)))
+  pub closed_later : (st : Levels) (now : Now) (g : ℕ) (ask got : Ask) (label : Label) (lent : Range) → now.at < g →
+      P st now (only_at g) (happened now.at (queues ask label lent None) (story_of_one g (finds_closed got label None)))
+  pub left_queue : (st : Levels) (now : Now) (from : ℕ) (ask : Ask) (label : Label) (lent : Range) (c : Bool) → sight st ≡ Some from →
+      now.at < from →
+      P st now (only_at from)
+      (happened now.at (queues ask label lent (Some from)) (story_of_one from (is_cancelled (seer st from) (in_queue ask label now.at) c)))
+  pub deadlocked : (st : Levels) (now : Now) (u : ℕ) (ask : Ask) (label : Label) (lent : Range) → now.at < u →
+      P st now (only_at u) (happened now.at (queues ask label lent (Some u)) (story_of_one u (deadlocks ask label)))
   pub blocked : (st : Levels) (now last : Now) (kind : Kind) (label : Label) (d : Tick) (shield : Bool) (inside : Option Exc) (a : Story) →
       P (levels_inside label shield (k label) st) now last a →
       P st now last
@@ -188,6 +211,21 @@ most_right m n = omega arith
 
 is_before : (m n : ℕ) → nat_lt m n ≡ true → m < n
 is_before m n is = grind (arith, nat_tests)
+
+-- a task in the queue of a limiter or channel leaves it in a later moment: when it is cancelled, or at the end of `forever`
+left_by_sight : (from : Tick) (m last : ℕ) → m < last → is_reached from m ≡ false → m < leaves_queue from last
+left_by_sight None m last lt unseen = lt
+left_by_sight (Some f) m last lt unseen = later_still (grind (arith, nat_tests))
+  where
+    later_still : m < f → m < min f last
+    later_still h = omega arith
+
+left_when_seen : (from : Tick) (last : ℕ) → is_reached from (leaves_queue from last) ≡ true → from ≡ Some (leaves_queue from last)
+left_when_seen None last reached = absurd (true≢false (sym reached))
+left_when_seen (Some f) last reached = ap (λ (x : ℕ). Some x) (least (grind (arith, nat_tests)))
+  where
+    least : f ≤ min f last → f ≡ min f last
+    least h = omega arith
 
 module _ (clock : Clock) (k : Table) (P : Levels → Now → Now → Story → Type 0) (kept : IsKept clock k P) where
   abbrev Keeps : Levels → Now → Tale → Type 0
@@ -400,6 +438,144 @@ module _ (clock : Clock) (k : Table) (P : Levels → Now → Now → Story → T
   unfolding tell_cancel
   kept_cancel st name now = kept.signed st now name
 
+  -- ---- limiters and channels
+
+  -- a story after one more event
+  kept_after : (st : Levels) (now last : Now) (what : Happening) (a : Story) → IsPlain what → P st now last a → P st now last (happened now.at what a)
+  kept_after st now last what a plain h = kept.joined st now now last (story_of_one now.at what) a (kept.plain st now what plain) h
+
+  kept_object : (kind : ObjectKind) (label : Label) (now : Now) (st : Levels) (inside : Tick → Tale) →
+      ((f : Tick) → f ≡ k label → Keeps st now (inside f)) → Keeps st now (tell_object k kind label now.at inside)
+  unfolding tell_object
+  kept_object kind label now st inside h =
+      let a = inside (k label) in kept_after st now (now_of a) (enters_object kind label) a.story tt (h (k label) refl)
+
+  kept_close : (st : Levels) (label : Option Label) (now : Now) → Keeps st now (tell_close label now)
+  unfolding tell_close
+  kept_close st label now = kept.plain st now (closes_channel label) tt
+
+  kept_token : (st : Levels) (now : Now) (label : Label) (a : Tale) → Keeps st now a → Keeps st now (with_token_told label a)
+  unfolding with_token_told
+  kept_token st now label a h =
+      kept.joined st now (now_of a) (now_of a) a.story (story_of_one a.end (gives_token_back label)) h
+      (kept.plain st (now_of a) (gives_token_back label) tt)
+
+  kept_unasked : (st : Levels) (now : Now) (ask : Ask) (label : Label) (scene : Scene) →
+      Keeps st now (tell_unasked ask label scene st (gives_up_at clock 0 now.at))
+  kept_unasked st now ask label scene =
+      let t = gives_up_at clock 0 now.at in
+      kept.joined st now (only_at t) (only_at t) no_more _ (kept.passed st now t (giving_up_passes clock now.at))
+      (kept.unasked st (only_at t) ask label scene.in_cleanup)
+
+  -- what was asked is granted in the next round, or later
+  module _ (st : Levels) (now : Now) (ask : Ask) (label : Label) (lent : Range) (g : ℕ) (after : now.at < g) where
+    next_round : nat_le g (suc now.at) ≡ true → suc now.at ≡ g
+    next_round soon = is_next (grind (arith, nat_tests))
+      where
+        is_next : g ≤ suc now.at → suc now.at ≡ g
+        is_next le = omega (arith, le, after)
+
+    -- what is granted, and then any rest
+    kept_gets : (b : Bool) → nat_le g (suc now.at) ≡ b → (got : Ask) (last : Now) (rest : Story) → P st (only_at g) last rest →
+        P st now last (then_story (queues_if b ask label lent now.at) (happened g (gets got label (asked_if b ask now.at lent)) rest))
+    kept_gets true soon got last rest h =
+        kept.joined st now (only_at g) last (story_of_one g (gets got label (asked_if true ask now.at lent))) rest
+        (subst (λ (u : ℕ). P st now (only_at u) (story_of_one u (gets got label (asked_if true ask now.at lent)))) (next_round soon)
+        (kept.granted st now got label (record { ask = ask; since = now.at; part = lent }) refl)) h
+    kept_gets false late got last rest h =
+        kept.joined st now (only_at g) last (happened now.at (queues ask label lent None) (story_of_one g (gets got label None))) rest
+        (kept.granted_later st now g ask got label lent after) h
+
+    kept_closed : (b : Bool) → nat_le g (suc now.at) ≡ b → (got : Ask) →
+        P st now (only_at g) (then_story (queues_if b ask label lent now.at) (story_of_one g (finds_closed got label (asked_if b ask now.at lent))))
+    kept_closed true soon got =
+        subst (λ (u : ℕ). P st now (only_at u) (story_of_one u (finds_closed got label (asked_if true ask now.at lent)))) (next_round soon)
+        (kept.closed st now got label (record { ask = ask; since = now.at; part = lent }) refl)
+    kept_closed false late got = kept.closed_later st now g ask got label lent after
+
+  kept_got : (st : Levels) (now : Now) (ask : Ask) (label : Label) (here : Here) (g : Granted) (go : Here → Now → Tale) → now.at < g.at →
+      ((lent : Range) (later : Now) → Keeps st later (go (record here { part = lent }) later)) →
+      Keeps st now (tell_got ask label here now.at g go)
+  kept_got st now ask label here g go after h = by_what g.what
+    where
+      b : Bool
+      b = nat_le g.at (suc now.at)
+
+      by_what : (what : What) →
+          (let a = tell_granted label here g.at what (asked_if b ask now.at here.part) go in
+          P st now (now_of a) (then_story (queues_if b ask label here.part now.at) a.story))
+      by_what a_token =
+          let a = with_token_told label (go here (only_at g.at)) in
+          kept_gets st now ask label here.part g.at after b refl _ (now_of a) a.story
+          (kept_token st (only_at g.at) label (go here (only_at g.at)) (h here.part (only_at g.at)))
+      by_what was_sent =
+          let a = go here (only_at g.at) in
+          kept_gets st now ask label here.part g.at after b refl _ (now_of a) a.story (h here.part (only_at g.at))
+      by_what (a_part lent) =
+          let a = go (record here { part = lent }) (only_at g.at) in
+          kept_gets st now ask label here.part g.at after b refl _ (now_of a) a.story (h lent (only_at g.at))
+      by_what closed_resource = kept_closed st now ask label here.part g.at after b refl _
+      by_what end_of_channel = kept_closed st now ask label here.part g.at after b refl _
+
+  -- a task in the queue is cancelled, or has waited as long as `forever` lasts
+  kept_leaving : (st : Levels) (now : Now) (ask : Ask) (label : Label) (scene : Scene) → seen st now.at ≡ false →
+      Keeps st now (tell_leaving ask label scene st now.at (leaves_queue (sight st) (last_grant clock now.at)))
+  kept_leaving st now ask label scene unseen = by_sight (is_reached (sight st) left) refl
+    where
+      left : ℕ
+      left = leaves_queue (sight st) (last_grant clock now.at)
+
+      after : now.at < left
+      after = left_by_sight (sight st) now.at (last_grant clock now.at) (last_grant_later clock now.at) unseen
+
+      by_sight : (b : Bool) → is_reached (sight st) left ≡ b →
+          (let a = (if b then failed_at cancelled (only_at left)
+          (story_of_one left (is_cancelled (seer st left) (in_queue ask label now.at) scene.in_cleanup))
+          else failed_at (raised (codes "Deadlock") scene.here.task (tick_of scene.here.clock left)) (only_at left)
+          (story_of_one left (deadlocks ask label))) in
+          P st now (now_of a) (happened now.at (queues ask label scene.here.part (Some left)) a.story))
+      by_sight true reached =
+          kept.left_queue st now left ask label scene.here.part scene.in_cleanup (left_when_seen (sight st) (last_grant clock now.at) reached) after
+      by_sight false unreached = kept.deadlocked st now left ask label scene.here.part after
+
+  kept_asked : (st : Levels) (now : Now) (ask : Ask) (label : Label) (scene : Scene) (o : Option Granted) (go : Here → Now → Tale) →
+      seen st now.at ≡ false → ((lent : Range) (later : Now) → Keeps st later (go (record scene.here { part = lent }) later)) →
+      (let left = leaves_queue (sight st) (last_grant clock now.at) in
+      Keeps st now (tell_asked ask label scene st now.at left (in_time now.at left o) go))
+  kept_asked st now ask label scene None go unseen h = kept_leaving st now ask label scene unseen
+  kept_asked st now ask label scene (Some g) go unseen h = by_time (nat_lt now.at g.at && nat_le g.at left) refl
+    where
+      left : ℕ
+      left = leaves_queue (sight st) (last_grant clock now.at)
+
+      by_time : (b : Bool) → (nat_lt now.at g.at && nat_le g.at left) ≡ b →
+          Keeps st now (tell_asked ask label scene st now.at left (granted_if b g None) go)
+      by_time true e = kept_got st now ask label scene.here g go (grind (arith, nat_tests)) h
+      by_time false e = kept_leaving st now ask label scene unseen
+
+  kept_ask : (tables : Tables) (ask : Ask) (label : Option Label) (scene : Scene) (st : Levels) (now : Now) (go : Here → Now → Tale) →
+      clock ≡ scene.here.clock → ((lent : Range) (later : Now) → Keeps st later (go (record scene.here { part = lent }) later)) →
+      Keeps st now (tell_ask tables ask label scene st now go)
+  unfolding tell_ask
+  kept_ask tables ask None scene st now go is h = kept.nothing st now
+  kept_ask tables ask (Some label) scene st now go is h = by_sight (seen (stack_for now.own now.at st) now.at) refl
+    where
+      unasked : Keeps st now (tell_unasked ask label scene st (gives_up_at scene.here.clock 0 now.at))
+      unasked =
+          subst (λ (c : Clock). Keeps st now (tell_unasked ask label scene st (gives_up_at c 0 now.at))) is (kept_unasked st now ask label scene)
+
+      asks : seen st now.at ≡ false → Keeps st now (tell_asks tables ask label scene st now.at go)
+      asks unseen =
+          subst (λ (c : Clock). (let left = leaves_queue (sight st) (last_grant c now.at) in
+          Keeps st now (tell_asked ask label scene st now.at left (in_time now.at left (tables.granted label scene.here.task now.at)) go))) is
+          (kept_asked st now ask label scene (tables.granted label scene.here.task now.at) go unseen h)
+
+      by_sight : (b : Bool) → seen (stack_for now.own now.at st) now.at ≡ b →
+          Keeps st now (if b then tell_unasked ask label scene st (gives_up_at scene.here.clock 0 now.at)
+          else tell_asks tables ask label scene st now.at go)
+      by_sight true e = unasked
+      by_sight false e = asks (unseen_for now.own now.at st e)
+
   -- ---- blocks
 
   kept_block : (kind : Kind) (label : Label) (now : Now) (d : Tick) (shield : Bool) (st : Levels) (inside : Tick → Tale) →
@@ -446,10 +622,6 @@ module _ (clock : Clock) (k : Table) (P : Levels → Now → Now → Story → T
 
   -- ---- handlers and cleanups
 
-  -- a story after one more event
-  kept_after : (st : Levels) (now last : Now) (what : Happening) (a : Story) → IsPlain what → P st now last a → P st now last (happened now.at what a)
-  kept_after st now last what a plain h = kept.joined st now now last (story_of_one now.at what) a (kept.plain st now what plain) h
-
   kept_handled : (st : Levels) (now : Now) (wanted : Wanted) (a : Tale) (go : Now → Tale) → Keeps st now a →
       ((later : Now) → Keeps st later (go later)) → Keeps st now (tell_handled wanted a go)
   unfolding tell_handled
@@ -483,7 +655,11 @@ module _ (clock : Clock) (k : Table) (P : Levels → Now → Now → Story → T
 
 -- ---- the walk
 
-module _ (k : Table) (P : Clock → Levels → Now → Now → Story → Type 0) (kept : (clock : Clock) → IsKept clock k (P clock)) where
+module _ (tables : Tables) (P : Clock → Levels → Now → Now → Story → Type 0)
+    (kept : (clock : Clock) → IsKept clock tables.cancelled_from (P clock)) where
+  abbrev k : Table
+  k = tables.cancelled_from
+
   abbrev KeepsIn : Scene → Stack → Now → Tale → Type 0
   KeepsIn scene st now a = P scene.here.clock st.scopes now (now_of a) a.story
 
@@ -491,14 +667,14 @@ module _ (k : Table) (P : Clock → Levels → Now → Now → Story → Type 0)
     unfolding tell
 
     -- what is kept holds of the story of each block of steps
-    pub kept_tell : (b : Steps) (scene : Scene) (st : Stack) (now : Now) → IsOf k st.events → KeepsIn scene st now (tell k b scene st now)
+    pub kept_tell : (b : Steps) (scene : Scene) (st : Stack) (now : Now) → IsOf k st.events → KeepsIn scene st now (tell tables b scene st now)
     kept_tell stop scene st now of = (kept scene.here.clock).nothing st.scopes now
     kept_tell (step s ss) scene st now of =
         let c = scene.here.clock in
-        kept_then c k (P c) (kept c) st.scopes now (tell_step k s scene st now) (λ later. tell k ss scene st later) (kept_step s scene st now of)
+        kept_then c k (P c) (kept c) st.scopes now (tell_step tables s scene st now) (λ later. tell tables ss scene st later) (kept_step s scene st now of)
         (λ later. kept_tell ss scene st later of)
 
-    kept_step : (s : Step) (scene : Scene) (st : Stack) (now : Now) → IsOf k st.events → KeepsIn scene st now (tell_step k s scene st now)
+    kept_step : (s : Step) (scene : Scene) (st : Stack) (now : Now) → IsOf k st.events → KeepsIn scene st now (tell_step tables s scene st now)
     kept_step (sleep n) scene st now of =
         let c = scene.here.clock in kept_sleep c k (P c) (kept c) st.scopes scene.in_cleanup _ n now (λ m e. some_ticks c n now m e)
     kept_step checkpoint scene st now of =
@@ -518,6 +694,11 @@ module _ (k : Table) (P : Clock → Levels → Now → Now → Story → Type 0)
     kept_step (wait_for name) scene st now of =
         let c = scene.here.clock in
         kept_event_wait c k (P c) (kept c) st.scopes scene.in_cleanup _ now (event_is_of k name st.events of)
+    kept_step (ask_for name ask body) scene st now of =
+        let c = scene.here.clock in
+        kept_ask c k (P c) (kept c) tables ask _ scene st.scopes now _ refl
+        (λ lent later. kept_tell body (at_place (record scene.here { part = lent }) scene) st later of)
+    kept_step (close_channel name) scene st now of = let c = scene.here.clock in kept_close c k (P c) (kept c) st.scopes _ now
     kept_step (scope name d shield fail body) scene st now of =
         let c = scene.here.clock in
         kept_block c k (P c) (kept c) _ (label_here name scene.here) now _ shield st.scopes _
@@ -530,6 +711,10 @@ module _ (k : Table) (P : Clock → Levels → Now → Now → Story → Type 0)
     kept_step (event name body) scene st now of =
         let c = scene.here.clock in
         kept_event c k (P c) (kept c) (label_here name scene.here) now st.scopes _
+        (λ f e. kept_tell body scene (stack_in_event (label_here name scene.here) f st) now (e, of))
+    kept_step (object name kind body) scene st now of =
+        let c = scene.here.clock in
+        kept_object c k (P c) (kept c) kind (label_here name scene.here) now st.scopes _
         (λ f e. kept_tell body scene (stack_in_event (label_here name scene.here) f st) now (e, of))
     kept_step (start name None body) scene st now of =
         let c = scene.here.clock in
@@ -547,13 +732,13 @@ module _ (k : Table) (P : Clock → Levels → Now → Now → Story → Type 0)
         kept_cleanup cleanup scene st now _ of (kept_handler handler scene st now _ of (kept_tell body scene st now of))
 
     kept_handler : (x : Handled) (scene : Scene) (st : Stack) (now : Now) (a : Tale) → IsOf k st.events → KeepsIn scene st now a →
-        KeepsIn scene st now (tell_handler k x scene st a)
+        KeepsIn scene st now (tell_handler tables x scene st a)
     kept_handler unhandled scene st now a of h = h
     kept_handler (except name body) scene st now a of h =
         let c = scene.here.clock in kept_handled c k (P c) (kept c) st.scopes now (named name) a _ h (λ later. kept_tell body scene st later of)
 
     kept_cleanup : (x : Cleaned) (scene : Scene) (st : Stack) (now : Now) (a : Tale) → IsOf k st.events → KeepsIn scene st now a →
-        KeepsIn scene st now (tell_cleanup k x scene st a)
+        KeepsIn scene st now (tell_cleanup tables x scene st a)
     kept_cleanup uncleaned scene st now a of h = h
     kept_cleanup (finally body) scene st now a of h =
         let c = scene.here.clock in

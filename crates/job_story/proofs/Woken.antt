@@ -1,5 +1,5 @@
 -- The time of a task of a story passes only while it sleeps or waits, and by rounds at a checkpoint too.
-use Rattle.std.proofs.Common.{◌≡◌, ℕ, ◌≤◌, refl, sym, ◌∙◌, subst, [], arith}
+use Rattle.std.proofs.Common.{◌≡◌, ℕ, suc, ◌≤◌, ap, refl, sym, ◌∙◌, subst, [], arith}
 use Rattle.exceptions.specs.Exceptions.{Label}
 use Rattle.job_meaning.specs.Log.{Table}
 use Rattle.job_meaning.specs.Moments.{clock_of, a_round_after, Now, only_at}
@@ -7,9 +7,9 @@ use Rattle.job_meaning.specs.declared.clock.Clock.{Clock}
 use Rattle.job_meaning.specs.declared.clock.Clock.TheVariants.{ByTicks as by_ticks, ByRounds as by_rounds}
 use Rattle.job_meaning.specs.Walk.{Levels, no_stack}
 use Rattle.job_meaning.proofs.MomentLemmas.{round_after}
-use Rattle.job_story.specs.Story.{Happening, enters_event, finds, misses, raises, handles, cleans, replaces, Story, no_more, happened, then_story}
+use Rattle.job_story.specs.Story.{Happening, enters_event, enters_object, gives_token_back, closes_channel, finds, misses, raises, handles, cleans, replaces, Story, no_more, happened, then_story}
 use Rattle.job_story.specs.Tell.{story_of_one, root_scene, tale_by}
-use Rattle.job_story.specs.Waking.{until_tick, Doing, awake, asleep, waiting, expecting, GoesOnIn, IsNext, IsSetBy, IsSet, starter_at, AllInTime}
+use Rattle.job_story.specs.Waking.{until_tick, Doing, awake, asleep, waiting, expecting, queueing, GoesOnIn, IsNext, IsSetBy, IsSet, starter_at, AllInTime}
 use Rattle.job_story.specs.LawsOfCauses.{TimePassesAsleep}
 use Rattle.job_story.proofs.Telling.{then_assoc, then_no_more, IsPlain, left_in, Passes, IsKept, kept_tell}
 
@@ -36,14 +36,16 @@ next_past clock (awake at) t u next passes = goes_on_past clock at t u next pass
 next_past clock (asleep since due) t u next passes = goes_on_past clock due t u next passes
 next_past clock (waiting since) t u next passes = waited_past clock since t u next passes
 next_past clock (expecting event since set) t u next passes = absurd next
+next_past clock (queueing label since) t u next passes = absurd next
 
--- a task to which nothing else happens next is not one that waits for an event
+-- a task to which something happens next is not one that waits for an event, or in a queue
 next_is_set : (clock : Clock) (table : Table) (doing : Doing) (t : ℕ) (label : Label) → IsNext clock doing t → IsSetBy clock (table label) t →
     IsSet clock table doing t label
 next_is_set clock table (awake at) t label next set = (next, set)
 next_is_set clock table (asleep since due) t label next set = (next, set)
 next_is_set clock table (waiting since) t label next set = (next, set)
 next_is_set clock table (expecting event since due) t label next set = absurd next
+next_is_set clock table (queueing other since) t label next set = absurd next
 
 -- a task is started in the moment of its starter
 starter_is : (clock : Clock) (t : ℕ) → starter_at clock (a_round_after clock t) ≡ t
@@ -72,6 +74,9 @@ leads_plain table clock st now (raises name) plain end rest h doing at = (at, h 
 leads_plain table clock st now (handles matched left) plain end rest h doing at = (at, h (awake now.at) (goes_on clock now.at))
 leads_plain table clock st now (cleans exc) plain end rest h doing at = (at, h (awake now.at) (goes_on clock now.at))
 leads_plain table clock st now (replaces lost fresh) plain end rest h doing at = (at, h (awake now.at) (goes_on clock now.at))
+leads_plain table clock st now (enters_object kind label) plain end rest h doing at = (at, h (awake now.at) (goes_on clock now.at))
+leads_plain table clock st now (gives_token_back label) plain end rest h doing at = (at, h (awake now.at) (goes_on clock now.at))
+leads_plain table clock st now (closes_channel label) plain end rest h doing at = (at, h (awake now.at) (goes_on clock now.at))
 leads_plain table clock st now _ plain end rest h doing at = absurd plain
 
 -- the own story of a task, from its start to its end
@@ -100,6 +105,21 @@ leads table clock =
       checked = λ st now label set end rest h doing at. (next_is_set clock table doing now.at label at set, h (awake now.at) (goes_on clock now.at));
       expected = λ st now u label is le end rest h doing at. (at, ((refl, sym is), h (awake u) (goes_on clock u)));
       given_up = λ st now from label c e lt before end rest h doing at. (at, ((refl, refl, lt, before), h (awake from) (goes_on clock from)));
+      unasked = λ st now ask label c end rest h doing at. (at, h (awake now.at) (goes_on clock now.at));
+      granted = λ st now got label asked is end rest h doing at. (
+        (subst (IsNext clock doing) (sym is) at, ap suc (sym is)),
+        h (awake (suc now.at)) (goes_on clock (suc now.at)),
+      );
+      closed = λ st now got label asked is end rest h doing at. (
+        (subst (IsNext clock doing) (sym is) at, ap suc (sym is)),
+        h (awake (suc now.at)) (goes_on clock (suc now.at)),
+      );
+      granted_later = λ st now g ask got label lent lt end rest h doing at.
+          (at, ((now.at, (refl, refl, lt)), h (awake g) (goes_on clock g)));
+      closed_later = λ st now g ask got label lent lt end rest h doing at.
+          (at, ((now.at, (refl, refl, lt)), h (awake g) (goes_on clock g)));
+      left_queue = λ st now from ask label lent c e lt end rest h doing at. (at, ((refl, refl, lt), h (awake from) (goes_on clock from)));
+      deadlocked = λ st now u ask label lent lt end rest h doing at. (at, ((now.at, (refl, refl, lt)), h (awake u) (goes_on clock u)));
       blocked = λ st now last kind label d shield inside a f end rest h doing at. (
         at,
         subst (AllInTime clock table (awake now.at) end) (sym (then_assoc a _ rest))
@@ -116,11 +136,13 @@ leads table clock =
 
 pub time_passes_asleep : TimePassesAsleep
 unfolding tale_by
-time_passes_asleep table job input =
+time_passes_asleep k job input =
     let clock = clock_of job.format in
+    let table = k.cancelled_from in
+    let a = tale_by k job input in
     let same = root_starts clock in (
       goes_on_at clock 0 (starter_at clock 0) (sym same),
-      own_story table clock [] 0 (let a = tale_by table job input in record { at = a.end; own = a.own }) (tale_by table job input).story
-          (kept_tell table (Leads table) (leads table) job.steps (root_scene job input) no_stack (only_at 0) tt),
+      own_story table clock [] 0 (let own = a.own in record { at = a.end; own = own }) a.story
+          (kept_tell k (Leads table) (leads table) job.steps (root_scene job input) no_stack (only_at 0) tt),
       goes_on_at clock (starter_at clock 0) 0 same,
     )

@@ -38,7 +38,7 @@ during_of (InQueue ask object since) = story.in_queue ask object since
 during_of (BeforeAsking ask object) = story.before_asking ask object
 
 abbrev pub asked_of : Asked → story.Asked
-asked_of asked = record { since = asked.since; part = range_in asked.part }
+asked_of asked = record { ask = asked.ask; since = asked.since; part = range_in asked.part }
 
 abbrev pub happening_of : Happening → story.Happening
 happening_of (Enters kind label deadline shield) = story.enters (kind_of kind) label deadline shield

@@ -10,7 +10,7 @@ use Rattle.job_tree.specs.declared.object.ObjectKind.{ObjectKind}
 use Rattle.job_meaning.specs.declared.limits.TheConstants.{MAX_INPUT}
 use Rattle.job_meaning.specs.GrantTable.{AreGrantsOf, grants_made}
 use Rattle.job_meaning.specs.Log.{Table}
-use Rattle.job_meaning.specs.Sharing.{Grants, Granted}
+use Rattle.job_meaning.specs.Sharing.{Grants}
 use Rattle.job_meaning.specs.Tables.{Tables}
 use Rattle.job_meaning.specs.Moments.{Now, only_at, a_round_after, wakes_at}
 use Rattle.job_meaning.specs.Walk as meaning

@@ -20,7 +20,7 @@ use Rattle.job_story.specs.Shown.{IsIn, IsShown, HasACause}
 use Rattle.job_story.specs.Closed.{IsClosed}
 
 -- Where a story says by which scope or nursery a task is cancelled, that one encloses the task, no shield hides it, and it is the
--- innermost that is cancelled from the effective deadline of the task on.
+-- innermost that is cancelled from the effective deadline of the task on. Of a task that does not ask a limiter or channel it may name none.
 abbrev pub CancellationsAreSeen : Type 0
 CancellationsAreSeen = (k : Tables) (job : Tree) (input : List ℕ) → AllBlamed k.cancelled_from [] (story_by k job input)
 
@@ -30,9 +30,11 @@ abbrev pub BlocksAreNested : Type 0
 BlocksAreNested =
     (k : Tables) (job : Tree) (input : List ℕ) → AllNested (clock_of job.format) k.cancelled_from (only_at 0) [] [] (story_by k job input)
 
--- The time of a task passes only while it sleeps or waits for a nursery or an event, and by rounds at a checkpoint too. So a task that falls
--- asleep until a moment goes on in that moment, or is cancelled by then; and one that waits for an event goes on in the moment from which the
--- event is set by the table, or is cancelled before. One that waits in the queue of a limiter or channel goes on later. The root task is started in moment 0, and nothing follows it.
+-- The time of a task passes only while it sleeps, or waits for a nursery, for an event or in the queue of a limiter or channel, and by rounds
+-- at a checkpoint too. So a task that falls asleep until a moment goes on in that moment, or is cancelled by then; and one that waits for an
+-- event goes on in the moment from which the event is set by the table, or is cancelled before. One that waits in a queue goes on in a later
+-- moment, and one that is granted something without a wait asked in the moment before. The root task is started in moment 0, and nothing
+-- follows it.
 abbrev pub TimePassesAsleep : Type 0
 TimePassesAsleep =
     (k : Tables) (job : Tree) (input : List ℕ) → AllInTime (clock_of job.format) k.cancelled_from (awake 0) 0 (story_by k job input)
@@ -48,7 +50,7 @@ ConcernedTasksAreClosed =
     (is_among l (concerned_tasks table all l) ≡ true) × IsClosed table all (concerned_tasks table all l)
 
 -- By settled tables, where names are given once, each cancellation of a job's story names a scope or nursery, and that one has a cause
--- among the events of the story.
+-- among the events of the story. Only that of a task that does not ask may name none.
 abbrev pub CancellationsHaveCauses : Type 0
 CancellationsHaveCauses =
     (k : Tables) (job : Tree) (input : List ℕ) → GivesNamesOnce job → IsSettled k.cancelled_from k.granted job input →

@@ -19,6 +19,7 @@ pub data During : Type 0 where
 
 -- that a task asked something in a moment, when this was its part of the input
 pub record Asked : Type 0 where
+  pub ask : Ask
   pub since : ℕ
   pub part : Range
 
@@ -84,9 +85,9 @@ then_story (happened t what rest) others = happened t what (then_story rest othe
 then_story (started l home part s u e own rest) others = started l home part s u e own (then_story rest others)
 
 -- what was asked and granted at once
-abbrev pub erased_ask : Ask → Label → Option Asked → Log → Log
-erased_ask ask object None rest = rest
-erased_ask ask object (Some a) rest = act object a.since (asks ask a.part None) rest
+abbrev pub erased_ask : Label → Option Asked → Log → Log
+erased_ask object None rest = rest
+erased_ask object (Some a) rest = act object a.since (asks a.ask a.part None) rest
 
 abbrev pub erased_close : ℕ → Option Label → Log → Log
 erased_close t None rest = rest
@@ -108,8 +109,8 @@ erased_one t (awaits event) rest = rest
 erased_one t (was_set event) rest = entry t (waited event) rest
 erased_one t (enters_object kind label) rest = act label t (opens kind) (entered label t None rest)
 erased_one t (queues ask object part left) rest = act object t (asks ask part left) rest
-erased_one t (gets ask object at_once) rest = erased_ask ask object at_once (entry t (was_granted ask object) rest)
-erased_one t (finds_closed ask object at_once) rest = erased_ask ask object at_once rest
+erased_one t (gets ask object at_once) rest = erased_ask object at_once (entry t (was_granted ask object) rest)
+erased_one t (finds_closed ask object at_once) rest = erased_ask object at_once rest
 erased_one t (deadlocks ask object) rest = rest
 erased_one t (gives_token_back object) rest = act object t gives_back rest
 erased_one t (closes_channel object) rest = erased_close t object rest

@@ -160,8 +160,8 @@ tell_left_queue ask label scene levels m left =
     if is_reached (sight levels) left
     then failed_at cancelled (only_at left) (story_of_one left (is_cancelled (seer levels left) (in_queue ask label m) scene.in_cleanup))
     else
-      failed_at (raised (codes "Deadlock") scene.here.task (tick_of scene.here.clock left)) (only_at left)
-      (story_of_one left (deadlocks ask label))
+    failed_at (raised (codes "Deadlock") scene.here.task (tick_of scene.here.clock left)) (only_at left)
+    (story_of_one left (deadlocks ask label))
 
 -- what a task does with what it is granted in moment g
 abbrev pub tell_granted : Label → Here → (g : ℕ) → What → Option Asked → (Here → Now → Tale) → Tale
@@ -178,9 +178,9 @@ abbrev pub queues_if : (at_once : Bool) → Ask → Label → Range → ℕ → 
 queues_if true ask label lent m = no_more
 queues_if false ask label lent m = story_of_one m (queues ask label lent None)
 
-abbrev pub asked_if : (at_once : Bool) → ℕ → Range → Option Asked
-asked_if true m lent = Some (record { since = m; part = lent })
-asked_if false m lent = None
+abbrev pub asked_if : (at_once : Bool) → Ask → ℕ → Range → Option Asked
+asked_if true ask m lent = Some (record { ask = ask; since = m; part = lent })
+asked_if false ask m lent = None
 
 -- a tale after a story
 abbrev pub after_story : Story → Tale → Tale
@@ -195,7 +195,7 @@ tell_leaving ask label scene levels m left =
 abbrev pub tell_got : Ask → Label → Here → ℕ → Granted → (Here → Now → Tale) → Tale
 tell_got ask label here m g go =
     let at_once = nat_le g.at (suc m) in
-    after_story (queues_if at_once ask label here.part m) (tell_granted label here g.at g.what (asked_if at_once m here.part) go)
+    after_story (queues_if at_once ask label here.part m) (tell_granted label here g.at g.what (asked_if at_once ask m here.part) go)
 
 abbrev pub tell_asked : Ask → Label → Scene → Levels → (m left : ℕ) → Option Granted → (Here → Now → Tale) → Tale
 tell_asked ask label scene levels m left None go = tell_leaving ask label scene levels m left

@@ -1,14 +1,16 @@
 //! What tasks ask of limiters and channels.
 ghost use Rattle.std.specs.Prelude.{◌≡◌, ◌≤◌, ◌<◌, suc, nat_le, [], None, Some, OnOk, IfOk, reverse};
-ghost use Rattle.std.specs.Option.{option_copied, option_map};
+ghost use Rattle.std.specs.Option.{ForSome, option_copied, option_map};
 ghost use Rattle.exceptions.specs.Exceptions as tree;
 ghost use Rattle.cancel_scopes.specs.Sight.{seen, sight};
 ghost use Rattle.input_lines.specs.Part.{range_of};
 ghost use Rattle.job_meaning.specs.Clocks.{gives_up_at, tick_of};
-ghost use Rattle.job_meaning.specs.GrantTable.{granted_of};
+ghost use Rattle.job_meaning.specs.GrantTable.{AreGrantsOf, granted_of};
+ghost use Rattle.job_meaning.specs.declared.grant_table.Granted.{Granted as HeldGranted};
+ghost use Rattle.objects.specs.Held.{IsGrantOf};
 ghost use Rattle.job_meaning.specs.Moments.{only_at};
 ghost use Rattle.job_meaning.specs.Walk.{in_time, label_on, last_grant, leaves_queue, stack_for};
-ghost use Rattle.job_story.specs.Heres.{grants_of, open_events, scene_of, scopes_of};
+ghost use Rattle.job_story.specs.Heres.{grants_of, input_of, open_events, scene_of, scopes_of};
 ghost use Rattle.job_story.specs.Held.{asked_of};
 ghost use Rattle.job_story.specs.Story.{deadlocks, finds_closed, gets, gives_token_back, queues};
 ghost use Rattle.job_story.specs.Tales.{Adds, Tells, now_in};
@@ -112,9 +114,11 @@ pub(crate) fn granted<'a>(
     moment: u64,
 ) -> Result<Option<Granted<'a>>, AllocError>
     requires room { moment ≤ 4611686018427387904 }
-    ensures { IfOk result (λ granted. option_map granted_of granted
+    requires lent { AreGrantsOf (input_of here) here.grants.now }
+    ensures granted { IfOk result (λ granted. option_map granted_of granted
         ≡ in_time moment (leaves_queue (sight (scopes_of here.entry)) (last_grant here.entry.clock moment))
         (grants_of here.entry object.now here.entry.task.now moment)) }
+    ensures lent { IfOk result (λ granted. ForSome granted (λ (g : HeldGranted). IsGrantOf (input_of here.entry) g.grant)) }
 {
     let left = leaves_queue(here, moment);
     let Some(granted) = here.grants.granted(here.alloc, object, here.task, moment)? else {
@@ -208,10 +212,11 @@ pub(crate) fn note_asked<'a>(
     requires later { moment < at }
     ensures events { OnOk result (Adds here.entry.task.now events.old.items events.new.items
         (queues_if (nat_le at (suc moment)) ask object.now (range_of here.entry.part) moment)) }
-    ensures at_once { IfOk result (λ asked. option_map asked_of asked ≡ asked_if (nat_le at (suc moment)) moment (range_of here.entry.part)) }
+    ensures at_once { IfOk result (λ asked. option_map asked_of asked ≡ asked_if (nat_le at (suc moment)) ask moment (range_of here.entry.part)) }
 {
     if at - moment == 1 {
         return Ok(Some(Asked {
+            ask,
             since: moment,
             part: range(here.part),
         }));

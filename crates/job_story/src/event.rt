@@ -58,6 +58,8 @@ pub enum During {
 /// That a task asked something of a limiter or channel.
 #[derive(Clone, Copy, Debug, PartialEq, Eq)]
 pub struct Asked {
+    /// What it asked.
+    pub ask: Ask,
     /// The moment in which it asked.
     pub since: u64,
     /// Its part of the input in that moment.
@@ -91,8 +93,8 @@ pub enum Happening {
     /// `Cancelled` was raised in the task.
     IsCancelled {
         /// The innermost scope or nursery whose cancellation is the one that the task saw: the first, from the inside, that is
-        /// cancelled from the effective deadline (`sight`) on. `None` if there is no such scope or nursery, which does not occur
-        /// in the story of a job.
+        /// cancelled from the effective deadline (`sight`) on. `None` if there is no such scope or nursery, which occurs in the
+        /// story of a job only where a task does not ask a limiter or channel (`During::BeforeAsking`).
         by: Option<Label>,
         /// What the task did then.
         during: During,
@@ -142,7 +144,8 @@ pub enum Happening {
         /// Its label.
         label: Label,
     },
-    /// The task asked something of a limiter or channel, and waits in the queue. What is granted in the next round is not waited for.
+    /// The task asked something of a limiter or channel, and waits in the queue. What is granted in the next round is not waited
+    /// for.
     Queues {
         /// What it asked.
         ask: Ask,

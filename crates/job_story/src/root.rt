@@ -19,11 +19,12 @@ use job_reader::Job;
 use std::alloc::{AllocError, Global};
 
 /// Returns the events of a job's run over an input, where `cancelled_from` maps each scope and nursery to the moment from which
-/// it is cancelled, and each event to the moment from which it is set, and `grants` has what limiters and channels granted. What is
-/// called a tick of an event is its moment.
+/// it is cancelled, and each event to the moment from which it is set, and `grants` has what limiters and channels granted. What
+/// is called a tick of an event is its moment.
 ///
 /// The events are in the order of the walk and not sorted by moment: all events of a started task, from its start to its end, are
-/// at the point where the task was started. The input has at most `MAX_INPUT` bytes. The only error is a failed allocation.
+/// at the point where the task was started. The input has at most `MAX_INPUT` bytes, and the parts that channels granted are of
+/// it. The only error is a failed allocation.
 pub fn tell<'a>(
     alloc: Global,
     job: &'a Job,

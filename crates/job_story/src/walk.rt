@@ -6,8 +6,8 @@ ghost use Rattle.job_tree.specs.InRange.{AreInRange, IsInRangeStep, IsInRangeOve
 ghost use Rattle.job_tree.specs.Names.{copies_of, size_of, size_in, handled_size, cleaned_size};
 ghost use Rattle.job_meaning.specs.GrantTable.{granted_of};
 ghost use Rattle.job_meaning.specs.Walk.{cuts_over, label_on, part_in_pass};
-ghost use Rattle.objects.specs.Held.{IsGrantOf};
-ghost use Rattle.objects.specs.Whats.{a_token};
+ghost use Rattle.objects.specs.Held.{IsGrantOf, what_in};
+ghost use Rattle.objects.specs.Whats.{a_part, a_token, was_sent};
 ghost use Rattle.block_exits.specs.Held.{kind_of};
 ghost use Rattle.job_story.specs.Story.{Tale};
 ghost use Rattle.job_story.specs.Held.{asked_of};
@@ -267,14 +267,14 @@ fn tell_ask<'a>(
     }
     match granted(here, object, moment)? {
         None => leave_queue(here, ask, object, moment, progress),
-        Some(granted) => tell_granted(granted, ask, object, body, here, moment, progress),
+        Some(granted) => tell_got(granted, ask, object, body, here, moment, progress),
     }
 }
 
-// Walks what a task does that asked in a moment, and is granted that.
+// Walks what a task does that asked in a moment, and is granted something later.
 #[cycle(telling)]
 #[inline(never)]
-fn tell_granted<'a>(
+fn tell_got<'a>(
     granted: Granted<'a>,
     ask: Ask,
     object: &Label,
@@ -291,24 +291,43 @@ fn tell_granted<'a>(
         (tell_got ask object.now (here_of here.entry) moment (granted_of granted.entry) (block_of_ask body.now here.entry))) }
 {
     progress.cancelled.clear();
+    let events = &mut progress.events;
+    let at_once = note_asked(here, ask, object, moment, granted.at, events)?;
+    let stretch = tell_granted(granted, object, at_once, body, here, progress)?;
+    Ok(stretch)
+}
+
+// Walks what a task does with what it is granted, from that moment on.
+#[cycle(telling)]
+#[inline(never)]
+fn tell_granted<'a>(
+    granted: Granted<'a>,
+    object: &Label,
+    at_once: Option<Asked>,
+    body: &'a Body,
+    here: Here<'a, '_>,
+    progress: &mut Progress,
+) -> Result<Stretch, AllocError>
+    requires in_range { AreInRange body.now }
+    requires clear { progress.old.cancelled.items ≡ [] }
+    requires room { CanWalk (size_of body.now) here granted.at }
+    requires lent { IsGrantOf (input_of here) granted.grant }
+    ensures { IfOk result (λ w. Tells here.entry.task.now progress.old.events.items w progress.new
+        (tell_granted object.now (here_of here.entry) granted.entry.at (what_in granted.entry.grant) (option_map asked_of at_once)
+        (block_of_ask body.now here.entry))) }
+{
     let at = granted.at;
-    let at_once = note_asked(here, ask, object, moment, at, &mut progress.events)?;
     match granted.grant {
         Grant::Token => tell_with_token(object, at_once, body, here, at, progress),
-        Grant::Sent => {
-            note_got(here, Ask::Send, object, at_once, at, &mut progress.events)?;
-            tell_steps(body.as_slice(), here, at, progress)
-        }
-        Grant::Received(part) => {
-            note_got(here, Ask::Receive, object, at_once, at, &mut progress.events)?;
-            let inside = Here { part, ..here };
-            tell_steps(body.as_slice(), inside, at, progress)
-        }
+        Grant::Sent => tell_sent(object, at_once, body, here, at, progress),
+        Grant::Received(part) => tell_received(part, object, at_once, body, here, at, progress),
         Grant::ClosedResource => {
-            find_closed(here, Ask::Send, object, at_once, closed_resource(), at, progress)
+            let name = closed_resource();
+            find_closed(here, Ask::Send, object, at_once, name, at, progress)
         }
         Grant::EndOfChannel => {
-            find_closed(here, Ask::Receive, object, at_once, end_of_channel(), at, progress)
+            let name = end_of_channel();
+            find_closed(here, Ask::Receive, object, at_once, name, at, progress)
         }
     }
 }
@@ -330,9 +349,78 @@ fn tell_with_token<'a>(
     ensures { IfOk result (λ w. Tells here.entry.task.now progress.old.events.items w progress.new
         (tell_granted object.now (here_of here.entry) moment a_token (option_map asked_of at_once) (block_of_ask body.now here.entry))) }
 {
-    note_got(here, Ask::Acquire, object, at_once, moment, &mut progress.events)?;
+    note_got(
+        here,
+        Ask::Acquire,
+        object,
+        at_once,
+        moment,
+        &mut progress.events,
+    )?;
     let stretch = tell_steps(body.as_slice(), here, moment, progress)?;
     note_token_back(here, object, stretch.end(), &mut progress.events)?;
+    Ok(stretch)
+}
+
+// Walks the block of a `send`, which has none in the text of a job.
+#[cycle(telling)]
+#[inline(never)]
+fn tell_sent<'a>(
+    object: &Label,
+    at_once: Option<Asked>,
+    body: &'a Body,
+    here: Here<'a, '_>,
+    moment: u64,
+    progress: &mut Progress,
+) -> Result<Stretch, AllocError>
+    requires in_range { AreInRange body.now }
+    requires clear { progress.old.cancelled.items ≡ [] }
+    requires room { CanWalk (size_of body.now) here moment }
+    ensures { IfOk result (λ w. Tells here.entry.task.now progress.old.events.items w progress.new
+        (tell_granted object.now (here_of here.entry) moment was_sent (option_map asked_of at_once) (block_of_ask body.now here.entry))) }
+{
+    note_got(
+        here,
+        Ask::Send,
+        object,
+        at_once,
+        moment,
+        &mut progress.events,
+    )?;
+    let stretch = tell_steps(body.as_slice(), here, moment, progress)?;
+    Ok(stretch)
+}
+
+// Walks the block of a `receive`, where the task has the part that it received.
+#[cycle(telling)]
+#[inline(never)]
+fn tell_received<'a>(
+    part: Part<'a>,
+    object: &Label,
+    at_once: Option<Asked>,
+    body: &'a Body,
+    here: Here<'a, '_>,
+    moment: u64,
+    progress: &mut Progress,
+) -> Result<Stretch, AllocError>
+    requires in_range { AreInRange body.now }
+    requires clear { progress.old.cancelled.items ≡ [] }
+    requires room { CanWalk (size_of body.now) here moment }
+    requires same { buffer_of part ≡ input_of here }
+    ensures { IfOk result (λ w. Tells here.entry.task.now progress.old.events.items w progress.new
+        (tell_granted object.now (here_of here.entry) moment (a_part (range_of part.entry)) (option_map asked_of at_once)
+        (block_of_ask body.now here.entry))) }
+{
+    note_got(
+        here,
+        Ask::Receive,
+        object,
+        at_once,
+        moment,
+        &mut progress.events,
+    )?;
+    let inside = Here { part, ..here };
+    let stretch = tell_steps(body.as_slice(), inside, moment, progress)?;
     Ok(stretch)
 }
 

@@ -78,6 +78,7 @@ fn push_wake(text: &mut Vec<u8>, wake: &Wake<'_>) -> Result<(), AllocError> {
         Wake::Seen => push_bytes(text, b"seen"),
         Wake::Answer(answer) => push_answer(text, answer),
         Wake::Settled => push_bytes(text, b"settled"),
+        Wake::Granted(_) => push_bytes(text, b"granted"),
     }
 }
 

@@ -35,6 +35,8 @@ mod queues;
 #[cfg(test)]
 mod scopes;
 #[cfg(test)]
+mod sharing;
+#[cfg(test)]
 mod syntax;
 #[cfg(test)]
 mod task_tables;

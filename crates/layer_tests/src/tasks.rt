@@ -75,6 +75,10 @@ fn push_entry(text: &mut Vec<u8>, entry: &Entry<'_>) -> Result<(), AllocError> {
             push_bytes(text, b"wait ")?;
             push_left(text, label, *tick, false)
         }
+        Entry::Granted { label, tick, .. } => {
+            push_bytes(text, b"granted ")?;
+            push_left(text, label, *tick, false)
+        }
     }
 }
 
@@ -108,6 +112,7 @@ fn push_stop(text: &mut Vec<u8>, stop: &Stop<'_>) -> Result<(), AllocError> {
         Stop::GiveUp(_) => push_bytes(text, b"give up"),
         Stop::Wait(_) => push_bytes(text, b"wait"),
         Stop::WaitFor(_) => push_bytes(text, b"wait for"),
+        Stop::Queue(_) => push_bytes(text, b"queue"),
         Stop::Ended(None) => push_bytes(text, b"end"),
         Stop::Ended(Some(exc)) => push_exc(text, exc),
     }

@@ -5,7 +5,7 @@ use Rattle.std.specs.Prelude.{Bool, Option, Some, None, ◌&&◌}
 use Rattle.exceptions.specs.Exceptions.{Label}
 use Rattle.cancel_scopes.specs.Sight.{Tick}
 use Rattle.job_meaning.specs.Log.{same_label}
-use Rattle.job_story.specs.Story.{enters, enters_event, sleeps, is_cancelled, finds, misses, raises, cancels, sets, awaits, was_set, handles, cleans, replaces, waits, leaves}
+use Rattle.job_story.specs.Story.{enters, enters_event, sleeps, is_cancelled, finds, misses, raises, cancels, sets, awaits, was_set, enters_object, queues, gets, finds_closed, deadlocks, gives_token_back, closes_channel, handles, cleans, replaces, waits, leaves}
 use Rattle.job_story.specs.Tell.{is_from}
 use Rattle.job_story.specs.Events.{What, starts, happens, ends, Event}
 use Rattle.job_story.specs.Limit.{is_start}
@@ -96,6 +96,13 @@ arrow_at_well sheet all i (happens (cancels label)) from rest = refl
 arrow_at_well sheet all i (happens (sets label)) from rest = refl
 arrow_at_well sheet all i (happens (awaits event)) from rest = refl
 arrow_at_well sheet all i (happens (was_set event)) from rest = refl
+arrow_at_well sheet all i (happens (enters_object kind label)) from rest = refl
+arrow_at_well sheet all i (happens (queues ask object lent left)) from rest = refl
+arrow_at_well sheet all i (happens (gets ask object at_once)) from rest = refl
+arrow_at_well sheet all i (happens (finds_closed ask object at_once)) from rest = refl
+arrow_at_well sheet all i (happens (deadlocks ask object)) from rest = refl
+arrow_at_well sheet all i (happens (gives_token_back object)) from rest = refl
+arrow_at_well sheet all i (happens (closes_channel object)) from rest = refl
 arrow_at_well sheet all i (happens (handles matched left)) from rest = refl
 arrow_at_well sheet all i (happens (cleans exc)) from rest = refl
 arrow_at_well sheet all i (happens (replaces lost fresh)) from rest = refl

@@ -48,3 +48,7 @@ returns-in-Set c = rw c.in-Set.is c.set.ensures
 pub returns-in-Wait : goal.returns-in-Wait
 unfolding tell_step
 returns-in-Wait c = rw c.in-Wait.is c.wait_for.ensures
+
+pub returns-in-Close : goal.returns-in-Close
+unfolding tell_step
+returns-in-Close c = rw c.in-Close.is c.close.ensures

@@ -39,6 +39,27 @@ decreases-tell_inside l = weight_of l.body.now + 4
 abbrev pub decreases-tell_event : goal.decreases-tell_event
 decreases-tell_event l = weight_of l.body.now + 6
 
+abbrev pub decreases-tell_object : goal.decreases-tell_object
+decreases-tell_object l = weight_of l.body.now + 6
+
+abbrev pub decreases-tell_ask : goal.decreases-tell_ask
+decreases-tell_ask l = weight_of l.body.now + 7
+
+abbrev pub decreases-tell_got : goal.decreases-tell_got
+decreases-tell_got l = weight_of l.body.now + 6
+
+abbrev pub decreases-tell_granted : goal.decreases-tell_granted
+decreases-tell_granted l = weight_of l.body.now + 5
+
+abbrev pub decreases-tell_with_token : goal.decreases-tell_with_token
+decreases-tell_with_token l = weight_of l.body.now + 4
+
+abbrev pub decreases-tell_sent : goal.decreases-tell_sent
+decreases-tell_sent l = weight_of l.body.now + 4
+
+abbrev pub decreases-tell_received : goal.decreases-tell_received
+decreases-tell_received l = weight_of l.body.now + 4
+
 abbrev pub decreases-tell_start : goal.decreases-tell_start
 decreases-tell_start l = weight_of l.body.now + 7
 

@@ -1,6 +1,3 @@
-use Rattle.std.proofs.Common.{rules, ◌≡◌, ℕ, OnOk, OnErr, IfOk, None, Some, if◌then◌else◌}
-use Rattle.exceptions.specs.Exceptions as tree
-use Rattle.job_meaning.specs.GrantTable.{made_in, is_asking}
 use Rattle.job_meaning.proofs.grant_table.GrantTable.record.Goals as goal
 
 -- src/grant_table.rt:46:5

@@ -1,6 +1,6 @@
 use Rattle.std.proofs.Common.{arith}
 use Rattle.job_runner.proofs.States.{moment_bounded}
-use Rattle.job_runner.proofs.Turning.{may_turn, timers_live, turn_bounded, turn_now, turns_few, row_within, started_now, started_bounded, started_timed, goes_stopping, scopes_sound}
+use Rattle.job_runner.proofs.TurnsTaken.{may_turn, timers_live, turn_bounded, turn_now, turns_few, row_within, started_now, started_bounded, started_timed, goes_stopping, scopes_sound}
 use Rattle.job_runner.proofs.Turns.{goes_on}
 use Rattle.job_runner.proofs.runner.Runner.go.Goals as goal
 

@@ -42,7 +42,7 @@ returns-clause-underway c =
       cancelled_from = c.in_ok-task.ensures.cancelled_from;
       cancelled = c.in_ok-task.ensures.cancelled;
     })
-    c.in_ok-task_table.ensures.root refl c.in_ok-task_table.ensures.agree c.new-2.ensures.now limit c.requires.bounded
+    c.in_ok-task_table.ensures.root refl refl c.new-6.ensures c.new-7.ensures.items c.in_ok-task_table.ensures.agree c.new-2.ensures.now limit c.requires.bounded
     c.new-2.ensures.timers c.new-3.ensures c.new-4.ensures c.new.ensures.unchanged c.new-batch.result.next
-    c.add.new.self.next c.new-batch.ensures.next c.in_ok-add.ensures.added c.turn_over.ensures.current c.turn_over.ensures.next
+    c.add.new.self.next c.new-5.ensures.current c.new-5.ensures.next c.new-batch.ensures.next c.in_ok-add.ensures.added c.turn_over.ensures.current c.turn_over.ensures.next
     c.turn_over.ensures.unplaced
