@@ -34,6 +34,10 @@ OF_A_LAW = {
     "job_story/all_of_it_propagates.edit": "a story would let pass what was caught, against `BlocksAreNested`",
     "job_story/one_round_of_causers.edit": "the causer of a causer would be left out, against `ConcernedTasksAreClosed`",
     "job_story/the_innermost_scope_is_blamed.edit": "a story would name the wrong scope, against `CancellationsAreSeen`",
+    "run_refinement/a_cancellation_wins_over_a_grant.edit": "a task that is granted something could go on as cancelled, against `RunStatesTurn`",
+    "run_refinement/a_grant_is_kept_with_the_moment_of_the_act.edit": "a grant would be kept with another moment, against `RunStatesServe`",
+    "run_refinement/a_task_gets_what_the_next_one_asked.edit": "a grant would go to another task, against `RunStatesServe`",
+    "run_refinement/acts_are_served_in_any_order.edit": "acts could be served in another order than that of records, against `RunStatesServe`",
 }
 CALL = re.compile(r"(\.\s*)?(?:(\w+)(?:::<[^<>]*>)?::)?\b([a-z_]\w*)(?=\s*(?:::<[^;{}]*?>)?\()")
 VALUE = re.compile(r"(?<=[(,])\s*()(?:(\w+)::)?([a-z_]\w*)\s*(?=[,)])")

@@ -1,6 +1,6 @@
 -- A task that asks a limiter or channel: what it asks is kept, and it waits for it as long as `forever`.
-use Rattle.std.proofs.Common.{◌≡◌, ℕ, suc, ◌+◌, ◌<◌, ◌≤◌, ◌^◌, max, inr, List, Option, Some, None, [], ◌∷◌, ◌++◌, map, refl, ap, sym, ◌∙◌, subst, arith}
-use Rattle.std.specs.Prelude.{All, ◌⊎◌}
+use Rattle.std.proofs.Common.{◌≡◌, ℕ, ◌+◌, ◌<◌, max, inr, List, Some, None, refl, ap, sym, ◌∙◌, subst, arith}
+use Rattle.std.specs.Prelude.{All}
 use Rattle.std.specs.Option.{ForSome}
 use Rattle.cancel_scopes.specs.Tree.{IsOpen}
 use Rattle.clock.specs.Clock.{due_of}
@@ -14,7 +14,6 @@ use Rattle.task_machine.specs.declared.stop.ObjectRequest.{ObjectRequest}
 use Rattle.task_machine.specs.declared.stop.Stop.TheVariants as stops
 use Rattle.task_machine.specs.declared.stop.TaskState.{TaskState}
 use Rattle.task_machine.specs.declared.task.Task.{Task}
-use Rattle.task_machine.specs.Standing.{here_of}
 use Rattle.task_machine.specs.Tasks.{scope_of}
 use Rattle.task_machine.specs.Worlds.{event_at}
 use Rattle.job_meaning.specs.Walk.{Here}

@@ -23,7 +23,7 @@ use Rattle.job_runner.specs.declared.runner.Runner.{Runner}
 use Rattle.task_table.specs.TaskTable.{running_at, task_count, run_state}
 use Rattle.task_table.specs.Rows.{times}
 use Rattle.job_runner.specs.Shared.{what_of, what_if, what_or, call_by, granted_among, later_calls, ready_calls, sharing_of, IsCallOf}
-use Rattle.job_runner.specs.Shelves.{AreShelved, GoesBy, HoldsParts, IsAddedOf, IsEntryOf, IsBetweenTurns, IsCalled, IsCalledEntry, IsGoing, IsRight, IsSameJob, IsServed, IsServedIf, IsTurning, IsUnderway, IsUnserved, NoneChanged, running_times, times_shelved}
+use Rattle.job_runner.specs.Shelves.{AreShelved, GoesBy, HoldsParts, IsEntryOf, IsBetweenTurns, IsCalled, IsCalledEntry, IsGoing, IsRight, IsSameJob, IsServedIf, IsTurning, IsUnderway, IsUnserved, NoneChanged, running_times, times_shelved}
 use Rattle.job_runner.specs.Grants.{ServesRound}
 use Rattle.job_runner.specs.Steps.{SeesOnly}
 use Rattle.job_runner.specs.Turns.{Commits}
@@ -447,23 +447,6 @@ module _ {was r informed : Runner} (left b : Batches) (h : IsCommitting was r) (
       by_batch : (es : List Entry) → IsServedIf es (record informed { batch = b }) → IsUnserved (record informed { batch = b })
       by_batch [] k = absurd (let through = k.through in omega (arith, through, early))
       by_batch (e ∷ es) k = k
-
-  -- the job, the input and the limit are those that the batch began with
-  pub commits_same : IsSameJob was (record informed { batch = b })
-  commits_same =
-      record {
-        job = ap (λ (x : Runner). x.job) only ∙ h.same.job;
-        input = ap (λ (x : Runner). x.input) only ∙ h.same.input;
-        limit = ap (λ (x : Runner). x.limit) only ∙ h.same.limit;
-      }
-
-  -- and one turn was taken for each entry of the batch
-  pub commits_turns : informed.turns ≡ was.turns + length was.batch.current
-  commits_turns =
-      let a : length r.batch.current ≡ 0 = ap length over in
-      let c : r.turns + length r.batch.current ≡ was.turns + length was.batch.current = h.turns in
-      let d : informed.turns ≡ r.turns = ap (λ (x : Runner). x.turns) only in
-      omega (arith, a, c, d)
 
 -- ---- what was done in the moment is served
 

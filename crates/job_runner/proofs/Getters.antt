@@ -1,11 +1,10 @@
 -- Who gets something when what was done in a moment is served: tasks that wait for it, each of them once.
-use Rattle.std.proofs.Common.{◌≡◌, ◌≢◌, ◌⊎◌, inl, inr, ℕ, suc, ◌+◌, ◌<◌, ◌≤◌, Bool, true, false, ◌&&◌, ◌==◌, nat_lt, cond, Option, Some, None, List, [], ◌∷◌, ◌++◌, map, refl, ap, sym, ◌∙◌, subst, arith, Bor}
+use Rattle.std.proofs.Common.{◌≡◌, ◌≢◌, inl, inr, ℕ, suc, ◌+◌, ◌≤◌, Bool, true, false, ◌&&◌, ◌==◌, nat_lt, cond, Option, Some, None, List, [], ◌∷◌, ◌++◌, map, refl, ap, sym, ◌∙◌, subst, arith, Bor}
 use Rattle.std.specs.Prelude.{All, IsSome, is_some}
 use Rattle.std.specs.List.{filter}
-use Rattle.std.specs.Option.{ForSome, option_map}
-use Rattle.std.proofs.lemmas.Bool.{cases_eq, eq-eqb, eqb-true, ne_eqb}
+use Rattle.std.proofs.lemmas.Bool.{eq-eqb, eqb-true, ne_eqb}
 use Rattle.std.proofs.lemmas.Bool.Decides.{nat_tests}
-use Rattle.std.proofs.lemmas.List.Elements.{All-cons, All-head, All-map, All-nil, All-tail, All-weaker, filter-append}
+use Rattle.std.proofs.lemmas.List.Elements.{All-cons, All-head, All-nil, All-tail}
 use Rattle.std.proofs.lemmas.Option.{none-some, same_Some}
 use Rattle.clock.specs.Clock.{due_of}
 use Rattle.exceptions.specs.Exceptions.{Label}
@@ -15,11 +14,9 @@ use Rattle.job_meaning.specs.Walk.{Here}
 use Rattle.job_meaning.proofs.Distinct.{same_label_itself}
 use Rattle.job_tree.specs.Tree.{Steps}
 use Rattle.job_tree.specs.declared.object.Ask.{Ask}
-use Rattle.objects.specs.Held.{Gets, gets_in, what_in, channel_in, limiter_in, object_in, sender_in, sender_of, waits_to_send, a_channel, a_limiter, AreGivenOf, AreQueuedBy, IsGrantOf, ObjectOf, PassesAll}
+use Rattle.objects.specs.Held.{Gets, gets_in, what_in, AreGivenOf, IsGrantOf}
 use Rattle.objects.specs.Whats.{What}
 use Rattle.objects.specs.declared.given.Given.{Given}
-use Rattle.objects.specs.declared.object.Object.{Object}
-use Rattle.objects.specs.declared.object.Object.TheVariants as objects
 use Rattle.objects.specs.declared.ticket.Ticket.{Ticket}
 use Rattle.turn_semantics.specs.Lists.{IsAmong}
 use Rattle.task_machine.specs.declared.stop.TaskState.{TaskState}
@@ -30,23 +27,23 @@ use Rattle.task_machine.specs.Worlds.{label_at}
 use Rattle.run_refinement.specs.RunState.{RunState, Refines}
 use Rattle.run_refinement.specs.Moved.{SameTasks, ServesRound, granted_to}
 use Rattle.run_refinement.specs.Ready.{AllStay}
-use Rattle.run_refinement.specs.Sharing.{RoundAct as round_act, asked_before, waits_in, serve_all, acts_on, AreAskedBefore}
+use Rattle.run_refinement.specs.Sharing.{RoundAct as round_act, waits_in, AreAskedBefore}
 use Rattle.run_refinement.proofs.Counts.{count}
 use Rattle.run_refinement.proofs.Counts as counts
-use Rattle.run_refinement.proofs.GrantsOnce.{IsGetter, gets_once, gets_since, getter}
+use Rattle.run_refinement.proofs.GrantsOnce.{gets_once, gets_since, getter}
 use Rattle.task_table.specs.declared.entry.Call.{Call}
 use Rattle.task_table.specs.declared.entry.Call.TheVariants as calls
 use Rattle.task_table.specs.declared.entry.Entry.{Entry}
 use Rattle.task_table.specs.declared.task_table.Running.{Running}
 use Rattle.task_table.specs.Entries.{Added, added_of}
 use Rattle.task_table.specs.Rows.{times}
-use Rattle.task_table.specs.TaskTable.{path_of, running_at, id_of, run_state, task_count, task_of}
+use Rattle.task_table.specs.TaskTable.{running_at, run_state, task_count, task_of}
 use Rattle.task_table.proofs.Times.{one_if, times_cons}
 use Rattle.job_runner.specs.declared.objects_by_label.ObjectTable.{ObjectTable}
 use Rattle.job_runner.specs.declared.runner.Runner.{Runner}
 use Rattle.job_runner.specs.declared.serving.PlacedAct.{PlacedAct}
 use Rattle.job_runner.specs.Grants.{getter_of, MayGet, MayGetAll}
-use Rattle.job_runner.specs.Serving.{Granting, act_of_placed, granted_on, served_on, AreOrdered, ServesActs, StayLent}
+use Rattle.job_runner.specs.Serving.{Granting, act_of_placed, granted_on, served_on, AreOrdered, ServesActs}
 use Rattle.job_runner.specs.Shared.{what_of, later_calls, object_at, ready_calls, round_act_of}
 use Rattle.job_runner.specs.Shelves.{ContinuesBy, ContinuesLater, IsCalledLater, IsGoing, IsUnserved, NoneGranted, Stays, running_times, state_in, task_state_times, timer_times, times_shelved}
 use Rattle.job_runner.proofs.AskedBy.{asked_by, asked_before_queued, queued_by_now}
@@ -55,7 +52,7 @@ use Rattle.job_runner.proofs.Lived.{LivesBy, lives_by}
 use Rattle.job_runner.proofs.Options.{some_is}
 use Rattle.job_runner.proofs.Shelving.{times_next, times_now}
 use Rattle.job_runner.proofs.States.{meaning_of, meaning_run, meaning_settled}
-use Rattle.job_runner.proofs.Until.{NoneBefore, one_among, stay_until}
+use Rattle.job_runner.proofs.Until.{one_among, stay_until}
 
 -- ---- a task in a queue
 

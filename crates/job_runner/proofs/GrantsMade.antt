@@ -1,7 +1,6 @@
 -- Something is granted to tasks, one after the other: each leaves the clock and the sleepers, and continues a round later.
 use Rattle.std.proofs.Common.{◌≡◌, ◌≢◌, ℕ, suc, ◌+◌, ◌≤◌, true, false, inl, inr, Option, Some, None, List, [], ◌∷◌, ◌++◌, map, refl, ap, sym, ◌∙◌, subst, arith}
-use Rattle.std.specs.Prelude.{◌==◌, All, IsSome, IsSomeAnd, is_some, ◌<◌}
-use Rattle.std.specs.Option.{ForSome}
+use Rattle.std.specs.Prelude.{◌==◌, IsSome, is_some, ◌<◌}
 use Rattle.std.proofs.lemmas.List.{append-nil, append_assoc, map-append}
 use Rattle.std.proofs.lemmas.List.Elements.{All-head, All-push, All-tail}
 use Rattle.std.proofs.lemmas.Bool.Decides.{eqb_tells}
@@ -10,21 +9,20 @@ use Rattle.clock.specs.Clock.{due_of}
 use Rattle.clock.specs.Waiting.{event_in}
 use Rattle.objects.specs.declared.given.Given.{Given}
 use Rattle.task_machine.specs.declared.stop.TaskState.{TaskState}
-use Rattle.task_machine.specs.declared.stop.TaskState.TheVariants.{Queued}
 use Rattle.task_machine.specs.Tasks.{lent_of}
 use Rattle.task_machine.specs.Worlds.{event_at}
 use Rattle.task_table.specs.declared.entry.Call.TheVariants.{Granted}
 use Rattle.task_table.specs.declared.task_table.Running.{Running}
 use Rattle.task_table.specs.Entries.{Added}
 use Rattle.task_table.specs.Rows.{times}
-use Rattle.task_table.specs.TaskTable.{running_at, id_of, task_count}
+use Rattle.task_table.specs.TaskTable.{running_at, task_count}
 use Rattle.task_table.proofs.Times.{all_others, one_if, one_same, times_append, times_cons}
 use Rattle.job_runner.specs.declared.runner.Runner.{Runner}
 use Rattle.job_runner.specs.Grants.{call_of, getter_of, Grants, GrantsOnly, MayGet, MayGetAll}
 use Rattle.job_runner.specs.Shared.{later_calls}
-use Rattle.job_runner.specs.Shelves.{AllStay, AreShelved, ContinuesBy, ContinuesLater, IsCalledLater, Stays, running_times, timer_times, times_shelved, wait_slot_of, waits_in}
+use Rattle.job_runner.specs.Shelves.{AreShelved, ContinuesBy, ContinuesLater, IsCalledLater, Stays, timer_times, times_shelved, wait_slot_of, waits_in}
 use Rattle.job_runner.proofs.Known.{known_without}
-use Rattle.job_runner.proofs.Lived.{one_id, row_below}
+use Rattle.job_runner.proofs.Lived.{row_below}
 use Rattle.job_runner.proofs.Options.{some_has, some_is}
 use Rattle.job_runner.proofs.Shelving.{none_away, times_next}
 use Rattle.job_runner.proofs.Waking.{consistent_still}

@@ -1,60 +1,46 @@
 -- The clock jumps: what holds in the later moment.
-use Rattle.std.proofs.Common.{◌≡◌, inl, inr, ℕ, suc, ◌+◌, ◌<◌, ◌≤◌, min, max, Bool, true, false, Option, Some, None, [], refl, ap, sym, ◌∙◌, subst, arith, if◌then◌else◌}
-use Rattle.std.specs.Prelude.{All, IsSome, IsSomeAnd, is_some, ◌⊎◌, ◌==◌, ◌≢◌, ◌∷◌, List, length, map, nat_le}
+use Rattle.std.proofs.Common.{◌≡◌, inl, inr, ℕ, suc, ◌<◌, ◌≤◌, max, true, Option, Some, None, [], refl, ap, sym, ◌∙◌, subst, arith}
+use Rattle.std.specs.Prelude.{All, IsSome, IsSomeAnd, is_some, ◌⊎◌, ◌≢◌, ◌∷◌, List, length, map}
 use Rattle.std.specs.Option.{option_map}
-use Rattle.std.proofs.lemmas.Bool.{cases_lt, le-leb}
-use Rattle.std.proofs.lemmas.Bool.Decides.{eqb_tells, leb_tells}
-use Rattle.std.proofs.lemmas.List.Elements.{All-head, All-nil, All-tail, All-weaker}
+use Rattle.std.proofs.lemmas.Bool.{le-leb}
+use Rattle.std.proofs.lemmas.List.Elements.{All-nil, All-weaker}
 use Rattle.std.proofs.lemmas.Option.{same_Some, none-some}
 use Rattle.clock.specs.Clock.{now_of, limit_of, due_of, HasTimer, AllLater, IsNext}
 use Rattle.clock.specs.Clock as timers
-use Rattle.cancel_scopes.specs.Sight.{Tick, is_reached, seen, sight}
-use Rattle.cancel_scopes.specs.Tree.{outer_of}
+use Rattle.cancel_scopes.specs.Sight.{Tick, is_reached}
 use Rattle.nursery_book.specs.Nursery.{Nursery, is_settled}
 use Rattle.nursery_book.specs.Book.{nursery_at}
 use Rattle.nursery_book.specs.declared.book.NurseryBook.{NurseryBook}
-use Rattle.job_meaning.specs.Walk.{last_grant}
-use Rattle.job_meaning.specs.Before.{upto}
 use Rattle.interleavings.specs.Laws.{IsSettledBy}
 use Rattle.turn_semantics.specs.Midway.{Tables}
 use Rattle.job_meaning.specs.Meaning.{meaning_end}
-use Rattle.job_meaning.specs.Moments.{clock_of, tick_of, a_round_after, wakes_at}
-use Rattle.job_meaning.specs.declared.clock.Clock.{Clock}
-use Rattle.job_meaning.specs.declared.clock.Clock.TheVariants.{ByTicks as by_ticks, ByRounds as by_rounds}
-use Rattle.job_meaning.specs.Rest.{Stopped, at_end}
+use Rattle.job_meaning.specs.Moments.{clock_of, tick_of}
 use Rattle.task_machine.specs.declared.stop.TaskState.{TaskState}
 use Rattle.task_machine.specs.declared.stop.TaskState.TheVariants.{ToBegin, Asked, Asleep, Waiting, Queued, GivingUp, Awaits, Over}
 use Rattle.task_machine.specs.declared.task.Task.{Task}
 use Rattle.task_machine.specs.declared.world.World.{World}
-use Rattle.task_machine.specs.Events.{wait_ends}
-use Rattle.task_machine.specs.Fitting.{waits_of}
-use Rattle.task_machine.specs.Stops.{Numbers, IsTaskState}
 use Rattle.task_machine.specs.Tasks.{scope_of}
 use Rattle.task_machine.specs.Worlds.{event_at}
-use Rattle.interleavings.specs.Interleaving.{live}
-use Rattle.run_refinement.specs.RunState.{HasMembers, Refines, RunState}
-use Rattle.run_refinement.specs.Ready.{StaysTo, AllStay, HasMoment}
+use Rattle.run_refinement.specs.RunState.{Refines, RunState}
+use Rattle.run_refinement.specs.Ready.{AllStay, HasMoment}
 use Rattle.run_refinement.proofs.Blocks.{state_goes_on, state_in_time}
 use Rattle.run_refinement.proofs.JumpsOn.{jumps}
-use Rattle.task_table.specs.declared.task_table.TaskTable.{TaskTable}
 use Rattle.task_table.specs.declared.task_table.Running.{Running}
 use Rattle.job_runner.specs.declared.runner.Runner.{Runner}
 use Rattle.job_runner.specs.Jumps.{sight_asleep, sight_by, sight_in, Wakes, IsNextCancel, IsNextRound, IsNextMoment, BeganBefore, Stayed, IsAnyNow, IsWaking}
 use Rattle.job_runner.specs.Limits.{last_of}
 use Rattle.clock.specs.Sleeping.{IsFirst}
-use Rattle.task_table.specs.TaskTable.{running_at, task_of, ended_task_of, id_of, task_count, run_state, IsTaskTable}
+use Rattle.task_table.specs.TaskTable.{running_at, task_of, ended_task_of, task_count, run_state}
 use Rattle.job_runner.specs.Shared.{what_of, granted_among, later_calls, ready_calls, round_act_of, sharing_of}
-use Rattle.job_runner.specs.Shelves.{left_in, moment_of, GoesBy, ContinuesLater, IsCalledAdded, IsCalledLater, IsServed, IsServedIf, IsConsistent, IsAsleepIn, IsQueuedIn, DozesIn, Stays, sleep_slot_of, wait_slot_of, timer_times, settled_times, task_state_times, running_times, times_shelved, state_in, IsUnderway}
+use Rattle.job_runner.specs.Shelves.{GoesBy, ContinuesLater, IsCalledAdded, IsCalledLater, IsServed, IsServedIf, IsConsistent, DozesIn, Stays, sleep_slot_of, wait_slot_of, timer_times, settled_times, task_state_times, running_times, times_shelved, state_in, IsUnderway}
 use Rattle.task_table.specs.Entries.{Added}
 use Rattle.task_table.specs.declared.entry.Entry.{Entry}
-use Rattle.task_table.specs.Rows.{times}
-use Rattle.task_table.proofs.Times.{one_if, times_cons}
+use Rattle.task_table.proofs.Times.{one_if}
 use Rattle.job_runner.proofs.Goes.{later_goes}
 use Rattle.job_runner.proofs.Granted.{granted_as, granted_none}
 use Rattle.job_runner.proofs.Known.{seen_by, sees_from}
-use Rattle.job_runner.proofs.Lived.{lives_by}
 use Rattle.job_runner.proofs.Options.{some_is, some_has, some_kept}
-use Rattle.job_runner.proofs.Shelving.{times_next, times_now}
+use Rattle.job_runner.proofs.Shelving.{times_now}
 use Rattle.job_runner.proofs.Until.{NoneBefore, kept_as, lives_at, stay_until, wakes_in}
 use Rattle.job_runner.proofs.States.{meaning_of, meaning_run, meaning_settled}
 

@@ -14,11 +14,9 @@ use Rattle.job_meaning.specs.declared.clock.Clock.{Clock}
 use Rattle.job_meaning.specs.declared.clock.Clock.TheVariants.{ByTicks as by_ticks, ByRounds as by_rounds}
 use Rattle.nursery_book.specs.Nursery.{Nursery, is_settled}
 use Rattle.nursery_book.specs.Book.{nursery_at, HasNursery}
-use Rattle.task_machine.specs.declared.stop.TaskState.{TaskState}
 use Rattle.task_machine.specs.declared.stop.TaskState.TheVariants.{ToBegin, Awaits}
 use Rattle.task_machine.specs.declared.task.Task.{Task}
 use Rattle.task_machine.specs.declared.world.World.{World}
-use Rattle.task_machine.specs.Tasks.{scope_of, lent_of}
 use Rattle.task_machine.specs.Worlds.{event_at}
 use Rattle.task_table.specs.declared.task_table.TaskTable.{TaskTable}
 use Rattle.task_table.specs.declared.task_table.Running.{Running}
@@ -27,7 +25,7 @@ use Rattle.task_table.specs.TaskTable.{running_at}
 use Rattle.task_table.proofs.Times.{times_append}
 use Rattle.job_runner.specs.declared.runner.Runner.{Runner}
 use Rattle.job_runner.specs.Shared.{what_of, granted_among, later_calls, ready_calls, IsCallOf}
-use Rattle.job_runner.specs.Shelves.{left_in, moment_of, GoesBy, ContinuesBy, ContinuesLater, IsCalledAdded, IsCalledEntry, IsCalledLater, IsAddedOf, IsEntryOf, NoneGranted, HoldsParts, IsConsistent, Stays, AllStay, AreKnown, timer_times, times_shelved, running_times, IsElse, AreShelved}
+use Rattle.job_runner.specs.Shelves.{left_in, moment_of, GoesBy, ContinuesLater, IsCalledAdded, IsCalledEntry, IsCalledLater, IsAddedOf, NoneGranted, HoldsParts, IsConsistent, AllStay, AreKnown, timer_times, times_shelved, running_times, IsElse, AreShelved}
 use Rattle.job_runner.specs.Steps.{calls_in, calls_later, IsReadied}
 use Rattle.job_runner.proofs.Goes.{begin_goes, settled_goes}
 use Rattle.job_runner.proofs.Granted.{among_both}

@@ -1,5 +1,5 @@
 -- Acts in the order of records: a stable sort by the rows from the root's to that of the task puts them into it.
-use Rattle.std.proofs.Common.{◌≡◌, ◌≢◌, inl, inr, ℕ, zero, suc, ◌+◌, ◌<◌, ◌≤◌, Bool, true, false, ◌&&◌, ◌||◌, ◌==◌, not, nat_lt, cond, List, [], ◌∷◌, ◌++◌, map, length, refl, ap, sym, ◌∙◌, subst, arith}
+use Rattle.std.proofs.Common.{◌≡◌, ◌≢◌, inl, inr, ℕ, zero, suc, ◌+◌, ◌<◌, ◌≤◌, Bool, true, false, ◌&&◌, ◌||◌, ◌==◌, not, nat_lt, cond, List, [], ◌∷◌, ◌++◌, map, refl, ap, sym, ◌∙◌, subst, arith}
 use Rattle.std.specs.Prelude.{◌⊎◌, All, slice_index_or}
 use Rattle.std.specs.List.{filter}
 use Rattle.std.specs.List.Sorted.{ties, IsPermutation, IsSortedBy, IsStableBy}
@@ -16,12 +16,12 @@ use Rattle.std.proofs.lemmas.List.{append_assoc, map-append}
 use Rattle.std.proofs.lemmas.List.Elements.{All-cons, All-head, All-map, All-nil, All-push, All-tail, All-weaker}
 use Rattle.std.proofs.lemmas.List.MinMax.{ranks_by}
 use Rattle.std.proofs.lemmas.List.Sorted.{All-permutation}
-use Rattle.run_refinement.specs.Sharing.{RoundAct as round_act, precedes, PrecedesAll, AreSorted, acts_by, InRecordOrder}
+use Rattle.run_refinement.specs.Sharing.{RoundAct as round_act, precedes, PrecedesAll, AreSorted, acts_by}
 use Rattle.task_table.specs.TaskTable.{parent_of, path_by, path_of}
 use Rattle.task_table.specs.declared.task_table.TaskTable.{TaskTable}
 use Rattle.job_runner.specs.declared.serving.PlacedAct.{PlacedAct}
 use Rattle.job_runner.specs.declared.serving.RoundAct.{RoundAct}
-use Rattle.job_runner.specs.Serving.{act_of_placed, AreOrdered, ArePlaced}
+use Rattle.job_runner.specs.Serving.{act_of_placed, AreOrdered}
 use Rattle.job_runner.specs.Shared.{round_act_of}
 use Rattle.job_runner.specs.Shelves.{IsActOf}
 use Rattle.job_runner.proofs.Filters.{all_of_map, filter_as, none_left, none_pass, one_passes}

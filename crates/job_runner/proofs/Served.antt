@@ -1,10 +1,9 @@
 -- The acts of a moment are served, one after the other.
 use Rattle.std.proofs.Common.{◌≡◌, ℕ, Bool, true, false, cond, Option, Some, None, List, [], ◌∷◌, ◌++◌, map, refl, ap, sym, ◌∙◌, subst}
-use Rattle.std.specs.Prelude.{All}
 use Rattle.std.specs.List.{filter}
 use Rattle.std.specs.Option.{ForSome, option_map}
 use Rattle.std.proofs.lemmas.List.{append-nil, append_assoc, map-append}
-use Rattle.std.proofs.lemmas.List.Elements.{All-head, All-tail, filter-append}
+use Rattle.std.proofs.lemmas.List.Elements.{filter-append}
 use Rattle.std.proofs.lemmas.Option.{none-some, same_Some}
 use Rattle.exceptions.specs.Exceptions.{Label}
 use Rattle.input_lines.specs.Lines.{Range}
@@ -16,22 +15,19 @@ use Rattle.job_tree.specs.declared.object.ObjectKind.{ObjectKind}
 use Rattle.job_meaning.specs.Log.{Act, asks, gives_back, closes, same_label}
 use Rattle.job_meaning.proofs.Distinct.{same_label_equal}
 use Rattle.objects.specs.Channels.{Sender}
-use Rattle.objects.specs.Held.{ObjectOf, Gets, a_limiter, a_channel, gets_in, limiter_in, limiter_left, channel_in, channel_left, sender_in, waits_to_send, object_in, serve, AreGranted, AreGivenOf, AreQueuedBy, IsAskedBy, Serves}
+use Rattle.objects.specs.Held.{ObjectOf, Gets, a_limiter, a_channel, gets_in, channel_in, sender_in, waits_to_send, object_in, serve, AreGranted, AreQueuedBy, IsAskedBy}
 use Rattle.objects.specs.declared.given.Given.{Given}
 use Rattle.objects.specs.declared.object.Object.{Object}
 use Rattle.objects.specs.declared.object.Object.TheVariants as objects
 use Rattle.objects.specs.declared.object.Operation.{Operation}
 use Rattle.objects.specs.declared.object.Operation.TheVariants as operations
 use Rattle.objects.specs.declared.ticket.Ticket.{Ticket}
-use Rattle.run_refinement.specs.Sharing.{RoundAct as round_act, Served, serve_one, serve_all, acts_on, waits_in}
-use Rattle.task_table.specs.TaskTable.{task_of}
-use Rattle.task_table.specs.declared.task_table.TaskTable.{TaskTable}
+use Rattle.run_refinement.specs.Sharing.{RoundAct as round_act, Served, serve_one, serve_all, acts_on}
 use Rattle.job_runner.specs.declared.objects_by_label.ObjectTable.{ObjectTable}
-use Rattle.job_runner.specs.declared.runner.Runner.{Runner}
 use Rattle.job_runner.specs.declared.serving.Done.{Done}
 use Rattle.job_runner.specs.declared.serving.Done.TheVariants.{Opens as opened, Asks, GivesBack, Closes}
 use Rattle.job_runner.specs.declared.serving.RoundAct.{RoundAct}
-use Rattle.job_runner.specs.Serving.{Granting, granted_on, served_on, OthersStay, OpensIf, Opens, ServesIf, ServesDone, ServesAct, ServesActs, StayLent}
+use Rattle.job_runner.specs.Serving.{Granting, granted_on, served_on, OthersStay, OpensIf, ServesIf, ServesDone, ServesAct, ServesActs}
 use Rattle.job_runner.specs.Shared.{act_of, object_at, round_act_of}
 use Rattle.job_runner.proofs.Filters.{filter_again}
 

@@ -1,5 +1,5 @@
 -- When what was done in a moment is served, and all that is granted by it is, the run goes on.
-use Rattle.std.proofs.Common.{◌≡◌, ◌≢◌, inl, inr, ℕ, suc, ◌<◌, Bool, true, false, ◌&&◌, ◌==◌, cond, Option, Some, None, List, [], ◌∷◌, ◌++◌, map, refl, ap, sym, ◌∙◌, subst, Bor}
+use Rattle.std.proofs.Common.{◌≡◌, inl, inr, ℕ, suc, ◌<◌, Bool, true, false, ◌&&◌, ◌==◌, cond, Option, Some, None, List, [], ◌∷◌, ◌++◌, map, refl, ap, sym, ◌∙◌, subst, Bor}
 use Rattle.std.specs.Prelude.{All}
 use Rattle.std.specs.List.{filter}
 use Rattle.std.proofs.lemmas.Bool.{eq-eqb, eqb-true, ne_eqb}
@@ -13,7 +13,7 @@ use Rattle.job_meaning.specs.Log.{same_label}
 use Rattle.job_meaning.proofs.Distinct.{same_label_itself}
 use Rattle.job_tree.specs.Tree.{Steps}
 use Rattle.job_tree.specs.declared.object.Ask.{Ask}
-use Rattle.objects.specs.Held.{Gets, gets_in, AreGivenOf, IsGrantOf}
+use Rattle.objects.specs.Held.{Gets, gets_in, AreGivenOf}
 use Rattle.objects.specs.Whats.{What}
 use Rattle.objects.specs.declared.given.Given.{Given}
 use Rattle.task_machine.specs.declared.stop.TaskState.{TaskState}
@@ -37,10 +37,10 @@ use Rattle.job_runner.specs.declared.serving.RoundAct.{RoundAct}
 use Rattle.job_runner.specs.Grants.{call_of, getter_of, GrantsOnly, MayGet, MayGetAll}
 use Rattle.job_runner.specs.Serving.{Granting, act_of_placed, granted_on, AreOrdered, ServesActs, StayLent}
 use Rattle.job_runner.specs.Shared.{what_if, what_or, granted_among, granted_of, later_calls, object_at, ready_calls, round_act_of}
-use Rattle.job_runner.specs.Shelves.{AreShelved, HoldsParts, IsActOf, IsAddedOf, IsEntryOf, IsGoing, IsUnserved, state_in}
-use Rattle.job_runner.proofs.Getters.{AreOf, AreOfNone, acts, among_map, from_among_map, getter_is, of_ended, of_other, of_queued, of_unnamed, is_in_queue, may_get, same_tasks, served_state, serves_round, stay_on}
+use Rattle.job_runner.specs.Shelves.{AreShelved, HoldsParts, IsActOf, IsAddedOf, IsGoing, IsUnserved, state_in}
+use Rattle.job_runner.proofs.Getters.{AreOf, AreOfNone, acts, among_map, from_among_map, getter_is, of_other, of_queued, of_unnamed, is_in_queue, may_get, same_tasks, served_state, serves_round, stay_on}
 use Rattle.job_runner.proofs.Granted.{among_append, among_none}
-use Rattle.job_runner.proofs.GrantedRows.{HasRowNow, granted_nobody, granted_row}
+use Rattle.job_runner.proofs.GrantedRows.{granted_nobody, granted_row}
 use Rattle.job_runner.proofs.Lived.{LivesBy, lives_by, task_at}
 use Rattle.job_runner.proofs.States.{meaning_run}
 

@@ -1,16 +1,13 @@
 -- A runner whose limiters and channels serve the acts of a moment.
-use Rattle.std.proofs.Common.{◌≡◌, ℕ, List, [], ◌∷◌, map, refl, ap, sym, ◌∙◌, subst}
+use Rattle.std.proofs.Common.{◌≡◌, List, [], ◌∷◌, map, refl, ap, ◌∙◌, subst}
 use Rattle.std.specs.Prelude.{All}
 use Rattle.std.proofs.lemmas.List.Elements.{All-head, All-tail}
-use Rattle.objects.specs.Held.{AreGivenOf}
 use Rattle.objects.specs.declared.given.Given.{Given}
-use Rattle.objects.specs.declared.ticket.Ticket.{Ticket}
 use Rattle.run_refinement.specs.Sharing.{waits_in}
 use Rattle.task_table.specs.TaskTable.{task_of}
 use Rattle.job_runner.specs.declared.runner.Runner.{Runner}
 use Rattle.job_runner.specs.declared.serving.PlacedAct.{PlacedAct}
-use Rattle.job_runner.specs.declared.serving.RoundAct.{RoundAct}
-use Rattle.job_runner.specs.Serving.{act_of_placed, HoldParts, ServesAct, ServesActs, StayLent}
+use Rattle.job_runner.specs.Serving.{act_of_placed, ServesAct, ServesActs, StayLent}
 use Rattle.job_runner.specs.Shelves.{IsActOf}
 use Rattle.job_runner.proofs.Served.{AreServing, serving_first, serving_last, serving_next}
 

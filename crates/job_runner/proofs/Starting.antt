@@ -245,9 +245,6 @@ taking_now t now = ap (λ (r : Runner). now_of r.clock) t.ready.rest ∙ now
 pub taking_tick : {old now : Runner} {parent : ℕ} → Taking old now parent → now.world.tick ≡ old.world.tick
 taking_tick t = ap (λ (w : World). w.tick) t.world
 
-pub taking_clock : {old now : Runner} {parent : ℕ} → Taking old now parent → now.world.clock ≡ old.world.clock
-taking_clock t = ap (λ (w : World). w.clock) t.world
-
 -- the tick in which they begin is still the same
 pub taking_begins : {old now : Runner} {parent moment begins tick : ℕ} {clock : Clock} → Taking old now parent → clock ≡ old.world.clock →
     moment ≡ old.world.tick → begins ≡ a_round_after clock moment → tick ≡ tick_of clock begins → tick ≡ begin_tick now.world

@@ -1,5 +1,5 @@
 -- The run of the definitions by the tables of the job's meaning.
-use Rattle.std.proofs.Common.{◌≡◌, ℕ, ◌+◌, ◌*◌, ◌≤◌, ◌^◌, List, Option, None, arith}
+use Rattle.std.proofs.Common.{◌≡◌, ℕ, ◌+◌, ◌*◌, ◌≤◌, ◌^◌, List, None, arith}
 use Rattle.clock.specs.Clock as timers
 use Rattle.interleavings.specs.Laws.{IsSettledBy, meaning_tables}
 use Rattle.turn_semantics.specs.Midway.{Tables}

@@ -510,10 +510,6 @@ module _ {id row event : ℕ} {r : Runner} (h : IsStopping id row (stops.WaitFor
                 waits_going h r (left_here h refl refl) h.lent.round stays_waiting puts its_scope event
                 (its_event (Some None) ((stopped_task h).3.is_event ∙ ap (λ (t : Tick). Some t) set)) waiters waits
 
-        -- it waited for none before
-        pub put_not_waiting : event_in mid.waiters id ≡ None
-        put_not_waiting = ap (λ (x : Runner). event_in x.waiters id) puts.rest ∙ not_waiting h
-
 -- ---- it waits for its nursery
 
 -- how often it has to be kept, by whether its nursery is settled

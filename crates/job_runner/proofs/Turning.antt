@@ -1,7 +1,7 @@
 -- A turn of a task of a runner: afterwards it keeps the tasks of the program, of which that one stopped, and the others
 -- are kept as before.
-use Rattle.std.proofs.Common.{◌≡◌, ◌≢◌, ℕ, suc, ◌+◌, ◌<◌, ◌≤◌, ◌^◌, inl, inr, Option, Some, None, List, [], ◌∷◌, ◌++◌, map, length, refl, ap, sym, ◌∙◌, subst, arith}
-use Rattle.std.specs.Prelude.{All, IsSome, is_some, IsSomeAnd, ◌⊎◌, slice_get}
+use Rattle.std.proofs.Common.{◌≡◌, ◌≢◌, ℕ, suc, ◌+◌, ◌<◌, ◌≤◌, inl, inr, Option, Some, None, List, [], ◌∷◌, ◌++◌, map, length, refl, ap, sym, ◌∙◌, subst, arith}
+use Rattle.std.specs.Prelude.{All, IsSomeAnd, ◌⊎◌, slice_get}
 use Rattle.std.proofs.lemmas.Bool.{cases_eq, cases_lt}
 use Rattle.std.proofs.lemmas.List.{append_assoc}
 use Rattle.std.proofs.lemmas.Option.{none-some, same_Some, slice_get_within}
@@ -11,11 +11,8 @@ use Rattle.task_table.specs.declared.entry.Call.TheVariants as calls
 use Rattle.task_table.specs.declared.entry.Entry.{Entry}
 use Rattle.task_table.specs.Entries.{Added}
 use Rattle.cancel_scopes.specs.Sight.{seen}
-use Rattle.cancel_scopes.specs.Tree.{Tree, outer_of, IsOwn, IsChain, IsApart}
+use Rattle.cancel_scopes.specs.Tree.{outer_of}
 use Rattle.job_tree.specs.Tree.{Tree as Job}
-use Rattle.job_tree.specs.Formats.{most_steps}
-use Rattle.job_tree.specs.Names.{size_of}
-use Rattle.job_tree.proofs.Sizes.{few_steps}
 use Rattle.interleavings.specs.Laws.{IsSettledBy}
 use Rattle.interleavings.specs.Runs.{keeping}
 use Rattle.turn_semantics.specs.Midway.{Tables}
@@ -24,17 +21,13 @@ use Rattle.job_meaning.specs.declared.clock.Clock.{Clock}
 use Rattle.task_machine.specs.declared.stop.TaskState.{TaskState}
 use Rattle.task_machine.specs.declared.stop.TaskState.TheVariants.{ToBegin, Asked, Asleep, Waiting, Queued, GivingUp, Awaits, Over}
 use Rattle.task_machine.specs.declared.stop.Stop.{Stop}
-use Rattle.task_machine.specs.declared.stop.Stop.TheVariants.{Ask, Sleep, WaitFor, Queue, GiveUp, Wait, Ended}
 use Rattle.task_machine.specs.declared.stop.Wake.{Wake}
-use Rattle.task_machine.specs.declared.stop.Wake.TheVariants as wakes
 use Rattle.task_machine.specs.declared.task.Task.{Task}
 use Rattle.task_machine.specs.declared.world.World.{World}
 use Rattle.task_machine.specs.Fitting.{blocks_of, waits_of}
 use Rattle.task_machine.specs.Standing.{now_for}
 use Rattle.task_machine.specs.Stacked.{AreAt}
 use Rattle.task_machine.specs.States.{state_of}
-use Rattle.task_machine.specs.Frames.{Lent}
-use Rattle.task_machine.specs.Labels.{Events}
 use Rattle.task_machine.specs.Tasks.{scope_of, lent_of}
 use Rattle.task_machine.specs.Waking.{wake_in}
 use Rattle.task_machine.specs.Worlds.{label_at, event_at}
@@ -43,13 +36,12 @@ use Rattle.interleavings.specs.Woken.{MayWake}
 use Rattle.run_refinement.specs.RunState.{RunState, Follows, Refines}
 use Rattle.objects.specs.Whats.{What}
 use Rattle.run_refinement.specs.Moved.{SameTasks, SameObjects}
-use Rattle.run_refinement.specs.Sharing.{RoundAct, round_act, asked_by}
-use Rattle.run_refinement.specs.Ready.{IsTimely, MayGo, AreHomesOf}
+use Rattle.run_refinement.specs.Sharing.{RoundAct, round_act}
+use Rattle.run_refinement.specs.Ready.{MayGo, AreHomesOf}
 use Rattle.run_refinement.specs.Sights.{Shows, StaysOrIsSet}
 use Rattle.run_refinement.specs.Step.{TakesTurn as StateTakesTurn, StopSays, EndsAs, StoppedIn}
 use Rattle.run_refinement.specs.Turn.{IsSound, numbers_then, leaving_by, serials_from}
 use Rattle.run_refinement.specs.Turning.{Turning}
-use Rattle.run_refinement.proofs.StateFits.{state_fits}
 use Rattle.run_refinement.proofs.EventsStay.{event_still}
 use Rattle.run_refinement.proofs.StateTurn.{acted, nursery_same}
 use Rattle.run_refinement.proofs.Going.{may_wake}
@@ -59,11 +51,10 @@ use Rattle.run_refinement.proofs.Parts.{begun_at}
 use Rattle.run_refinement.proofs.SightsStay.{shows_still}
 use Rattle.run_refinement.proofs.Stepped.{other_follows, turning_of, stepped, stop_says}
 use Rattle.clock.specs.Sleeping.{scope_in, sight_of}
-use Rattle.clock.specs.Waiting.{event_in}
 use Rattle.task_table.specs.declared.task_table.TaskTable.{TaskTable}
 use Rattle.task_table.specs.declared.task_table.Running.{Running}
 use Rattle.task_table.specs.Rows.{times}
-use Rattle.task_table.specs.TaskTable.{Sharing, running_at, task_of, ended_task_of, start_of, children_of, parent_of, path_of, task_count, run_state, MayTurn, HasTurn}
+use Rattle.task_table.specs.TaskTable.{Sharing, running_at, task_of, ended_task_of, start_of, children_of, parent_of, path_of, task_count, run_state, HasTurn}
 use Rattle.task_table.proofs.Lists.{value_at}
 use Rattle.task_table.proofs.PathLemmas.{path_step}
 use Rattle.task_table.proofs.Times.{all_others, place_of, times_none}
@@ -72,7 +63,7 @@ use Rattle.job_runner.specs.Shared.{what_of, call_by, granted_among, granted_of,
 use Rattle.job_runner.specs.Shelves.{ContinuesBy, ContinuesLater, GoesBy, HoldsParts, IsActOf, IsCalled, IsCalledAdded, IsCalledEntry, IsCalledLater, IsConsistent, IsTurning, Stays, AllStay, AreKnown, timer_times, times_shelved, settled_times, task_state_times, running_times, AreShelved, state_turning}
 use Rattle.job_runner.specs.Limits.{last_tick, last_of}
 use Rattle.job_runner.specs.Steps.{asked_in, state_after, StartsAll, IsReadied, TakesStarted, TakesSet, TakesActs, IsStopping}
-use Rattle.job_runner.proofs.Known.{sleeper_in, sleeps_inside, slots_kept, waits_kept, waiter_in}
+use Rattle.job_runner.proofs.Known.{sleeper_in, sleeps_inside, slots_kept, waits_kept}
 use Rattle.job_runner.proofs.Lived.{task_at, row_below, rows_apart}
 use Rattle.job_runner.proofs.Granted.{among_absent, absent_ready}
 use Rattle.job_runner.proofs.GrantedRows.{HasRowNow, has_row_now, granted_row, granted_nobody, among_own, among_else, path_as}
@@ -80,9 +71,9 @@ use Rattle.job_runner.proofs.Options.{some_has, some_is, some_kept, some_of}
 use Rattle.job_runner.proofs.Readied.{Continues, begin_continues, called_ready, later_ready, times_ready, granted_ready, none_granted_ready, holds_ready, readied_timer}
 use Rattle.job_runner.proofs.Shelving.{no_timer, timer_else}
 use Rattle.job_runner.proofs.Signalled.{Woken, stay_set, known_set, timers_set}
-use Rattle.job_runner.proofs.Staying.{SameEvent, same_event, stays_still}
-use Rattle.job_runner.proofs.States.{meaning_of, meaning_settled, moment_bounded, turning_run, turning_bounded}
-use Rattle.job_runner.proofs.LeftWorlds.{left_of, timely_on, goes_on, says_on, asked_same, asked_on, continues_event}
+use Rattle.job_runner.proofs.Staying.{same_event, stays_still}
+use Rattle.job_runner.proofs.States.{meaning_of, meaning_settled, turning_run}
+use Rattle.job_runner.proofs.LeftWorlds.{goes_on, says_on, asked_same, asked_on, continues_event}
 
 -- the moment and the number of tasks may be said otherwise
 stopped_in : {k : Tables} {job : Job} {input : List ℕ} {t u m n s : ℕ} {stop : Stop} {state : RunState} → t ≡ u → m ≡ n →

@@ -1,5 +1,5 @@
 -- What a runner holds of limiters and channels, as the tasks of the program have it.
-use Rattle.std.specs.Prelude.{◌≡◌, ◌==◌, ◌&&◌, ℕ, Bool, true, false, Option, Some, None, List, [], ◌∷◌, ◌++◌, map}
+use Rattle.std.specs.Prelude.{◌≡◌, ◌==◌, ℕ, Bool, true, false, Option, Some, None, List, [], ◌∷◌, ◌++◌, map}
 use Rattle.exceptions.specs.Exceptions.{Label}
 use Rattle.indexmap.specs.IndexMap.{get}
 use Rattle.input_lines.specs.Part.{buffer_of, range_of}
@@ -11,12 +11,10 @@ use Rattle.job_meaning.specs.Log.{Act, opens, asks, gives_back, closes, same_lab
 use Rattle.run_refinement.specs.Sharing.{RoundAct}
 use Rattle.task_table.specs.declared.entry.Call.{Call}
 use Rattle.task_table.specs.declared.entry.Call.TheVariants.{Begin, Granted}
-use Rattle.task_table.specs.declared.entry.Entry.{Entry}
 use Rattle.task_machine.specs.declared.stop.Wake.{Wake}
 use Rattle.task_machine.specs.declared.stop.Wake.TheVariants as wakes
 use Rattle.task_table.specs.declared.task_table.Running.{Running}
 use Rattle.task_table.specs.declared.task_table.TaskTable.{TaskTable}
-use Rattle.task_table.specs.Batch.{Batches}
 use Rattle.task_table.specs.Entries.{Added, added_of}
 use Rattle.task_table.specs.TaskTable.{Sharing, running_at, id_of}
 use Rattle.job_runner.specs.declared.objects_by_label.ObjectTable.{ObjectTable}

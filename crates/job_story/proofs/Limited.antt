@@ -202,9 +202,12 @@ covers_plain table st now (raises name) plain all me of known within = (omega ar
 covers_plain table st now (handles matched left) plain all me of known within = (omega arith, more_covered table all now.at me _ [] tt (none_covered table all))
 covers_plain table st now (cleans exc) plain all me of known within = (omega arith, more_covered table all now.at me _ [] tt (none_covered table all))
 covers_plain table st now (replaces lost fresh) plain all me of known within = (omega arith, more_covered table all now.at me _ [] tt (none_covered table all))
-covers_plain table st now (enters_object kind label) plain all me of known within = (omega arith, more_covered table all now.at me _ [] tt (none_covered table all))
-covers_plain table st now (gives_token_back label) plain all me of known within = (omega arith, more_covered table all now.at me _ [] tt (none_covered table all))
-covers_plain table st now (closes_channel label) plain all me of known within = (omega arith, more_covered table all now.at me _ [] tt (none_covered table all))
+covers_plain table st now (enters_object kind label) plain all me of known within =
+    (omega arith, more_covered table all now.at me _ [] tt (none_covered table all))
+covers_plain table st now (gives_token_back label) plain all me of known within =
+    (omega arith, more_covered table all now.at me _ [] tt (none_covered table all))
+covers_plain table st now (closes_channel label) plain all me of known within =
+    (omega arith, more_covered table all now.at me _ [] tt (none_covered table all))
 covers_plain table st now _ plain all me of known within = absurd plain
 
 covers_blocked : (table : Table) (st : Levels) (now last : Now) (kind : Kind) (label : Label) (d : Tick) (shield : Bool) (left : Happening)
@@ -292,8 +295,10 @@ covers table clock =
         more_covered table all now.at me (happens (is_cancelled (blamed_at st now.at (sight st)) (before_asking ask label) c)) []
             (unasked_covered table all st now.at ask label c of known) (none_covered table all),
       );
-      granted = λ st now got label asked is all me of known within. (omega arith, more_covered table all (suc now.at) me _ [] tt (none_covered table all));
-      closed = λ st now got label asked is all me of known within. (omega arith, more_covered table all (suc now.at) me _ [] tt (none_covered table all));
+      granted = λ st now got label asked is all me of known within.
+          (omega arith, more_covered table all (suc now.at) me _ [] tt (none_covered table all));
+      closed = λ st now got label asked is all me of known within.
+          (omega arith, more_covered table all (suc now.at) me _ [] tt (none_covered table all));
       granted_later = λ st now g ask got label lent lt.
           covers_two table st now g (queues ask label lent None) (gets got label None) lt (λ all. tt) (λ all. tt);
       closed_later = λ st now g ask got label lent lt.
@@ -303,7 +308,8 @@ covers table clock =
         more_covered table all now.at me (happens (queues ask label lent (Some from)))
             (event from me (happens (is_cancelled (seer st from) (in_queue ask label now.at) c)) ∷ []) tt
             (more_covered table all from me (happens (is_cancelled (seer st from) (in_queue ask label now.at) c)) []
-            (seen_covered table all st now.at from from (in_queue ask label now.at) c of known (omega arith) e (omega arith)) (none_covered table all)),
+            (seen_covered table all st now.at from from (in_queue ask label now.at) c of known (omega arith) e (omega arith))
+            (none_covered table all)),
       );
       deadlocked = λ st now u ask label lent lt.
           covers_two table st now u (queues ask label lent (Some u)) (deadlocks ask label) lt (λ all. tt) (λ all. tt);

@@ -26,11 +26,13 @@ use Rattle.job_story.proofs.Teller.{stretch_like}
 -- ---- who leaves the queue
 
 module _ (me : Label) (before mid : List held.Event) (after : Progress) (w : Stretch) (ask : Ask) (label : Label) (scene : Scene) (st : Levels)
-    (m left : ℕ) (begun : Adds me before mid (story_of_one m (queues ask label scene.here.part (Some left)))) (none : after.cancelled.items ≡ []) where
+    (m left : ℕ) (begun : Adds me before mid (story_of_one m (queues ask label scene.here.part (Some left))))
+    (none : after.cancelled.items ≡ []) where
   abbrev left_if : Bool → Tale
   left_if b =
       if b then failed_at cancelled (only_at left) (story_of_one left (is_cancelled (seer st left) (in_queue ask label m) scene.in_cleanup))
-      else failed_at (raised (codes "Deadlock") scene.here.task (tick_of scene.here.clock left)) (only_at left) (story_of_one left (deadlocks ask label))
+      else failed_at (raised (codes "Deadlock") scene.here.task (tick_of scene.here.clock left)) (only_at left)
+      (story_of_one left (deadlocks ask label))
 
   -- it is cancelled
   pub left_cancelled : is_reached (sight st) left ≡ true →

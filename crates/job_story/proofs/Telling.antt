@@ -671,7 +671,8 @@ module _ (tables : Tables) (P : Clock → Levels → Now → Now → Story → T
     kept_tell stop scene st now of = (kept scene.here.clock).nothing st.scopes now
     kept_tell (step s ss) scene st now of =
         let c = scene.here.clock in
-        kept_then c k (P c) (kept c) st.scopes now (tell_step tables s scene st now) (λ later. tell tables ss scene st later) (kept_step s scene st now of)
+        kept_then c k (P c) (kept c) st.scopes now (tell_step tables s scene st now) (λ later. tell tables ss scene st later)
+        (kept_step s scene st now of)
         (λ later. kept_tell ss scene st later of)
 
     kept_step : (s : Step) (scene : Scene) (st : Stack) (now : Now) → IsOf k st.events → KeepsIn scene st now (tell_step tables s scene st now)

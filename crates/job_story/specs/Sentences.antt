@@ -158,7 +158,8 @@ happening_text clock table es t (enters_object kind label) = codes "enters " ++ 
 happening_text clock table es t (queues ask object lent left) = codes "waits " ++ ask_text ask object
 happening_text clock table es t (gets ask object at_once) = gets_text ask object at_once
 happening_text clock table es t (finds_closed ask object at_once) = closed_text ask object
-happening_text clock table es t (deadlocks ask object) = codes "has waited " ++ ask_text ask object ++ codes " as long as forever, and raises Deadlock"
+happening_text clock table es t (deadlocks ask object) =
+    codes "has waited " ++ ask_text ask object ++ codes " as long as forever, and raises Deadlock"
 happening_text clock table es t (gives_token_back object) = codes "gives its token of " ++ label_text object ++ codes " back"
 happening_text clock table es t (closes_channel object) = close_text object
 happening_text clock table es t (handles matched rest) = codes "handles " ++ exc_text matched ++ with_exc (codes ", ") rest (codes " propagates")

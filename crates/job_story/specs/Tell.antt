@@ -374,10 +374,12 @@ unfoldable mutual
       tell_ask k ask (label_on name st.events) scene st.scopes now (λ inner later. tell k body (at_place inner scene) st later)
   tell_step k (close_channel name) scene st now = tell_close (label_on name st.events) now
   tell_step k (scope name deadline shield fail body) scene st now =
-      tell_block scene.here.clock k.cancelled_from (a_scope fail) (label_here name scene.here) now.at (due scene.here.clock deadline now.at) shield st.scopes
+      tell_block scene.here.clock k.cancelled_from (a_scope fail) (label_here name scene.here) now.at (due scene.here.clock deadline now.at) shield
+      st.scopes
       (λ from. tell k body scene (stack_inside (label_here name scene.here) shield from st) now)
   tell_step k (nursery name deadline shield body) scene st now =
-      tell_block scene.here.clock k.cancelled_from a_nursery (label_here name scene.here) now.at (due scene.here.clock deadline now.at) shield st.scopes
+      tell_block scene.here.clock k.cancelled_from a_nursery (label_here name scene.here) now.at (due scene.here.clock deadline now.at) shield
+      st.scopes
       (λ from. tell_gathered scene.here.clock (label_here name scene.here)
       (tell_wait (label_here name scene.here) (tell k body scene (stack_inside (label_here name scene.here) shield from st) now)))
   tell_step k (event name body) scene st now =

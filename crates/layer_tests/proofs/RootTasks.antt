@@ -13,14 +13,13 @@ use Rattle.job_tree.specs.Starting.{StartsInNurseries}
 use Rattle.job_meaning.specs.Log.{Table}
 use Rattle.job_meaning.specs.Rest as rest
 use Rattle.job_meaning.specs.declared.limits.TheConstants.{MAX_INPUT}
-use Rattle.nursery_book.specs.declared.book.NurseryBook.{NurseryBook}
 use Rattle.turn_semantics.specs.Midway.{Move}
 use Rattle.turn_semantics.specs.Names.{NewIn}
 use Rattle.turn_semantics.specs.Placed.{Placed}
 use Rattle.turn_semantics.proofs.Names.{new_job}
 use Rattle.task_machine.specs.States.{state_of}
 use Rattle.task_machine.specs.declared.stop.TaskState.{TaskState}
-use Rattle.task_machine.specs.declared.stop.TaskState.TheVariants.{ToBegin, Asked, Asleep, Waiting, GivingUp, Awaits, Over}
+use Rattle.task_machine.specs.declared.stop.TaskState.TheVariants.{ToBegin, Asked, Asleep, Waiting, Queued, GivingUp, Awaits, Over}
 use Rattle.task_machine.specs.declared.stop.Stop.{Stop}
 use Rattle.task_machine.specs.declared.stop.Stop.TheVariants.{Sleep}
 use Rattle.task_machine.specs.declared.stop.Wake.TheVariants.{Begin, Due}
@@ -28,7 +27,7 @@ use Rattle.task_machine.specs.declared.task.Home.{Home}
 use Rattle.task_machine.specs.declared.task.Own.{Own}
 use Rattle.task_machine.specs.declared.task.Task.{Task}
 use Rattle.task_machine.specs.declared.world.World.{World}
-use Rattle.task_machine.specs.Fitting.{Block, blocks_of, AreInRangeFrames, StartsFit, Opened, Fits, waits_of}
+use Rattle.task_machine.specs.Fitting.{AreOf, Block, blocks_of, AreInRangeFrames, StartsFit, Opened, Fits, waits_of}
 use Rattle.task_machine.specs.Frames.{frames_of, Lent}
 use Rattle.task_machine.specs.Left.{OwnFirst}
 use Rattle.task_machine.specs.Stacked.{AreAt}
@@ -37,7 +36,7 @@ use Rattle.task_machine.specs.Stops.{Numbers, IsTaskState, StopsAs}
 use Rattle.task_machine.specs.Tasks.{home_scope, scope_of, lent_of}
 use Rattle.task_machine.specs.Waking.{WakesFrom}
 use Rattle.task_machine.specs.Worlds.{label_at, event_at}
-use Rattle.task_machine.proofs.Stopping.{no_blocks_begun}
+use Rattle.task_machine.proofs.Stopping.{no_blocks_begun, none_received}
 
 abbrev no_numbers : Numbers
 no_numbers id = []
@@ -68,6 +67,7 @@ module _ (job : Job) (root : Task) (home : root.home ≡ None) (own : root.own.i
       record {
         runs = record {
           in_range = subst AreInRangeFrames (sym (frames no_numbers)) (in_range, tt);
+          lent = subst (AreOf (buffer_of root.part)) (sym (none_received no_numbers root.frames.items job.steps (frames no_numbers))) tt;
           starts = subst StartsFit (sym (frames no_numbers)) (starting, tt);
           home = subst (λ (o : Option ℕ). ForSome o (IsOpen world.scopes)) (sym no_home) (λ x e. absurd (let f : None ≡ Some x = e in cc));
           scope = subst (λ (o : Option ℕ). ForSome o (IsOpen world.scopes)) (sym no_scope) (λ x e. absurd (let f : None ≡ Some x = e in cc));
@@ -91,6 +91,7 @@ module _ (job : Job) (root : Task) (home : root.home ≡ None) (own : root.own.i
         numbered = λ id i. absurd (let h : ⊥ = subst (λ (bs : List Block). HasBlock id bs) blocks i in h);
         placed = subst (λ (fs : List rest.Frame). Placed fs []) (sym (frames no_numbers)) (starting, tt);
         new = subst (λ (fs : List rest.Frame). NewIn fs []) (sym (frames no_numbers)) (new_job job names);
+        stop = tt;
         own = tt;
         event = tt;
       }
@@ -109,6 +110,7 @@ module _ (job : Job) (root : Task) (home : root.home ≡ None) (own : root.own.i
       by_task_state numbers (Some s) (Asked kernel purpose) says = absurd says.1
       by_task_state numbers (Some s) (Asleep paced ticks since) says = tt
       by_task_state numbers (Some s) (Waiting event since) says = absurd says.1
+      by_task_state numbers (Some s) (Queued object ask since body) says = absurd says.1
       by_task_state numbers (Some s) (GivingUp since) says = absurd says.1
       by_task_state numbers (Some s) (Awaits id since) says = absurd says.1
       by_task_state numbers (Some s) Over says = absurd says.1

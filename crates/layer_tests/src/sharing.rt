@@ -56,7 +56,8 @@ fn grants_of(
 fn text_of(alloc: Global, given: &[Given<'static>]) -> Result<Vec<u8>, AllocError> {
     let mut text = Vec::new(alloc);
     for one in given {
-        text.push(b'0'.saturating_add(one.who.row as u8))?;
+        let digit = (one.who.row % 10) as u8;
+        text.push(b'0' + digit)?;
         text.push(letter_of(one.grant))?;
     }
     Ok(text)

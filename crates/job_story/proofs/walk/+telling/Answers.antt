@@ -241,7 +241,10 @@ tell_try-tell_handler-requires t c =
     let inner = tells_at _ _ _ c.in_ok-stretch.stretch _ _ c.args.body.now _ _ now now c.as_slice.ensures refl c.in_ok-stretch.ensures in
     let small = ends_small c.in_ok-stretch.stretch _ c.args.body.now _ _ now c.requires.in_range c.requires.room.small inner.stretch in (
       omega (arith, c.decreases),
-      (c.requires.in_range_handler, record { room = omega (arith, small, c.requires.room.room); small = c.requires.room.small; lent = c.requires.room.lent }),
+      (
+        c.requires.in_range_handler,
+        record { room = omega (arith, small, c.requires.room.room); small = c.requires.room.small; lent = c.requires.room.lent },
+      ),
     )
 
 pub tell_try-tell_cleanup-requires : goal.tell_try-tell_cleanup-requires
@@ -252,7 +255,10 @@ tell_try-tell_cleanup-requires t c =
     let small = ends_handled c.in_ok-stretch-2.stretch _ (handled_of c.args.handler.now) c.args.body.now _ _ now c.requires.in_range
     c.requires.in_range_handler c.requires.room.small handled.stretch in (
       omega (arith, c.decreases),
-      (c.requires.in_range_cleanup, record { room = omega (arith, small, c.requires.room.room); small = c.requires.room.small; lent = c.requires.room.lent }),
+      (
+        c.requires.in_range_cleanup,
+        record { room = omega (arith, small, c.requires.room.room); small = c.requires.room.small; lent = c.requires.room.lent },
+      ),
     )
 
 pub tell_try-returns : goal.tell_try-returns
@@ -476,7 +482,8 @@ tell_granted-returns-in-EndOfChannel t c =
     let story = story_of_one at (finds_closed Receive c.args.object.now (option_map asked_of c.args.at_once)) in
     rw c.in-EndOfChannel.is
     (subst (λ (name : List ℕ). IfOk c.find_closed-in-EndOfChannel.result (λ w. Tells here.task.now c.args.progress.now.events.items w
-    c.find_closed-in-EndOfChannel.new.progress (failed_at (raised name here.task.now (tick_of here.clock at)) (only_at at) story))) c.end_of_channel-name.ensures
+    c.find_closed-in-EndOfChannel.new.progress (failed_at (raised name here.task.now (tick_of here.clock at)) (only_at at) story)))
+    c.end_of_channel-name.ensures
     c.find_closed-in-EndOfChannel.ensures)
 
 pub tell_with_token-returns : goal.tell_with_token-returns

@@ -1,9 +1,7 @@
-use Rattle.std.proofs.Common.{refl, ap, ◌∙◌}
+use Rattle.std.proofs.Common.{refl}
 use Rattle.task_table.specs.TaskTable.{ended_task_of}
-use Rattle.job_runner.specs.declared.runner.Runner.{Runner}
 use Rattle.job_runner.proofs.Landing.{none_due, some_moment, next_round_later, past_limit, past_next, not_too_late, no_earlier, none_ready, ready_some, rested_waking, woken_moment, woken_underway}
 use Rattle.job_runner.proofs.States.{moment_bounded}
-use Rattle.job_runner.proofs.Waking.{adds_more}
 use Rattle.job_runner.proofs.runner.Runner.jump.Goals as goal
 
 pub next_round-next-requires : goal.next_round-next-requires

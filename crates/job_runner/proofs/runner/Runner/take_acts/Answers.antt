@@ -1,4 +1,4 @@
-use Rattle.job_runner.proofs.TakenActs.{taking_first, taking_next, taking_fewer, taking_last}
+use Rattle.job_runner.proofs.TakenActs.{taking_first, taking_last}
 use Rattle.job_runner.proofs.runner.Runner.take_acts.Goals as goal
 
 pub acts-init : goal.acts-init
