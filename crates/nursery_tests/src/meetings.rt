@@ -1,10 +1,12 @@
-//! `race_text`: copies of a task meet by the ticks of their events, in whichever rounds of these ticks they act.
+//! `race_text`: copies of a task meet by the ticks of their events, in whichever rounds of these ticks they act; and they meet where
+//! both wait for one limiter.
 
 use crate::fixtures::wrong;
 use crate::story_events::{label, walk, word};
 use exceptions::Label;
 use job_meaning::{Clock, ROUNDS_IN_A_TICK};
 use job_story::{Event, Happening, Range, What};
+use job_tree::Ask;
 use race_text::meeting_of;
 use std::alloc::Global;
 use std::test::Fail;
@@ -55,6 +57,25 @@ fn push_cancel(alloc: Global, events: &mut Vec<Event>, copy: u64, moment: u64) -
     push_of_copy(alloc, events, copy, moment, What::Happens(cancels))
 }
 
+// Appends that a copy waits for a token of the limiter of this name.
+fn push_wait(
+    alloc: Global,
+    events: &mut Vec<Event>,
+    copy: u64,
+    moment: u64,
+    limiter: &[u8],
+) -> Result<(), Fail> {
+    let object = label(alloc, limiter)?;
+    let part = Range { from: 0, to: 0 };
+    let queues = Happening::Queues {
+        ask: Ask::Acquire,
+        object,
+        part,
+        left: None,
+    };
+    push_of_copy(alloc, events, copy, moment, What::Happens(queues))
+}
+
 // The story of two copies, of which one cancels something in a moment and the other one ends in another moment.
 fn story_of_two(alloc: Global, cancels: u64, ends: u64) -> Result<Vec<Event>, Fail> {
     let mut events = Vec::new(alloc);
@@ -63,6 +84,24 @@ fn story_of_two(alloc: Global, cancels: u64, ends: u64) -> Result<Vec<Event>, Fa
     push_end(alloc, &mut events, 0, cancels)?;
     push_start(alloc, &mut events, 1)?;
     push_end(alloc, &mut events, 1, ends)?;
+    Ok(events)
+}
+
+// The story of two copies, of which one waits for the limiter `p` from a moment on, and the other one for this limiter from another
+// moment on.
+fn story_of_waits(
+    alloc: Global,
+    first: u64,
+    second: u64,
+    other: &[u8],
+) -> Result<Vec<Event>, Fail> {
+    let mut events = Vec::new(alloc);
+    push_start(alloc, &mut events, 0)?;
+    push_wait(alloc, &mut events, 0, first, b"p")?;
+    push_end(alloc, &mut events, 0, first)?;
+    push_start(alloc, &mut events, 1)?;
+    push_wait(alloc, &mut events, 1, second, other)?;
+    push_end(alloc, &mut events, 1, second)?;
     Ok(events)
 }
 
@@ -133,4 +172,31 @@ fn copies_meet(alloc: Global) -> Result<(), Fail> {
 #[test]
 fn copies_meet_by_ticks(rt: HostRuntime) -> Result<(), Fail> {
     copies_meet(rt.alloc())
+}
+
+// The length of a hair, the moment from which one copy waits for `p`, the moment from which the other one waits, for which limiter,
+// and the tick in which they meet. Each concerns the other, so the earlier one is told.
+const WAITS: &[(u64, u64, u64, &'static [u8], Option<u64>)] = &[
+    (0, 20, 20, b"p", Some(20)),
+    (1, 20, 21, b"p", Some(20)),
+    (1, 21, 20, b"p", Some(20)),
+    (1, 20, 22, b"p", None),
+    (1, 20, 21, b"q", None),
+];
+
+// Fails at the first row whose copies meet in another tick.
+fn waiters_meet(alloc: Global) -> Result<(), Fail> {
+    for i in 0..WAITS.len() {
+        let (hair, first, second, other, expected) = WAITS[i];
+        let events = story_of_waits(alloc, first, second, other)?;
+        if met_in(alloc, Clock::ByTicks, hair, events.as_slice())? != expected {
+            return Err(wrong(i));
+        }
+    }
+    Ok(())
+}
+
+#[test]
+fn copies_that_wait_for_one_limiter_meet(rt: HostRuntime) -> Result<(), Fail> {
+    waiters_meet(rt.alloc())
 }

@@ -4,12 +4,12 @@
 //! Compares the tasks of two runs, apart from ticks.
 //!
 //! The layer promises that `differences` returns each task for which the runs do not show the same (`specs/Differences.antt`):
-//! how it ends, apart from the ticks in exceptions; and the lines that it borrowed, the scopes and nurseries that it left, and
-//! the events for which it waited, in their order, apart from the exits of scopes with a given name. And that `run_differences`
-//! does so for runs that may not have ended by a limit (`specs/Runs.antt`).
+//! how it ends, apart from the ticks in exceptions; and the lines that it borrowed, the scopes and nurseries that it left, the
+//! events for which it waited, and what limiters and channels granted to it, in their order, apart from the exits of scopes with
+//! a given name. And that `run_differences` does so for runs that may not have ended by a limit (`specs/Runs.antt`).
 //!
 //! Finds copies of one task that meet: tasks of one `start` with `over` or in a `repeat`, of which one cancels something while
-//! something happens to another.
+//! something happens to another, or of which two do something to one limiter or channel.
 //!
 //! `meeting_of` returns the first such meeting among the events of a story, as `specs/Copies.antt` defines it. Copies of a task
 //! have the same text, so changing the text cannot show whether an outcome depends on which of them acts first. Events are

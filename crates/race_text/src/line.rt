@@ -75,9 +75,9 @@ pub enum Line {
         name: Name,
         /// The number of tasks that it starts at once, or `None` if it has no `over`.
         count: Option<u64>,
-        /// The copy that cancels something.
+        /// The copy that cancels something, or does something to a limiter or channel.
         one: Label,
-        /// The copy to which something happens within a hair.
+        /// The copy to which something happens within a hair, or which does something to the same limiter or channel.
         other: Label,
         /// The tick at which they meet, in the author's ticks.
         tick: u64,

@@ -37,10 +37,9 @@ struct Met<'e> {
 /// if one of them, or a descendant of it, cancels something, and the other, or a descendant of it, has an event at most a hair
 /// earlier or later that is neither a start nor a cancellation. They also meet if, at most a hair apart, one of them waits in the
 /// queue of a limiter or channel, uses a channel or closes it, and the other asks the same one for something or closes it. In
-/// which rounds of their ticks the events are does not matter. If
-/// several meetings are in the same tick, the first in the order of the walk is returned. `walked` are the events of a story in
-/// the order of the walk, `clock` is how their time is counted, and `hair` is a number of ticks. The only error is that memory
-/// runs out.
+/// which rounds of their ticks the events are does not matter. If several meetings are in the same tick, the first in the order
+/// of the walk is returned. `walked` are the events of a story in the order of the walk, `clock` is how their time is counted,
+/// and `hair` is a number of ticks. The only error is that memory runs out.
 pub fn meeting_of(
     alloc: Global,
     clock: Clock,

@@ -11,7 +11,7 @@ use job_tree::Name;
 use task_machine::Entry;
 
 // Returns whether two entries are the same line, or exits of the same scope or nursery that both caught or both did not, or waits
-// for the same event.
+// for the same event, or grants of the same by the same limiter or channel.
 fn is_same_entry(a: &Entry<'_>, b: &Entry<'_>) -> bool
     ensures { result ≡ same_entry (entry_of a.now) (entry_of b.now) }
 {

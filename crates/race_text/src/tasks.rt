@@ -24,7 +24,7 @@ pub enum Difference {
         after: Vec<u8>,
     },
     /// The task ends in the same way, and has other lines, or left other scopes or nurseries, or did so in another way, or waited
-    /// for other events.
+    /// for other events, or was granted something else by a limiter or channel.
     Inside {
         /// The task.
         task: Label,

@@ -6,12 +6,12 @@ use Rattle.job_tree.specs.Tree.{Tree}
 use Rattle.exceptions.specs.Held.{exc_of}
 use Rattle.job_meaning.specs.Moments.{clock_of}
 use Rattle.job_meaning.specs.Meaning.{meaning, meaning_end}
-use Rattle.job_meaning.specs.Shown.{Row, meaning_rows}
+use Rattle.job_meaning.specs.Shown.{meaning_rows}
 use Rattle.job_story.specs.Held.{event_of}
 use Rattle.job_story.specs.Events.{in_order}
 use Rattle.job_story.specs.Limit.{by_limit}
 use Rattle.outcomes.specs.Notes.{cut_in, is_raised}
-use Rattle.outcomes.specs.JobOutcomes.{JobOutcome, stuck_by, ended, cancelled_in, walked_events, loses, job_outcome_by, job_outcome_of, reaches}
+use Rattle.outcomes.specs.JobOutcomes.{JobOutcome, stuck_by, ended, walked_events, loses, job_outcome_by, job_outcome_of, reaches}
 use Rattle.trials.specs.declared.summary.Summary.{Summary}
 use Rattle.trials.specs.Held.{IsSummary}
 

@@ -7,7 +7,7 @@ use Rattle.exceptions.specs.Held.{exc_of}
 use Rattle.job_meaning.specs.Log.{Table}
 use Rattle.job_meaning.specs.Sharing.{Grants}
 use Rattle.job_meaning.specs.Moments.{clock_of}
-use Rattle.job_meaning.specs.Meaning.{root_label, meaning, meaning_end, meaning_table, meaning_grants}
+use Rattle.job_meaning.specs.Meaning.{root_label, meaning, meaning_table, meaning_grants}
 use Rattle.job_meaning.specs.Shown.{Row, ending_of, meaning_rows}
 use Rattle.job_runner.specs.Runs.{root_end}
 use Rattle.job_story.specs.Held.{event_of}

@@ -1,13 +1,12 @@
-use Rattle.std.proofs.Common.{ap, sym, subst, ◌∙◌, map}
+use Rattle.std.proofs.Common.{sym, subst}
 use Rattle.job_meaning.specs.GrantTable.{AreGrantsOf}
-use Rattle.task_machine.specs.Noted.{from_of}
 use Rattle.job_answers.proofs.Tables.{is_of_meaning}
 use Rattle.job_answers.proofs.meaning.meaning_of.Goals as goal
 
 pub returns-clause-table : goal.returns-clause-table
 returns-clause-table g c =
-    is_of_meaning _ _ _ _ c.law_cancelled_from_of_meaning.ensures
-    (ap (map from_of) c.into_tables-cancelled_from.ensures.cancelled_from ∙ c.in_ok-run.ensures.cancelled_from) c.in_ok-table.ensures
+    is_of_meaning _ _ c.in_ok-run.run' _ _ c.law_cancelled_from_of_meaning.ensures c.into_tables-cancelled_from.ensures.cancelled_from
+    c.in_ok-run.ensures.cancelled_from c.in_ok-table.ensures
 
 pub returns-clause-lent : goal.returns-clause-lent
 returns-clause-lent g c =
