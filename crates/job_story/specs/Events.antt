@@ -1,5 +1,5 @@
 -- The events of a story, one after the other.
-use Rattle.std.specs.Prelude.{ℕ, Option, List, [], ◌∷◌, ◌++◌}
+use Rattle.std.specs.Prelude.{ℕ, Bool, true, false, Option, List, [], ◌∷◌, ◌++◌}
 use Rattle.basics.specs.Sorting.{sorted_by}
 use Rattle.input_lines.specs.Lines.{Range}
 use Rattle.exceptions.specs.Exceptions.{Label, Exc}
@@ -10,6 +10,11 @@ pub data What : Type 0 where
   starts : (home : Option Label) → (part : Range) → What
   happens : (what : Happening) → What
   ends : (home : Option Label) → (exc : Option Exc) → What
+
+abbrev pub is_start : What → Bool
+is_start (starts home lent) = true
+is_start (happens what) = false
+is_start (ends home exc) = false
 
 -- an event of a task; its `tick` is a moment
 pub record Event : Type 0 where

@@ -8,6 +8,7 @@ use Rattle.job_meaning.specs.Tables.{meaning_tables}
 use Rattle.job_meaning.specs.Walk.{walk, and_then, sleep_result, lines_result, raise_result, need_result, cancel_result, set_result, event_wait, block, event_block, with_sign, nursery_result, child, handler_result, cleanup_result}
 use Rattle.job_story.specs.Examples.{job_named, lines_of}
 use Rattle.job_story.specs.Tell.{tell, then_tale, tell_sleep, tell_lines, tell_need, tell_raise, tell_cancel, tell_set, tell_event_wait, tell_block, tell_event, tell_wait, tell_gathered, tell_child, tell_handled, tell_cleaned, tale_by}
+use Rattle.job_story.specs.Deadlock.{most_in_cycle}
 use Rattle.job_story.specs.Limit.{story_to}
 
 -- the story of the meaning up to a limit
@@ -38,5 +39,5 @@ pub somebody_sleeps_forever :
     ∷ codes "  m  waiting for nursery n since 0"
     ∷ codes "  a  sleeping forever since 0"
     ∷ [])
-unfolding text_of_story_to digits
+unfolding text_of_story_to digits most_in_cycle
 somebody_sleeps_forever = refl

@@ -8,8 +8,9 @@ use Rattle.job_meaning.specs.Moments.{clock_of}
 use Rattle.job_meaning.specs.Tables.{Tables}
 use Rattle.job_story.specs.Story.{is_cancelled}
 use Rattle.job_story.specs.Events.{What, starts, happens, ends, Event, in_order}
+use Rattle.job_story.specs.Notes.{notes_in}
 use Rattle.job_story.specs.Causes.{Cause, by_deadline, by_task, by_set, by_failure, by_cancellation, cause_of}
-use Rattle.job_story.specs.Sentences.{kept_text, job_events}
+use Rattle.job_story.specs.Sentences.{kept_text, job_events, job_notes}
 use Rattle.exceptions.specs.Texts.{label_text}
 use Rattle.job_story.specs.Limit.{kept_text_to, walked_to}
 
@@ -77,7 +78,7 @@ concerned_tasks table all l = causers_in (length all) table all (l ∷ [])
 abbrev pub story_of_task : Tables → Tree → List ℕ → Label → List ℕ
 story_of_task k job input l =
     let all = job_events k job input in
-    kept_text (clock_of job.format) k.cancelled_from all (of_tasks (concerned_tasks k.cancelled_from all l) all)
+    kept_text (clock_of job.format) k.cancelled_from (job_notes k job input) all (of_tasks (concerned_tasks k.cancelled_from all l) all)
 
 -- the text of the part of a story that concerns a task, up to a limit, with what the tasks do that have not ended by then
 abbrev pub story_of_task_to : Tables → ℕ → Tree → List ℕ → Label → List ℕ
@@ -85,7 +86,7 @@ story_of_task_to k limit job input l =
     let walked = walked_to k limit job input in
     let all = in_order walked in
     let tasks = concerned_tasks k.cancelled_from all l in
-    kept_text_to (clock_of job.format) k.cancelled_from limit all (of_tasks tasks all) (of_tasks tasks walked)
+    kept_text_to (clock_of job.format) k.cancelled_from (notes_in walked) limit all (of_tasks tasks all) (of_tasks tasks walked)
 
 -- ---- a task by its label's text
 

@@ -1,8 +1,10 @@
 pub mod Story
 pub mod Tell
 pub mod Events
+pub mod Notes
 pub mod Causes
 pub mod Sentences
+pub mod Deadlock
 pub mod Limit
 pub mod Focus
 pub mod Held

@@ -9,8 +9,12 @@ use Rattle.job_meaning.specs.Moments.{clock_of, tick_of}
 use Rattle.job_meaning.specs.declared.clock.Clock.{Clock}
 use Rattle.job_story.specs.Story.{sleeps, awaits, queues, waits}
 use Rattle.job_story.specs.Tell.{story_by}
+pub use Rattle.job_story.specs.Events.{is_start}
+pub use Rattle.job_story.specs.Deadlock.{last_event}
+use Rattle.job_story.specs.Deadlock.{first_cycle, cycle_text}
 use Rattle.job_story.specs.Events.{What, starts, happens, ends, Event, events_of, in_order}
 use Rattle.job_story.specs.Sentences.{until_text, ask_text, padded_text, label_width, kept_text}
+use Rattle.job_story.specs.Notes.{Notes, notes_in}
 use Rattle.exceptions.specs.Texts.{label_text}
 
 -- the events up to a tick
@@ -33,11 +37,6 @@ has_ended l (e ∷ es) = (is_end e.what && same_label l e.task) || has_ended l e
 abbrev pub start_if : Bool → Label → List Label → List Label
 start_if true l ls = l ∷ ls
 start_if false l ls = ls
-
-abbrev pub is_start : What → Bool
-is_start (starts home lent) = true
-is_start (happens what) = false
-is_start (ends home exc) = false
 
 -- the tasks that were started and have not ended, in the order of the events
 abbrev pub running_in : List Event → List Event → List Label
@@ -62,11 +61,6 @@ doing_text clock table t (happens (queues ask object lent left)) =
     codes "waiting " ++ ask_text ask object ++ codes " since " ++ decimal (tick_of clock t)
 doing_text clock table t _ = []
 
--- the last of these events that is one of a task, or the given event if there is none
-abbrev pub last_event : Label → List Event → Option Event → Option Event
-last_event l [] found = found
-last_event l (e ∷ es) found = last_event l es (if same_label l e.task then Some e else found)
-
 -- what a task does after the last event of its own
 abbrev pub last_text : Clock → Table → Option Event → List ℕ
 last_text clock table None = []
@@ -78,13 +72,19 @@ running_text clock table width es (l ∷ ls) =
     codes "  " ++ padded_text width (label_text l) ++ codes "  " ++ last_text clock table (last_event l es None) ++ codes "\n"
     ++ running_text clock table width es ls
 
+-- what the tasks of some events do that have not ended in them, given in order and in the order of the walk, and the deadlock in which some
+-- are, by all events up to the limit
+abbrev pub standing_text : Clock → Table → List Event → List Event → List Event → List ℕ
+standing_text clock table all sorted walked =
+    running_text clock table (label_width sorted) sorted (running_in walked walked) ++ cycle_text (first_cycle all (running_in all all))
+
 -- ---- the text
 
 -- the text of selected events of a story up to a limit, given in order and in the order of the walk; `all` has all events up to it
-abbrev pub kept_text_to : Clock → Table → ℕ → List Event → List Event → List Event → List ℕ
-kept_text_to clock table limit all sorted walked =
-    kept_text clock table all sorted ++ codes "limit " ++ decimal limit ++ codes "\n"
-    ++ running_text clock table (label_width sorted) sorted (running_in walked walked)
+abbrev pub kept_text_to : Clock → Table → Notes → ℕ → List Event → List Event → List Event → List ℕ
+kept_text_to clock table notes limit all sorted walked =
+    kept_text clock table notes all sorted ++ codes "limit " ++ decimal limit ++ codes "\n"
+    ++ standing_text clock table all sorted walked
 
 -- the events of a job by two tables up to a limit, in the order of the walk
 abbrev pub walked_to : Tables → ℕ → Tree → List ℕ → List Event
@@ -94,4 +94,4 @@ walked_to k limit job input = by_limit (clock_of job.format) limit (events_of (r
 abbrev pub story_to : Tables → ℕ → Tree → List ℕ → List ℕ
 story_to k limit job input =
     let walked = walked_to k limit job input in
-    kept_text_to (clock_of job.format) k.cancelled_from limit (in_order walked) (in_order walked) walked
+    kept_text_to (clock_of job.format) k.cancelled_from (notes_in walked) limit (in_order walked) (in_order walked) walked

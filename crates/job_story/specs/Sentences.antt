@@ -18,6 +18,7 @@ use Rattle.job_meaning.specs.Walk.{Kind, a_scope, a_nursery}
 use Rattle.job_story.specs.Story.{During, at_checkpoint, sleeping, waiting_for, in_queue, before_asking, Asked, Happening, enters, enters_event, sleeps, is_cancelled, finds, misses, raises, cancels, sets, awaits, was_set, enters_object, queues, gets, finds_closed, deadlocks, gives_token_back, closes_channel, handles, cleans, replaces, waits, leaves}
 use Rattle.job_story.specs.Tell.{is_from, story_by}
 use Rattle.job_story.specs.Events.{What, starts, happens, ends, Event, events_of, in_order}
+use Rattle.job_story.specs.Notes.{Note, all_in_use, no_room, nothing_there, given_back_by, sent_by, closed_by, Notes, notes_in}
 use Rattle.job_story.specs.Causes.{Cause, by_deadline, by_task, by_set, by_failure, by_cancellation, Entering, entering_of, cause_of}
 
 -- ---- sentences, in which each number is a tick
@@ -170,6 +171,28 @@ happening_text clock table es t (waits nursery exc) =
 happening_text clock table es t (leaves kind label inside caught outside) =
     codes "leaves " ++ kind_text kind ++ label_text label ++ codes ": " ++ leaving_text inside caught outside
 
+-- ---- what is said of other tasks
+
+abbrev pub place_text : ℕ → List ℕ
+place_text place =
+    (if place == 1 then codes "first"
+    else if place == 2 then codes "second" else if place == 3 then codes "third" else codes "number " ++ decimal place)
+    ++ codes " in the queue"
+
+-- who is first in the queue of a channel is not said to be
+abbrev pub later_place_text : ℕ → List ℕ
+later_place_text place = if place == 1 then [] else codes ", " ++ place_text place
+
+abbrev pub note_text : Option Note → List ℕ
+note_text None = []
+note_text (Some (all_in_use tokens place)) =
+    codes " (" ++ decimal tokens ++ codes " of " ++ decimal tokens ++ codes " in use, " ++ place_text place ++ codes ")"
+note_text (Some (no_room place)) = codes " (full" ++ later_place_text place ++ codes ")"
+note_text (Some (nothing_there place)) = codes " (empty" ++ later_place_text place ++ codes ")"
+note_text (Some (given_back_by task)) = codes " (given back by " ++ label_text task ++ codes ")"
+note_text (Some (sent_by task)) = codes " (sent by " ++ label_text task ++ codes ")"
+note_text (Some (closed_by task)) = codes " (closed by " ++ label_text task ++ codes ")"
+
 abbrev pub home_text : Option Label → List ℕ
 home_text None = []
 home_text (Some l) = codes " in nursery " ++ label_text l
@@ -189,30 +212,35 @@ label_width (e ∷ es) = max (length (label_text e.task)) (label_width es)
 abbrev pub padded_text : ℕ → List ℕ → List ℕ
 padded_text width text = text ++ replicate (width - length text) 32
 
-abbrev pub line_text : Clock → Table → List Event → ℕ → Event → List ℕ
-line_text clock table es width e =
-    codes "  " ++ padded_text width (label_text e.task) ++ codes "  " ++ what_text clock table es e.tick e.what ++ codes "\n"
+abbrev pub line_text : Clock → Table → Notes → List Event → ℕ → Event → List ℕ
+line_text clock table notes es width e =
+    codes "  " ++ padded_text width (label_text e.task) ++ codes "  " ++ what_text clock table es e.tick e.what ++ note_text (notes e) ++ codes "\n"
 
 -- a line for a tick, where the event before is of another tick, which is given; a line for each event of the tick follows
 abbrev pub tick_text : Clock → Tick → ℕ → List ℕ
 tick_text clock before t = if is_from before (tick_of clock t) then [] else codes "tick " ++ decimal (tick_of clock t) ++ codes "\n"
 
-abbrev pub lines_text : Clock → Table → List Event → ℕ → Tick → List Event → List ℕ
-lines_text clock table es width before [] = []
-lines_text clock table es width before (e ∷ rest) =
-    tick_text clock before e.tick ++ line_text clock table es width e ++ lines_text clock table es width (Some (tick_of clock e.tick)) rest
+abbrev pub lines_text : Clock → Table → Notes → List Event → ℕ → Tick → List Event → List ℕ
+lines_text clock table notes es width before [] = []
+lines_text clock table notes es width before (e ∷ rest) =
+    tick_text clock before e.tick ++ line_text clock table notes es width e
+    ++ lines_text clock table notes es width (Some (tick_of clock e.tick)) rest
 
 -- the events of a job by two tables, in order
 abbrev pub job_events : Tables → Tree → List ℕ → List Event
 job_events k job input = in_order (events_of (root_label job.name) (story_by k job input))
 
--- the text of selected events of a story, of which `all` has all events
-abbrev pub kept_text : Clock → Table → List Event → List Event → List ℕ
-kept_text clock table all kept = lines_text clock table all (label_width kept) None kept
+-- what they say of one another
+abbrev pub job_notes : Tables → Tree → List ℕ → Notes
+job_notes k job input = notes_in (events_of (root_label job.name) (story_by k job input))
 
-abbrev pub events_text : Clock → Table → List Event → List ℕ
-events_text clock table es = kept_text clock table es es
+-- the text of selected events of a story, of which `all` has all events
+abbrev pub kept_text : Clock → Table → Notes → List Event → List Event → List ℕ
+kept_text clock table notes all kept = lines_text clock table notes all (label_width kept) None kept
+
+abbrev pub events_text : Clock → Table → Notes → List Event → List ℕ
+events_text clock table notes es = kept_text clock table notes es es
 
 -- the text of a job's story by two tables
 abbrev pub story_text : Tables → Tree → List ℕ → List ℕ
-story_text k job input = events_text (clock_of job.format) k.cancelled_from (job_events k job input)
+story_text k job input = events_text (clock_of job.format) k.cancelled_from (job_notes k job input) (job_events k job input)

@@ -15,7 +15,7 @@ same_parts : (l m : Label) → l.name ≡ m.name → l.indices ≡ m.indices →
 same_parts l m p q = λ i. record { name = p i; indices = q i }
 
 -- both parts of a test hold
-both : (a b : Bool) → (a && b) ≡ true → (a ≡ true) × (b ≡ true)
+pub both : (a b : Bool) → (a && b) ≡ true → (a ≡ true) × (b ≡ true)
 both true b h = (refl, h)
 both false b h = let clash : false ≡ true = h in cc
 

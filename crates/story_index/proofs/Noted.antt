@@ -18,7 +18,7 @@ or_by false true = refl
 or_by false false = refl
 
 -- a label at some place
-abbrev at_some : Label → Bor Label
+abbrev pub at_some : Label → Bor Label
 at_some l = record { ref_ptr = (0, 0); now = l }
 
 -- a task that is inserted is among them, with all that were

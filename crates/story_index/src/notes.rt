@@ -75,7 +75,7 @@ fn is_next(tick: u64, from: Option<u64>) -> bool
 }
 
 // Inserts a value for a label, unless the label already has one.
-fn put_first<'e, V: Copy>(
+pub(crate) fn put_first<'e, V: Copy>(
     map: &mut IndexMap<&'e Label, V>,
     label: &'e Label,
     value: V,
