@@ -11,8 +11,3 @@ pub mod RoundLemmas
 pub mod SeenMore
 pub mod Keeps
 pub mod Adds
-pub mod TurnLemmas
-pub mod GroupLemmas
-pub mod ServeLemmas
-pub mod NoteLemmas
-pub mod DeadlockLemmas

@@ -8,11 +8,3 @@ pub mod Holds
 pub mod Added
 pub mod Nearest
 pub mod Until
-pub mod Moves
-pub mod Records
-pub mod Groups
-pub mod Numbers
-pub mod Noted
-pub mod QueueService
-pub mod QueueNotes
-pub mod Deadlock

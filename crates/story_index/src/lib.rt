@@ -24,36 +24,23 @@
 #![tactic(auto)]
 
 mod causes;
-mod deadlock;
 mod exc;
-mod groups;
 mod kept;
 mod lasts;
-mod moves;
 mod named;
-mod note;
 mod notes;
-mod numbers;
-mod object_kinds;
-mod queue_notes;
-mod queue_service;
-mod records;
 mod rounds;
-mod service;
 mod sign;
 mod task_set;
 mod tasks;
-mod turns;
 mod until;
 
 pub use causes::{Causes, Entering};
-pub use deadlock::{Wait, find_deadlock};
 pub use exc::is_cancellation;
 pub use kept::of_tasks;
 pub use lasts::LastEvents;
 pub use named::{nearest_task, task_named};
-pub use note::Note;
-pub use queue_notes::QueueNotes;
+pub use notes::put_first;
 pub use rounds::concerned_tasks;
 pub use sign::Cause;
 pub use task_set::TaskSet;

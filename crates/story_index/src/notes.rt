@@ -1,4 +1,4 @@
-ghost use Rattle.std.specs.Prelude.{◌≡◌, ◌+◌, ◌==◌, ℕ, Some, None, OnOk, if◌then◌else◌};
+ghost use Rattle.std.specs.Prelude.{◌≡◌, ◌+◌, ◌==◌, ℕ, Some, None, OnOk, OnErr, if◌then◌else◌};
 ghost use Rattle.std.specs.Option.{option_map, option_or};
 ghost use Rattle.exceptions.specs.Exceptions as tree;
 ghost use Rattle.job_meaning.specs.Log.{same_label};
@@ -74,14 +74,16 @@ fn is_next(tick: u64, from: Option<u64>) -> bool
     }
 }
 
-// Inserts a value for a label, unless the label already has one.
-pub(crate) fn put_first<'e, V: Copy>(
+/// Inserts a value for a label, unless the label already has one. Returns `AllocError` if memory runs out; the map then stays as
+/// it was.
+pub fn put_first<'e, V: Copy>(
     map: &mut IndexMap<&'e Label, V>,
     label: &'e Label,
     value: V,
 ) -> Result<(), AllocError>
-    ensures { OnOk result ((l : tree.Label) → value_at map.new l
+    ensures put { OnOk result ((l : tree.Label) → value_at map.new l
         ≡ option_or (value_at map.old l) (if same_label label.entry.now l then Some value else None)) }
+    ensures err { OnErr result ((l : tree.Label) → value_at map.new l ≡ value_at map.old l) }
 {
     if map.contains_key(&label) {
         return Ok(());

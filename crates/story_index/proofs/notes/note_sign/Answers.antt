@@ -14,4 +14,4 @@ pub returns : goal.returns
 returns c = λ l from is.
     one_due cause_in_code (table_in c.args.cancelled_from.now) l c.in-Some.sign.label.now from (c.args.event.now.tick + 1) c.in-Some.sign.cause _ _ _
     (c.in-Some.ensures l) (ap (λ o. is_from o (c.args.event.now.tick + 1)) (sym c.of.ensures) ∙ sym c.is_next.ensures ∙ c.if-not-is_next.false) is
-    (c.in_ok-put_first.ensures l)
+    (c.in_ok-put_first.ensures.put l)
