@@ -7,11 +7,11 @@ tick 0
   client.0  starts in nursery clients
   client.1  starts in nursery clients
   client.2  starts in nursery clients
-  client.2  waits for a token of connections
+  client.2  waits for a token of connections (2 of 2 in use, first in the queue)
   client.3  starts in nursery clients
-  client.3  waits for a token of connections
+  client.3  waits for a token of connections (2 of 2 in use, second in the queue)
   client.4  starts in nursery clients
-  client.4  waits for a token of connections
+  client.4  waits for a token of connections (2 of 2 in use, third in the queue)
   client.0  gets a token of connections at once
   client.0  enters scope query.0 (shielded)
   client.0  sleeps until 4
@@ -27,10 +27,10 @@ tick 4
   client.1  leaves scope query.1: completed
   client.1  gives its token of connections back
   client.1  ends: done
-  client.2  gets a token of connections
+  client.2  gets a token of connections (given back by client.0)
   client.2  enters scope query.2 (shielded)
   client.2  sleeps until 8
-  client.3  gets a token of connections
+  client.3  gets a token of connections (given back by client.1)
   client.3  enters scope query.3 (shielded)
   client.3  sleeps until 8
 tick 5

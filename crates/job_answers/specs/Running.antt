@@ -9,12 +9,11 @@ use Rattle.job_meaning.specs.declared.clock.Clock.{Clock}
 use Rattle.job_meaning.specs.Meaning.{meaning_end, meaning_table}
 use Rattle.job_meaning.specs.Tables.{meaning_tables}
 use Rattle.job_story.specs.Events.{Event, in_order}
-use Rattle.job_story.specs.Sentences.{label_width}
-use Rattle.job_story.specs.Limit.{running_in, running_text, walked_to}
+use Rattle.job_story.specs.Limit.{standing_text, walked_to}
 
 -- the lines that end the text of these events up to a limit, by a table
 abbrev pub running_lines : Clock → Table → List Event → List ℕ
-running_lines clock table walked = running_text clock table (label_width (in_order walked)) (in_order walked) (running_in walked walked)
+running_lines clock table walked = standing_text clock table (in_order walked) (in_order walked) walked
 
 -- the lines of a job that ends later than the limit, with what its tasks are doing that have not ended by then
 pub record IsJobRunning (job : Tree) (input : List ℕ) (limit : ℕ) (lines : List ℕ) : Type 0 where

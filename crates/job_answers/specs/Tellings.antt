@@ -5,6 +5,7 @@ use Rattle.exceptions.specs.Exceptions.{Label}
 use Rattle.job_meaning.specs.Log.{Table}
 use Rattle.job_meaning.specs.declared.clock.Clock.{Clock}
 use Rattle.job_story.specs.Events.{Event, in_order}
+use Rattle.job_story.specs.Notes.{Notes, notes_in}
 use Rattle.job_story.specs.Sentences.{kept_text}
 use Rattle.job_story.specs.Held.{event_of}
 use Rattle.job_story.specs.Limit.{kept_text_to}
@@ -31,17 +32,17 @@ abbrev pub events_shown : Story → List Event
 events_shown story = events_until story.clock story.until (map event_of story.events.items)
 
 -- the text of selected events of a story, up to a limit or whole
-abbrev pub text_until : Clock → Option ℕ → Table → List Event → List Event → List Event → List ℕ
-text_until clock None table all sorted walked = kept_text clock table all sorted
-text_until clock (Some limit) table all sorted walked = kept_text_to clock table limit all sorted walked
+abbrev pub text_until : Clock → Option ℕ → Table → Notes → List Event → List Event → List Event → List ℕ
+text_until clock None table notes all sorted walked = kept_text clock table notes all sorted
+text_until clock (Some limit) table notes all sorted walked = kept_text_to clock table notes limit all sorted walked
 
 -- the text of a story, from its events in the order of the walk: of all tasks, or of those that concern one task
 abbrev pub story_shown : Clock → Table → Option ℕ → Option Label → List Event → List ℕ
-story_shown clock table until None walked = text_until clock until table (in_order walked) (in_order walked) walked
+story_shown clock table until None walked = text_until clock until table (notes_in walked) (in_order walked) (in_order walked) walked
 story_shown clock table until (Some task) walked =
     let all = in_order walked in
     let tasks = concerned_tasks table all task in
-    text_until clock until table all (of_tasks tasks all) (of_tasks tasks walked)
+    text_until clock until table (notes_in walked) all (of_tasks tasks all) (of_tasks tasks walked)
 
 -- which task was asked for among these events
 abbrev pub IsAsked : Option (List ℕ) → List Event → About → Type 0

@@ -10,10 +10,10 @@ use job_report::Question;
 use job_runner::{Gate, Pick};
 use std::alloc::{AllocError, Global};
 use std::thread::Threads;
-use story_text::{in_order, running_text};
+use story_text::{in_order, standing_text};
 
-/// Returns a line for each task of a job that has not ended by the limit, with what it is doing: the last lines of the story that
-/// `explain` writes of such a job. Returns nothing if the job ends by the limit or its text is refused. The picker, the number of
+/// Returns a line for each task of a job that has not ended by the limit, with what it is doing, and one about a deadlock if some
+/// are in one: the last lines of the story that `explain` writes of such a job. Returns nothing if the job ends by the limit or its text is refused. The picker, the number of
 /// workers and the gate change no byte. The caller must ensure that the input has at most 16,777,216 bytes (`MAX_INPUT`).
 /// The only error is that memory runs out.
 pub fn running_at_limit<R: Threads + Sync, P: Pick, G: Gate + Sync>(
@@ -61,13 +61,13 @@ fn running_of<R: Threads + Sync, P: Pick, G: Gate + Sync>(
     }
 }
 
-// Returns a line for each task that has not ended in these events of a story, with what it is doing.
+// Returns the last lines of a story up to a limit: what each task is doing that has not ended, and a deadlock.
 fn running_lines(alloc: Global, story: &Story) -> Result<Vec<u8>, AllocError>
     ensures { IfOk result (λ lines. lines.items ≡ running_lines story.now.clock (table_in story.now.table) (events_shown story.now)) }
 {
     let walked = story.walked(alloc)?;
     let sorted = in_order(alloc, walked.as_slice())?;
-    let lines = running_text(
+    let lines = standing_text(
         alloc,
         story.clock,
         &story.table,

@@ -3,6 +3,7 @@ ghost use Rattle.job_story.specs.Focus.{concerned_tasks, of_tasks};
 ghost use Rattle.job_story.specs.CancelledFrom.{table_in};
 ghost use Rattle.story_index.specs.Seen.{event_in};
 ghost use Rattle.story_index.specs.Holds.{label_seen};
+ghost use Rattle.story_waits.specs.QueueNotes.{held_notes};
 ghost use Rattle.story_text.specs.Known.{clock_in, events_in, cancelled_from_in};
 ghost use Rattle.job_answers.specs.Tellings.{story_shown, text_until};
 
@@ -11,6 +12,7 @@ use job_story::Event;
 use std::alloc::{AllocError, Global};
 use story_index::{Causes, of_tasks};
 use story_text::{Known, ShownStory, in_order, kept_text, kept_text_to};
+use story_waits::QueueNotes;
 
 // Returns the text of what is shown of a story.
 pub(crate) fn text_of_story(
@@ -24,9 +26,10 @@ pub(crate) fn text_of_story(
     let all = in_order(alloc, walked)?;
     let causes = Causes::of(alloc, all.as_slice(), shown.table)?;
     let known = Known::new(clock, all.as_slice(), shown.table, &causes);
+    let notes = QueueNotes::of(alloc, walked)?;
     match shown.task {
-        Some(task) => task_text(alloc, walked, &known, until, task),
-        None => text_until(alloc, all.as_slice(), walked, &known, until),
+        Some(task) => task_text(alloc, walked, &known, &notes, until, task),
+        None => text_until(alloc, all.as_slice(), walked, &known, &notes, until),
     }
 }
 
@@ -36,17 +39,18 @@ fn task_text<'e>(
     alloc: Global,
     walked: &[&'e Event],
     known: &Known<'_, 'e>,
+    notes: &QueueNotes<'_>,
     until: Option<u64>,
     task: &'e Label,
 ) -> Result<Vec<u8>, AllocError>
-    ensures { IfOk result (λ text. text.items ≡ text_until (clock_in known.now) until (cancelled_from_in known.now) (events_in known.now)
+    ensures { IfOk result (λ text. text.items ≡ text_until (clock_in known.now) until (cancelled_from_in known.now) (held_notes notes.now) (events_in known.now)
         (of_tasks (concerned_tasks (cancelled_from_in known.now) (events_in known.now) task.entry.now) (events_in known.now))
         (of_tasks (concerned_tasks (cancelled_from_in known.now) (events_in known.now) task.entry.now) (map event_in walked.now))) }
 {
     let tasks = known.concerned_tasks(alloc, task)?;
     let sorted = of_tasks(alloc, known.events(), &tasks)?;
     let walked = of_tasks(alloc, walked, &tasks)?;
-    let text = text_until(alloc, sorted.as_slice(), walked.as_slice(), known, until)?;
+    let text = text_until(alloc, sorted.as_slice(), walked.as_slice(), known, notes, until)?;
     Ok(text)
 }
 
@@ -56,13 +60,15 @@ fn text_until(
     sorted: &[&Event],
     walked: &[&Event],
     known: &Known<'_, '_>,
+    notes: &QueueNotes<'_>,
     until: Option<u64>,
 ) -> Result<Vec<u8>, AllocError>
     ensures { IfOk result (λ text. text.items
-        ≡ text_until (clock_in known.now) until (cancelled_from_in known.now) (events_in known.now) (map event_in sorted.now) (map event_in walked.now)) }
+        ≡ text_until (clock_in known.now) until (cancelled_from_in known.now) (held_notes notes.now) (events_in known.now)
+        (map event_in sorted.now) (map event_in walked.now)) }
 {
     match until {
-        Some(limit) => kept_text_to(alloc, sorted, walked, limit, known),
-        None => kept_text(alloc, sorted, known),
+        Some(limit) => kept_text_to(alloc, sorted, walked, limit, known, notes),
+        None => kept_text(alloc, sorted, known, notes),
     }
 }

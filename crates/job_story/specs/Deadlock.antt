@@ -1,5 +1,6 @@
 -- A deadlock: tasks of which each waits for the token of a limiter that the next one holds. Limiters with one token are looked at, which are locks.
-use Rattle.std.specs.Prelude.{ℕ, zero, suc, ◌==◌, Bool, true, false, Option, Some, None, List, [], ◌∷◌, ◌++◌, codes, if◌then◌else◌}
+use Rattle.std.specs.Prelude.{ℕ, zero, suc, ◌-◌, ◌==◌, length, Bool, true, false, Option, Some, None, List, [], ◌∷◌, ◌++◌, codes, if◌then◌else◌}
+use Rattle.std.specs.List.{slice_get}
 use Rattle.std.specs.Option.{option_map, option_or}
 use Rattle.job_tree.specs.declared.object.Ask.TheVariants.{Acquire}
 use Rattle.job_tree.specs.declared.object.ObjectKind.{ObjectKind}
@@ -85,17 +86,19 @@ first_cycle es (l ∷ ls) = option_or (waits_to most_in_cycle es l l) (first_cyc
 
 -- ---- its text
 
-abbrev pub last_limiter : Wait → List Wait → Label
-last_limiter w [] = w.limiter
-last_limiter w (x ∷ xs) = last_limiter x xs
+abbrev pub wait_text : (held : Label) → Wait → List ℕ
+wait_text held w = label_text w.task ++ codes " holds " ++ label_text held ++ codes " and waits for " ++ label_text w.limiter
 
 -- what each task holds is what the one before it waits for
-abbrev pub waits_text : (held : Label) → Wait → List Wait → List ℕ
-waits_text held w [] = label_text w.task ++ codes " holds " ++ label_text held ++ codes " and waits for " ++ label_text w.limiter
-waits_text held w (x ∷ xs) =
-    label_text w.task ++ codes " holds " ++ label_text held ++ codes " and waits for " ++ label_text w.limiter ++ codes "; " ++ waits_text w.limiter x xs
+abbrev pub waits_text : (before : List ℕ) → (held : Label) → List Wait → List ℕ
+waits_text before held [] = codes "\n"
+waits_text before held (w ∷ ws) = before ++ wait_text held w ++ waits_text (codes "; ") w.limiter ws
 
+abbrev pub cycle_from : Option Wait → List Wait → List ℕ
+cycle_from None ws = []
+cycle_from (Some last) ws = waits_text (codes "deadlock: ") last.limiter ws
+
+-- the first task holds what the last one waits for
 abbrev pub cycle_text : Option (List Wait) → List ℕ
 cycle_text None = []
-cycle_text (Some []) = []
-cycle_text (Some (w ∷ ws)) = codes "deadlock: " ++ waits_text (last_limiter w ws) w ws ++ codes "\n"
+cycle_text (Some ws) = cycle_from (slice_get ws (length ws - 1)) ws

@@ -173,11 +173,22 @@ happening_text clock table es t (leaves kind label inside caught outside) =
 
 -- ---- what is said of other tasks
 
+abbrev pub ordinal_text : ℕ → List ℕ
+ordinal_text place =
+    if place == 1 then codes "first"
+    else if place == 2 then codes "second"
+    else if place == 3 then codes "third"
+    else if place == 4 then codes "fourth"
+    else if place == 5 then codes "fifth"
+    else if place == 6 then codes "sixth"
+    else if place == 7 then codes "seventh"
+    else if place == 8 then codes "eighth"
+    else if place == 9 then codes "ninth"
+    else if place == 10 then codes "tenth"
+    else codes "number " ++ decimal place
+
 abbrev pub place_text : ℕ → List ℕ
-place_text place =
-    (if place == 1 then codes "first"
-    else if place == 2 then codes "second" else if place == 3 then codes "third" else codes "number " ++ decimal place)
-    ++ codes " in the queue"
+place_text place = ordinal_text place ++ codes " in the queue"
 
 -- who is first in the queue of a channel is not said to be
 abbrev pub later_place_text : ℕ → List ℕ
@@ -186,7 +197,7 @@ later_place_text place = if place == 1 then [] else codes ", " ++ place_text pla
 abbrev pub note_text : Option Note → List ℕ
 note_text None = []
 note_text (Some (all_in_use tokens place)) =
-    codes " (" ++ decimal tokens ++ codes " of " ++ decimal tokens ++ codes " in use, " ++ place_text place ++ codes ")"
+    (codes " (" ++ decimal tokens ++ codes " of " ++ decimal tokens ++ codes " in use, ") ++ place_text place ++ codes ")"
 note_text (Some (no_room place)) = codes " (full" ++ later_place_text place ++ codes ")"
 note_text (Some (nothing_there place)) = codes " (empty" ++ later_place_text place ++ codes ")"
 note_text (Some (given_back_by task)) = codes " (given back by " ++ label_text task ++ codes ")"
@@ -212,9 +223,13 @@ label_width (e ∷ es) = max (length (label_text e.task)) (label_width es)
 abbrev pub padded_text : ℕ → List ℕ → List ℕ
 padded_text width text = text ++ replicate (width - length text) 32
 
+-- the sentence of an event, with what is said of other tasks
+abbrev pub sentence_text : Clock → Table → Notes → List Event → Event → List ℕ
+sentence_text clock table notes es e = what_text clock table es e.tick e.what ++ note_text (notes e)
+
 abbrev pub line_text : Clock → Table → Notes → List Event → ℕ → Event → List ℕ
 line_text clock table notes es width e =
-    codes "  " ++ padded_text width (label_text e.task) ++ codes "  " ++ what_text clock table es e.tick e.what ++ note_text (notes e) ++ codes "\n"
+    codes "  " ++ padded_text width (label_text e.task) ++ codes "  " ++ sentence_text clock table notes es e ++ codes "\n"
 
 -- a line for a tick, where the event before is of another tick, which is given; a line for each event of the tick follows
 abbrev pub tick_text : Clock → Tick → ℕ → List ℕ

@@ -8,17 +8,19 @@
 
 mod answers;
 mod asks;
+mod deadlock;
 mod known;
 mod label;
 mod limit;
 mod lines;
 mod order;
+mod queue_notes;
 mod sentences;
 mod shown_story;
 mod ticks;
 
 pub use known::Known;
-pub use limit::{kept_text_to, running_text};
+pub use limit::{kept_text_to, standing_text};
 pub use lines::kept_text;
 pub use order::in_order;
 pub use shown_story::ShownStory;

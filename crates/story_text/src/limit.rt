@@ -3,14 +3,16 @@ ghost use Rattle.exceptions.specs.Exceptions as tree;
 ghost use Rattle.job_story.specs.CancelledFrom.{table_in};
 ghost use Rattle.job_story.specs.Held.{happening_of, what_of};
 ghost use Rattle.job_story.specs.Events as story_events;
-ghost use Rattle.job_story.specs.Limit.{has_ended, start_if, is_start, running_in, unset_text, doing_text, last_event, last_text, running_text, kept_text_to};
+ghost use Rattle.job_story.specs.Limit.{has_ended, start_if, is_start, running_in, unset_text, doing_text, last_event, last_text, running_text, standing_text, kept_text_to};
 ghost use Rattle.job_story.specs.Sentences.{label_width};
 ghost use Rattle.story_text.specs.Known.{clock_in, events_in, cancelled_from_in};
 ghost use Rattle.story_index.specs.Tasks.{sorted_in, walked_in};
 ghost use Rattle.story_index.specs.Lasts.{seen_last};
 ghost use Rattle.story_index.specs.Seen.{event_in};
+ghost use Rattle.story_waits.specs.QueueNotes.{held_notes};
 
 use crate::asks::push_asked;
+use crate::deadlock::push_deadlock;
 use crate::known::Known;
 use crate::label::push_padded;
 use crate::lines::{label_width, push_lines};
@@ -21,55 +23,72 @@ use job_meaning::Clock;
 use job_story::{CancelledFrom, Event, Happening, What};
 use std::alloc::{AllocError, Global};
 use story_index::Tasks;
+use story_waits::QueueNotes;
 
 /// Returns the text of selected events of a story up to a limit. The events are given in order (`sorted`) and in the order of the
-/// walk (`walked`), and `known` has all events up to the limit. After the story come a line for the limit, and a line for each
-/// task of the selected events that has not ended, with what it is doing. Returns `AllocError` if memory runs out.
+/// walk (`walked`), and `known` and `notes` have all events up to the limit. After the story come a line for the limit, a line for
+/// each task of the selected events that has not ended, with what it is doing, and a line about a deadlock in which some tasks
+/// are, if there is one. Returns `AllocError` if memory runs out.
 pub fn kept_text_to<'e>(
     alloc: Global,
     sorted: &[&'e Event],
     walked: &[&'e Event],
     limit: u64,
     known: &Known<'_, '_>,
+    notes: &QueueNotes<'_>,
 ) -> Result<Vec<u8>, AllocError>
     ensures { IfOk result (λ text. text.items
-        ≡ kept_text_to (clock_in known.now) (cancelled_from_in known.now) limit (events_in known.now)
+        ≡ kept_text_to (clock_in known.now) (cancelled_from_in known.now) (held_notes notes.now) limit (events_in known.now)
         (map event_in sorted.now) (map event_in walked.now)) }
 {
     let width = label_width(alloc, sorted)?;
     let mut out = Vec::new(alloc);
-    push_lines(&mut out, known, sorted, width)?;
+    push_lines(&mut out, known, notes, sorted, width)?;
     push_limit(&mut out, limit)?;
-    let tasks = Tasks::of(alloc, sorted, walked)?;
-    push_running(
-        &mut out,
-        known.clock,
-        known.cancelled_from,
-        width,
-        &tasks,
-        walked,
-    )?;
+    let (clock, table) = (known.clock, known.cancelled_from);
+    push_standing(alloc, &mut out, clock, table, width, known.events(), sorted, walked)?;
     Ok(out)
 }
 
-/// Returns a line for each task that has not ended in these events, with what it is doing, as at the end of `kept_text_to`. The
-/// events are given in order (`sorted`) and in the order of the walk (`walked`), with the clock of their moments, and the table
-/// of the whole story, which says of an event of the job whether it is ever set. Returns `AllocError` if out of memory.
-pub fn running_text(
+/// Returns a line for each task that has not ended in these events, with what it is doing, and one about a deadlock in which some
+/// are, as at the end of `kept_text_to`. The events are all up to a limit, and are given in order (`sorted`) and in the order of
+/// the walk (`walked`), with the clock of their moments, and the table of the whole story, which says of an event of the job
+/// whether it is ever set. Returns `AllocError` if out of memory.
+pub fn standing_text(
     alloc: Global,
     clock: Clock,
     cancelled_from: &CancelledFrom,
     sorted: &[&Event],
     walked: &[&Event],
 ) -> Result<Vec<u8>, AllocError>
-    ensures { IfOk result (λ text. text.items ≡ running_text clock (table_in cancelled_from.now) (label_width (map event_in sorted.now))
-        (map event_in sorted.now) (running_in (map event_in walked.now) (map event_in walked.now))) }
+    ensures { IfOk result (λ text. text.items
+        ≡ standing_text clock (table_in cancelled_from.now) (map event_in sorted.now) (map event_in sorted.now) (map event_in walked.now)) }
 {
     let width = label_width(alloc, sorted)?;
-    let tasks = Tasks::of(alloc, sorted, walked)?;
     let mut out = Vec::new(alloc);
-    push_running(&mut out, clock, cancelled_from, width, &tasks, walked)?;
+    push_standing(alloc, &mut out, clock, cancelled_from, width, sorted, sorted, walked)?;
     Ok(out)
+}
+
+// Appends what the tasks of some events do that have not ended in them, and a deadlock among all.
+fn push_standing(
+    alloc: Global,
+    out: &mut Vec<u8>,
+    clock: Clock,
+    cancelled_from: &CancelledFrom,
+    width: usize,
+    all: &[&Event],
+    sorted: &[&Event],
+    walked: &[&Event],
+) -> Result<(), AllocError>
+    requires { width ≡ label_width (map event_in sorted.now) }
+    ensures { OnOk result (out.new.items ≡ out.old.items
+        ++ standing_text clock (table_in cancelled_from.now) (map event_in all.now) (map event_in sorted.now) (map event_in walked.now)) }
+{
+    let tasks = Tasks::of(alloc, sorted, walked)?;
+    push_running(out, clock, cancelled_from, width, &tasks, walked)?;
+    push_deadlock(alloc, out, all)?;
+    Ok(())
 }
 
 // Appends the line for the limit.
