@@ -16,13 +16,14 @@ use Rattle.job_meaning.specs.Log.{Table}
 use Rattle.job_meaning.specs.Moments.{tick_of}
 use Rattle.job_meaning.specs.declared.clock.Clock.{Clock}
 use Rattle.job_story.specs.Story.{During, at_checkpoint, sleeping, waiting_for, in_queue, before_asking, Happening, enters, enters_event, sleeps, is_cancelled, finds, misses, raises, cancels, sets, awaits, was_set, enters_object, queues, gets, finds_closed, deadlocks, gives_token_back, closes_channel, handles, cleans, replaces, waits, leaves}
+use Rattle.job_story.specs.Notes.{Note, all_in_use, no_room, nothing_there, given_back_by, sent_by, closed_by, Notes}
 use Rattle.job_story.specs.Events.{What, starts, happens, ends, Event}
 use Rattle.job_story.specs.Limit.{running_in, last_event}
 use Rattle.job_story.specs.Causes.{Cause, by_deadline, by_task, by_set, by_failure, by_cancellation, cause_of}
 use Rattle.job_report.specs.Text.{ask_word}
 use Rattle.json_story.specs.Values.{integer, word, list_of, text_json, label_json, exc_json}
 use Rattle.json_story.proofs.ReportIntegers.{exc_without_float}
-use Rattle.json_story.specs.Events.{tick_json, moment_json, label_or_null, exc_or_null, cause_json, why_json, cancel_from, failure_from, kind_key, span_json, with_ask, with_size, with_during, with_happening, with_what, event_head, event_json}
+use Rattle.json_story.specs.Events.{tick_json, moment_json, label_or_null, exc_or_null, cause_json, why_json, cancel_from, failure_from, kind_key, span_json, with_ask, with_size, with_during, with_happening, with_what, with_note, event_head, event_json}
 use Rattle.json_story.specs.Running.{with_idle, with_doing, with_last, task_json}
 use Rattle.json_story.specs.Stories.{running_json}
 
@@ -179,8 +180,18 @@ what_has_none clock table es t (ends home exc) ms hm =
     put_three (codes "from") (codes "exception") (codes "nursery") (moment_json clock (failure_from table home exc t)) (exc_or_null exc)
     (label_or_null home) ms (moment_has_none clock (failure_from table home exc t)) (exc_has_none exc) (label_has_none home) hm
 
-event_has_none : (clock : Clock) (table : Table) (es : List Event) (e : Event) → has_float (event_json clock table es e) ≡ false
-event_has_none clock table es e = what_has_none clock table es e.tick e.what (event_head clock e) refl
+note_has_none : (note : Option Note) (ms : Members) → members_have_float ms ≡ false → members_have_float (with_note note ms) ≡ false
+note_has_none None ms hm = hm
+note_has_none (Some (all_in_use tokens place)) ms hm = with_put (codes "place") (integer place) ms refl hm
+note_has_none (Some (no_room place)) ms hm = with_put (codes "place") (integer place) ms refl hm
+note_has_none (Some (nothing_there place)) ms hm = with_put (codes "place") (integer place) ms refl hm
+note_has_none (Some (given_back_by task)) ms hm = with_put (codes "by") (label_json task) ms refl hm
+note_has_none (Some (sent_by task)) ms hm = with_put (codes "by") (label_json task) ms refl hm
+note_has_none (Some (closed_by task)) ms hm = with_put (codes "by") (label_json task) ms refl hm
+
+event_has_none : (clock : Clock) (table : Table) (notes : Notes) (es : List Event) (e : Event) →
+    has_float (event_json clock table notes es e) ≡ false
+event_has_none clock table notes es e = note_has_none (notes e) _ (what_has_none clock table es e.tick e.what (event_head clock e) refl)
 
 -- ---- tasks that have not ended
 
@@ -245,9 +256,9 @@ running_has_none clock None sorted walked = refl
 running_has_none clock (Some limit) sorted walked = tasks_have_none clock sorted (running_in walked walked)
 
 -- values of an event, of a tick and of the tasks that have not ended have no float
-pub event_has_no_float : (value : Data) (clock : Clock) (table : Table) (es : List Event) (e : Event) →
-    value ≡ event_json clock table es e → has_float value ≡ false
-event_has_no_float value clock table es e is = rw (is, event_has_none clock table es e) refl
+pub event_has_no_float : (value : Data) (clock : Clock) (table : Table) (notes : Notes) (es : List Event) (e : Event) →
+    value ≡ event_json clock table notes es e → has_float value ≡ false
+event_has_no_float value clock table notes es e is = rw (is, event_has_none clock table notes es e) refl
 
 pub tick_has_no_float : (value : Data) (t : Tick) → value ≡ tick_json t → has_float value ≡ false
 tick_has_no_float value t is = rw (is, tick_has_none t) refl

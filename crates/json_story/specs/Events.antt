@@ -16,6 +16,7 @@ use Rattle.job_meaning.specs.Walk.{Kind, a_scope, a_nursery}
 use Rattle.job_story.specs.Story.{During, at_checkpoint, sleeping, waiting_for, in_queue, before_asking, Happening, enters, enters_event, sleeps, is_cancelled, finds, misses, raises, cancels, sets, awaits, was_set, enters_object, queues, gets, finds_closed, deadlocks, gives_token_back, closes_channel, handles, cleans, replaces, waits, leaves}
 use Rattle.job_story.specs.Tell.{is_from}
 use Rattle.job_story.specs.Events.{What, starts, happens, ends, Event}
+use Rattle.job_story.specs.Notes.{Note, all_in_use, no_room, nothing_there, given_back_by, sent_by, closed_by, Notes}
 use Rattle.job_story.specs.Causes.{Cause, by_deadline, by_task, by_set, by_failure, by_cancellation, cause_of}
 use Rattle.json_story.specs.Values.{integer, word, list_of, text_json, label_json, exc_json}
 
@@ -189,9 +190,19 @@ event_head clock e =
     put (codes "event") (word (what_word e.what)) (put (codes "task") (label_json e.task)
     (put (codes "tick") (integer (tick_of clock e.tick)) no_members))
 
+-- what is said of other tasks: the place in a queue, or by which task one goes on
+abbrev pub with_note : Option Note → Members → Members
+with_note None ms = ms
+with_note (Some (all_in_use tokens place)) ms = put (codes "place") (integer place) ms
+with_note (Some (no_room place)) ms = put (codes "place") (integer place) ms
+with_note (Some (nothing_there place)) ms = put (codes "place") (integer place) ms
+with_note (Some (given_back_by task)) ms = put (codes "by") (label_json task) ms
+with_note (Some (sent_by task)) ms = put (codes "by") (label_json task) ms
+with_note (Some (closed_by task)) ms = put (codes "by") (label_json task) ms
+
 -- an event of a story with these events by a table
-abbrev pub event_json : Clock → Table → List Event → Event → Data
-event_json clock table es e = object (with_what clock table es e.tick e.what (event_head clock e))
+abbrev pub event_json : Clock → Table → Notes → List Event → Event → Data
+event_json clock table notes es e = object (with_note (notes e) (with_what clock table es e.tick e.what (event_head clock e)))
 
 -- the event that a kernel of a task answered some lines in a tick
 abbrev pub found_json : Label → ℕ → List Span → Data

@@ -5,8 +5,10 @@ ghost use Rattle.serde_json.specs.Written.{compact_text};
 ghost use Rattle.job_story.specs.Held.{what_of, event_of};
 ghost use Rattle.story_index.specs.Seen.{event_in};
 ghost use Rattle.json_story.specs.Values.{list_of};
-ghost use Rattle.json_story.specs.Events.{what_word, with_what, event_head, event_json};
-ghost use Rattle.json_story.specs.Known.{clock_in, events_in, cancelled_from_in};
+ghost use Rattle.json_story.specs.Events.{what_word, with_what, with_note, event_head, event_json};
+ghost use Rattle.json_story.specs.Known.{clock_in, events_in, cancelled_from_in, notes_held};
+ghost use Rattle.story_waits.specs.Noted.{note_in};
+ghost use Rattle.std.specs.Option.{option_map};
 
 use crate::found::push_found;
 use crate::happening::{happening_word, put_happening};
@@ -17,6 +19,7 @@ use job_meaning::Clock;
 use job_story::{Event, Happening, What};
 use serde_json::{Map, Value, put};
 use std::alloc::{AllocError, Global};
+use story_waits::Note;
 
 // Appends the events of a story as a JSON array.
 pub(crate) fn push_events(
@@ -27,7 +30,7 @@ pub(crate) fn push_events(
 ) -> Result<(), AllocError>
     ensures { OnOk result (out.new.items
         ≡ out.old.items ++ compact_text (list_of
-        (map (event_json (clock_in known.now) (cancelled_from_in known.now) (events_in known.now)) (map event_in events.now)))) }
+        (map (event_json (clock_in known.now) (cancelled_from_in known.now) (notes_held known.now) (events_in known.now)) (map event_in events.now)))) }
 {
     out.push(b'[')?;
     'events: for (i, event) in events.iter().enumerate() {
@@ -46,7 +49,7 @@ fn push_event(
     event: &Event,
 ) -> Result<(), AllocError>
     ensures { OnOk result (out.new.items
-        ≡ out.old.items ++ compact_text (event_json (clock_in known.now) (cancelled_from_in known.now) (events_in known.now) (event_of event.now))) }
+        ≡ out.old.items ++ compact_text (event_json (clock_in known.now) (cancelled_from_in known.now) (notes_held known.now) (events_in known.now) (event_of event.now))) }
 {
     if let What::Happens(Happening::Finds { lines }) = &event.what {
         return push_found(
@@ -64,11 +67,35 @@ fn push_event(
 // Returns an event as a JSON object.
 fn event_value(alloc: Global, known: &Known<'_, '_>, event: &Event) -> Result<Value, AllocError>
     ensures { IfOk result (λ value. view value
-        ≡ event_json (clock_in known.now) (cancelled_from_in known.now) (events_in known.now) (event_of event.now)) }
+        ≡ event_json (clock_in known.now) (cancelled_from_in known.now) (notes_held known.now) (events_in known.now) (event_of event.now)) }
 {
     let mut members = event_head(alloc, known.clock, event)?;
     put_what(&mut members, alloc, known, event.tick, &event.what)?;
+    put_note(&mut members, alloc, known.notes.note_of(event))?;
     Ok(Value::Object(members))
+}
+
+// Puts what is said of other tasks: the place in a queue, or by which task one goes on.
+fn put_note(
+    members: &mut Map<String, Value>,
+    alloc: Global,
+    note: Option<Note<'_>>,
+) -> Result<(), AllocError>
+    ensures { OnOk result (members_view members.new.entries
+        ≡ with_note (option_map note_in note.entry) (members_view members.old.entries)) }
+{
+    let Some(note) = note else {
+        return Ok(());
+    };
+    match note {
+        Note::AllInUse { place, .. } | Note::NoRoom { place } | Note::NothingThere { place } => {
+            put(members, alloc, "place", Value::from(place as u64))
+        }
+        Note::GivenBackBy(task) | Note::SentBy(task) | Note::ClosedBy(task) => {
+            let label = label_value(alloc, task)?;
+            put(members, alloc, "by", label)
+        }
+    }
 }
 
 // Returns what each event has.

@@ -8,7 +8,7 @@ ghost use Rattle.story_index.specs.Seen.{event_in};
 ghost use Rattle.story_index.specs.Holds.{label_seen};
 ghost use Rattle.json_story.specs.Values.{document, list_of};
 ghost use Rattle.json_story.specs.Events.{event_json, tick_json};
-ghost use Rattle.json_story.specs.Known.{clock_in, events_in, cancelled_from_in};
+ghost use Rattle.json_story.specs.Known.{clock_in, events_in, cancelled_from_in, notes_held};
 ghost use Rattle.json_story.specs.Stories.{running_json, kept_json, story_json};
 
 use crate::event::push_events;
@@ -24,6 +24,7 @@ use serde_json::Value;
 use std::alloc::{AllocError, Global};
 use story_index::{Causes, Tasks, concerned_tasks, of_tasks};
 use story_text::{ShownStory, in_order};
+use story_waits::QueueNotes;
 
 /// Returns what is shown of the story of the job with this name as one JSON document, in compact form and with a newline. If the
 /// story is cut off at a limit, the document includes what each task that has not ended is doing. The only error is that memory
@@ -40,7 +41,8 @@ pub fn story_json(
     let (clock, until, walked) = (shown.clock, shown.until, shown.walked);
     let all = in_order(alloc, walked)?;
     let causes = Causes::of(alloc, all.as_slice(), shown.table)?;
-    let known = Known::new(clock, all.as_slice(), shown.table, &causes);
+    let notes = QueueNotes::of(alloc, walked)?;
+    let known = Known::new(clock, all.as_slice(), shown.table, &causes, &notes);
     match shown.task {
         Some(task) => concerned_json(alloc, job, until, &known, walked, task),
         None => kept_json(alloc, job, until, &known, all.as_slice(), walked),
@@ -58,7 +60,7 @@ fn concerned_json<'e>(
     task: &'e Label,
 ) -> Result<Vec<u8>, AllocError>
     ensures { IfOk result (λ bytes. bytes.items
-        ≡ document (kept_json (clock_in known.now) job until (cancelled_from_in known.now) (events_in known.now)
+        ≡ document (kept_json (clock_in known.now) job until (cancelled_from_in known.now) (notes_held known.now) (events_in known.now)
         (of_tasks (concerned_tasks (cancelled_from_in known.now) (events_in known.now) task.entry.now) (events_in known.now))
         (of_tasks (concerned_tasks (cancelled_from_in known.now) (events_in known.now) task.entry.now) (map event_in walked.now)))) }
 {
@@ -86,7 +88,7 @@ fn kept_json(
     walked: &[&Event],
 ) -> Result<Vec<u8>, AllocError>
     ensures { IfOk result (λ bytes. bytes.items
-        ≡ document (kept_json (clock_in known.now) job until (cancelled_from_in known.now) (events_in known.now)
+        ≡ document (kept_json (clock_in known.now) job until (cancelled_from_in known.now) (notes_held known.now) (events_in known.now)
         (map event_in sorted.now) (map event_in walked.now))) }
 {
     let mut out = Vec::new(alloc);
@@ -107,7 +109,7 @@ fn push_events_member(
 ) -> Result<(), AllocError>
     ensures { OnOk result ((later : Members) → out.new.items ++ members_text true later
         ≡ out.old.items ++ compact_text (object (member (codes "events")
-        (list_of (map (event_json (clock_in known.now) (cancelled_from_in known.now) (events_in known.now)) (map event_in sorted.now))) later))) }
+        (list_of (map (event_json (clock_in known.now) (cancelled_from_in known.now) (notes_held known.now) (events_in known.now)) (map event_in sorted.now))) later))) }
 {
     out.push(b'{')?;
     push_key(alloc, out, "events")?;

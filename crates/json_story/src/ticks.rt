@@ -7,32 +7,37 @@ ghost use Rattle.story_index.specs.Found.{cause_in_code};
 ghost use Rattle.story_index.specs.Knows.{Knows};
 ghost use Rattle.story_index.specs.Seen.{event_in};
 ghost use Rattle.json_story.specs.Events.{next_if, cancel_from, failure_from};
-ghost use Rattle.json_story.specs.Known.{clock_in, events_in, cancelled_from_in};
+ghost use Rattle.json_story.specs.Known.{clock_in, events_in, cancelled_from_in, notes_held};
+ghost use Rattle.story_waits.specs.QueueNotes.{held_notes};
 
 use crate::known::Known;
 use exceptions::{Exc, Label};
 use job_meaning::Clock;
 use job_story::{CancelledFrom, Event};
 use story_index::{Cause, Causes};
+use story_waits::QueueNotes;
 
 impl<'k, 'e> Known<'k, 'e> {
-    // Puts together the clock of a story's moments, its events in order, the table and the index of both.
+    // Puts together the clock of a story's moments, its events in order, the table, the index of both, and the notes.
     pub(crate) fn new(
         clock: Clock,
         events: &'k [&'e Event],
         cancelled_from: &'k CancelledFrom,
         causes: &'k Causes<'e>,
+        notes: &'k QueueNotes<'e>,
     ) -> Known<'k, 'e>
         requires { Knows causes.now (table_in cancelled_from.now) (map event_in events.now) }
         ensures clock { clock_in result ≡ clock }
         ensures events { events_in result ≡ map event_in events.now }
         ensures cancelled_from { cancelled_from_in result ≡ table_in cancelled_from.now }
+        ensures notes { notes_held result ≡ held_notes notes.now }
     {
         Known {
             clock,
             events,
             cancelled_from,
             causes,
+            notes,
         }
     }
 

@@ -45,8 +45,16 @@ pub fn kept_text_to<'e>(
     let mut out = Vec::new(alloc);
     push_lines(&mut out, known, notes, sorted, width)?;
     push_limit(&mut out, limit)?;
-    let (clock, table) = (known.clock, known.cancelled_from);
-    push_standing(alloc, &mut out, clock, table, width, known.events(), sorted, walked)?;
+    let tasks = Tasks::of(alloc, sorted, walked)?;
+    push_running(
+        &mut out,
+        known.clock,
+        known.cancelled_from,
+        width,
+        &tasks,
+        walked,
+    )?;
+    push_deadlock(alloc, &mut out, known.events())?;
     Ok(out)
 }
 
@@ -66,29 +74,10 @@ pub fn standing_text(
 {
     let width = label_width(alloc, sorted)?;
     let mut out = Vec::new(alloc);
-    push_standing(alloc, &mut out, clock, cancelled_from, width, sorted, sorted, walked)?;
-    Ok(out)
-}
-
-// Appends what the tasks of some events do that have not ended in them, and a deadlock among all.
-fn push_standing(
-    alloc: Global,
-    out: &mut Vec<u8>,
-    clock: Clock,
-    cancelled_from: &CancelledFrom,
-    width: usize,
-    all: &[&Event],
-    sorted: &[&Event],
-    walked: &[&Event],
-) -> Result<(), AllocError>
-    requires { width ≡ label_width (map event_in sorted.now) }
-    ensures { OnOk result (out.new.items ≡ out.old.items
-        ++ standing_text clock (table_in cancelled_from.now) (map event_in all.now) (map event_in sorted.now) (map event_in walked.now)) }
-{
     let tasks = Tasks::of(alloc, sorted, walked)?;
-    push_running(out, clock, cancelled_from, width, &tasks, walked)?;
-    push_deadlock(alloc, out, all)?;
-    Ok(())
+    push_running(&mut out, clock, cancelled_from, width, &tasks, walked)?;
+    push_deadlock(alloc, &mut out, sorted)?;
+    Ok(out)
 }
 
 // Appends the line for the limit.
