@@ -127,19 +127,27 @@ def sight(scope):
 
 
 class Ask:
-    """A task asks for a token, to send its part, or for a part."""
+    """A task asks for a token, to send its part, or for a part, in a moment."""
 
-    def __init__(self, part):
-        self.part = part
+    def __init__(self, word, part, who, since):
+        self.word, self.part, self.who, self.since = word, part, who, since
         self.answer = None  # the moment in which its task goes on, with a part or the name of an exception or nothing
+        self.by = None  # the task whose doing that is
+        self.has_left = False
 
-    def grant(self, now, what=None):
-        self.answer = after(now), what
+    def grant(self, now, what=None, by=None):
+        self.answer, self.by = (after(now), what), by
+
+    def is_at_once(self):
+        return self.answer is not None and self.answer[0] == after(self.since)
+
+    def waits_in(self, moment):
+        return not self.has_left and (self.answer is None or self.answer[0] > moment)
 
 
 class Limiter:
     def __init__(self, label, tokens):
-        self.label, self.free = label, tokens
+        self.label, self.tokens, self.free = label, tokens, tokens
         self.queue = deque()
 
     def acquire(self, now, ask):
@@ -149,9 +157,9 @@ class Limiter:
         else:
             self.queue.append(ask)
 
-    def give_back(self, now):
+    def give_back(self, now, who):
         if self.queue:
-            self.queue.popleft().grant(now)
+            self.queue.popleft().grant(now, by=who)
         else:
             self.free += 1
 
@@ -162,45 +170,45 @@ class Limiter:
 class Channel:
     def __init__(self, label, places):
         self.label, self.places = label, places
-        self.buffer, self.closed = deque(), False
+        self.buffer, self.closed_by = deque(), None
         self.senders, self.receivers = deque(), deque()
 
     def send(self, now, ask):
-        if self.closed:
-            ask.grant(now, "ClosedResource")
+        if self.closed_by is not None:
+            ask.grant(now, "ClosedResource", self.closed_by)
         elif self.receivers:
-            self.receivers.popleft().grant(now, ask.part)
+            self.receivers.popleft().grant(now, ask.part, ask.who)
             ask.grant(now)
         elif len(self.buffer) < self.places:
-            self.buffer.append(ask.part)
+            self.buffer.append((ask.part, ask.who))
             ask.grant(now)
         else:
             self.senders.append(ask)
 
     def receive(self, now, ask):
         if self.buffer:
-            ask.grant(now, self.buffer.popleft())
+            ask.grant(now, *self.buffer.popleft())
             if self.senders:
                 self.buffer.append(self.sent_by_first(now))
         elif self.senders:
-            ask.grant(now, self.sent_by_first(now))
-        elif self.closed:
-            ask.grant(now, "EndOfChannel")
+            ask.grant(now, *self.sent_by_first(now))
+        elif self.closed_by is not None:
+            ask.grant(now, "EndOfChannel", self.closed_by)
         else:
             self.receivers.append(ask)
 
     def sent_by_first(self, now):
-        """The part of the first sender in the queue, who goes on."""
+        """The part of the first sender in the queue, who goes on, and its task."""
         first = self.senders.popleft()
         first.grant(now)
-        return first.part
+        return first.part, first.who
 
-    def close(self, now):
-        self.closed = True
+    def close(self, now, who):
+        self.closed_by = self.closed_by or who
         while self.senders:
-            self.senders.popleft().grant(now, "ClosedResource")
+            self.senders.popleft().grant(now, "ClosedResource", self.closed_by)
         while self.receivers:
-            self.receivers.popleft().grant(now, "EndOfChannel")
+            self.receivers.popleft().grant(now, "EndOfChannel", self.closed_by)
 
     def leave(self, ask):
         (self.senders if ask in self.senders else self.receivers).remove(ask)
@@ -243,6 +251,37 @@ def answered(ask):
 def nursery_end(body_end, members):
     """One round after the last of all."""
     return lambda seen: (NEVER if any(it.end is None for it in members) else after(max([body_end, *(it.end for it in members)])), None)
+
+
+# ---- what a story says of them ----
+
+PLACES = ["first", "second", "third", "fourth", "fifth", "sixth", "seventh", "eighth", "ninth", "tenth"]
+
+
+def waits(of, ask, place):
+    """The sentence of a task that joins a queue."""
+    there = (PLACES[place - 1] if place <= len(PLACES) else f"number {place}") + " in the queue"
+    later = f", {there}" if place > 1 else ""
+    match ask.word:
+        case "acquire":
+            return f"waits for a token of {of.label} ({of.tokens} of {of.tokens} in use, {there})"
+        case "send":
+            return f"waits to send to {of.label} (full{later})"
+        case "receive":
+            return f"waits to receive from {of.label} (empty{later})"
+
+
+def goes_on(of, ask):
+    """The sentence of a task that goes on."""
+    if isinstance(ask.answer[1], str):
+        return f"finds {of.label} closed{' and empty' if ask.word == 'receive' else ''} (closed by {ask.by})"
+    match ask.word:
+        case "acquire":
+            return f"gets a token of {of.label} " + ("at once" if ask.is_at_once() else f"(given back by {ask.by})")
+        case "send":
+            return f"sends to {of.label}"
+        case "receive":
+            return f"receives from {of.label} (sent by {ask.by})"
 
 
 # ---- tasks ----
@@ -363,7 +402,7 @@ class Task:
             case ("set", name):
                 names[name].set(now)
             case ("close", name):
-                self.act(names[name].close)
+                self.act(names[name].close, self.label)
             case ("wait", name):
                 yield from self.wait(wait(now, names[name]))
                 self.is_let_go()
@@ -442,14 +481,17 @@ class Task:
         """Asks something of a limiter or channel, unless a cancellation is seen. Gives what is granted."""
         if self.sees_cancellation(self.scope):
             yield from self.wait(lambda seen, now=self.run.now: (after(after(now)), CANCELLED))
-        ask = Ask(self.part)
+        ask = Ask(word, self.part, self.label, self.run.now)
         self.act(act, ask)
+        self.run.asks.append((self.place, of, ask))
         try:
             what = yield from self.wait(answered(ask))
         except Raised:
+            ask.has_left = True
             of.leave(ask)
             raise
         self.is_let_go()
+        self.run.tell(self.label, goes_on(of, ask))
         if isinstance(what, str):
             self.fail(what)
         self.note(f"{word} {of.label} {self.tick()}")
@@ -458,7 +500,7 @@ class Task:
     def acquire(self, limiter, body, names):
         yield from self.ask("acquire", limiter, limiter.acquire)
         exc = yield from self.outcome(self.block(body, names))
-        self.act(limiter.give_back)
+        self.act(limiter.give_back, self.label)
         reraise(exc)
 
     # ---- scopes and nurseries
@@ -507,6 +549,8 @@ class Run:
     def __init__(self, name, steps, data, limit=LIMIT):
         self.data, self.limit, self.now = data, limit, start_of(0)
         self.tasks, self.acts = [], []
+        self.asks, self.queued = [], []  # what was asked in this round, and all that waited: each with its task's place, and of what
+        self.told = []  # what a story says of queues: ticks, tasks and sentences
         self.ties = 0  # how often a task was let go in the round in which it was cancelled
         self.root = Task(self, name, [], (0, len(data)), None, ())
         self.root.begin(steps, {}, self.now)
@@ -523,6 +567,19 @@ class Run:
         for _, act, of in sorted(self.acts, key=lambda it: it[0]):
             act(self.now, *of)
         self.acts = []
+        self.queue()
+
+    def tell(self, task, sentence):
+        self.told.append((self.now[0], task, sentence))
+
+    def queue(self):
+        """Those who asked in this round and are granted nothing in it wait in a queue, in the order of records."""
+        for _, of, ask in sorted(self.asks, key=lambda it: it[0]):
+            if not ask.is_at_once():
+                before = [it for it_of, it in self.queued if it_of is of and it.word == ask.word and it.waits_in(self.now)]
+                self.queued.append((of, ask))
+                self.told.append((self.now[0], ask.who, waits(of, ask, len(before) + 1)))
+        self.asks = []
 
     def report(self):
         if self.root.end is None or self.root.end[0] > self.limit:
