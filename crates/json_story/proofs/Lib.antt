@@ -6,3 +6,4 @@ pub mod QuotedLemmas
 pub mod LineLemmas
 pub mod Integers
 pub mod SpanLemmas
+pub mod StoryLemmas
