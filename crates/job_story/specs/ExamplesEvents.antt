@@ -7,6 +7,7 @@ use Rattle.job_tree.specs.declared.format.Format.TheVariants.{Three}
 use Rattle.job_tree.specs.Tree.{Step, sleep, set_event, wait_for, nursery, Tree}
 use Rattle.job_meaning.specs.Examples.{block_of, event_of, nursery_of, start_of, start_over}
 use Rattle.job_story.specs.Examples.{lines_of, text_of_story}
+use Rattle.job_story.specs.Deadlock.{most_in_cycle}
 use Rattle.job_story.specs.ExamplesLimit.{text_of_story_to}
 
 -- a job of format 3 with this name
@@ -136,5 +137,5 @@ pub nobody_sets_it :
     ∷ codes "  main  waiting for nursery n since 0"
     ∷ codes "  a     waiting for event e since 0; nothing sets it"
     ∷ [])
-unfolding text_of_story_to digits
+unfolding text_of_story_to digits most_in_cycle
 nobody_sets_it = refl
