@@ -1,3 +1,4 @@
 pub mod Views
 pub mod Stories
 pub mod Tables
+pub mod Texts
