@@ -3,8 +3,7 @@ ghost use Rattle.job_story.specs.Focus.{concerned_tasks, of_tasks};
 ghost use Rattle.job_story.specs.CancelledFrom.{table_in};
 ghost use Rattle.story_index.specs.Seen.{event_in};
 ghost use Rattle.story_index.specs.Holds.{label_seen};
-ghost use Rattle.story_waits.specs.QueueNotes.{held_notes};
-ghost use Rattle.story_text.specs.Known.{clock_in, events_in, cancelled_from_in};
+ghost use Rattle.story_text.specs.Known.{clock_in, events_in, cancelled_from_in, notes_held};
 ghost use Rattle.job_answers.specs.Tellings.{story_shown, text_until};
 
 use exceptions::Label;
@@ -25,11 +24,11 @@ pub(crate) fn text_of_story(
     let (clock, until, walked) = (shown.clock, shown.until, shown.walked);
     let all = in_order(alloc, walked)?;
     let causes = Causes::of(alloc, all.as_slice(), shown.table)?;
-    let known = Known::new(clock, all.as_slice(), shown.table, &causes);
     let notes = QueueNotes::of(alloc, walked)?;
+    let known = Known::new(clock, all.as_slice(), shown.table, &causes, &notes);
     match shown.task {
-        Some(task) => task_text(alloc, walked, &known, &notes, until, task),
-        None => text_until(alloc, all.as_slice(), walked, &known, &notes, until),
+        Some(task) => task_text(alloc, walked, &known, until, task),
+        None => text_until(alloc, all.as_slice(), walked, &known, until),
     }
 }
 
@@ -39,11 +38,10 @@ fn task_text<'e>(
     alloc: Global,
     walked: &[&'e Event],
     known: &Known<'_, 'e>,
-    notes: &QueueNotes<'_>,
     until: Option<u64>,
     task: &'e Label,
 ) -> Result<Vec<u8>, AllocError>
-    ensures { IfOk result (λ text. text.items ≡ text_until (clock_in known.now) until (cancelled_from_in known.now) (held_notes notes.now) (events_in known.now)
+    ensures { IfOk result (λ text. text.items ≡ text_until (clock_in known.now) until (cancelled_from_in known.now) (notes_held known.now) (events_in known.now)
         (of_tasks (concerned_tasks (cancelled_from_in known.now) (events_in known.now) task.entry.now) (events_in known.now))
         (of_tasks (concerned_tasks (cancelled_from_in known.now) (events_in known.now) task.entry.now) (map event_in walked.now))) }
 {
@@ -67,15 +65,14 @@ fn text_until(
     sorted: &[&Event],
     walked: &[&Event],
     known: &Known<'_, '_>,
-    notes: &QueueNotes<'_>,
     until: Option<u64>,
 ) -> Result<Vec<u8>, AllocError>
     ensures { IfOk result (λ text. text.items
-        ≡ text_until (clock_in known.now) until (cancelled_from_in known.now) (held_notes notes.now) (events_in known.now)
+        ≡ text_until (clock_in known.now) until (cancelled_from_in known.now) (notes_held known.now) (events_in known.now)
         (map event_in sorted.now) (map event_in walked.now)) }
 {
     match until {
-        Some(limit) => kept_text_to(alloc, sorted, walked, limit, known, notes),
-        None => kept_text(alloc, sorted, known, notes),
+        Some(limit) => kept_text_to(alloc, sorted, walked, limit, known),
+        None => kept_text(alloc, sorted, known),
     }
 }

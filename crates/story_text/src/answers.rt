@@ -6,9 +6,12 @@ ghost use Rattle.job_story.specs.Focus.{concerned_tasks, is_among};
 ghost use Rattle.job_story.specs.CancelledFrom.{table_in};
 ghost use Rattle.story_index.specs.Found.{entering_in_code, cause_in_code};
 ghost use Rattle.story_index.specs.Knows.{Knows};
+ghost use Rattle.job_story.specs.Held.{event_of};
 ghost use Rattle.story_index.specs.Seen.{event_in};
+ghost use Rattle.story_waits.specs.Noted.{note_in};
 ghost use Rattle.story_index.specs.Holds.{holds};
-ghost use Rattle.story_text.specs.Known.{clock_in, events_in, cancelled_from_in};
+ghost use Rattle.story_text.specs.Known.{clock_in, events_in, cancelled_from_in, notes_held};
+ghost use Rattle.story_waits.specs.QueueNotes.{held_notes};
 
 use crate::known::Known;
 use exceptions::Label;
@@ -16,26 +19,30 @@ use job_meaning::Clock;
 use job_story::{CancelledFrom, Event};
 use std::alloc::{AllocError, Global};
 use story_index::{Cause, Causes, Entering, TaskSet, concerned_tasks};
+use story_waits::{Note, QueueNotes};
 
 impl<'k, 'e> Known<'k, 'e> {
-    /// Puts together the clock of a story's moments, its events in order, the table of cancellations, and the index of both. The
-    /// caller must ensure that the index was created from these events and this table.
+    /// Puts together the clock of a story's moments, its events in order, the table of cancellations, the index of both, and
+    /// the notes of the story. The caller must ensure that the index was created from these events and this table.
     pub fn new(
         clock: Clock,
         events: &'k [&'e Event],
         cancelled_from: &'k CancelledFrom,
         causes: &'k Causes<'e>,
+        notes: &'k QueueNotes<'e>,
     ) -> Known<'k, 'e>
         requires { Knows causes.now (table_in cancelled_from.now) (map event_in events.now) }
         ensures clock { clock_in result ≡ clock }
         ensures events { events_in result ≡ map event_in events.now }
         ensures cancelled_from { cancelled_from_in result ≡ table_in cancelled_from.now }
+        ensures notes { notes_held result ≡ held_notes notes.now }
     {
         Known {
             clock,
             events,
             cancelled_from,
             causes,
+            notes,
         }
     }
 
@@ -74,5 +81,12 @@ impl<'k, 'e> Known<'k, 'e> {
         ensures { result ≡ cancelled_from_in self.now label.now }
     {
         self.cancelled_from.of(label)
+    }
+
+    // Returns what is said of other tasks in an event, or `None` if nothing is.
+    pub(crate) fn note_of(&self, event: &Event) -> Option<Note<'e>>
+        ensures { option_map note_in result ≡ notes_held self.now (event_of event.now) }
+    {
+        self.notes.note_of(event)
     }
 }

@@ -5,11 +5,10 @@ ghost use Rattle.job_story.specs.Held.{happening_of, what_of};
 ghost use Rattle.job_story.specs.Events as story_events;
 ghost use Rattle.job_story.specs.Limit.{has_ended, start_if, is_start, running_in, unset_text, doing_text, last_event, last_text, running_text, standing_text, kept_text_to};
 ghost use Rattle.job_story.specs.Sentences.{label_width};
-ghost use Rattle.story_text.specs.Known.{clock_in, events_in, cancelled_from_in};
+ghost use Rattle.story_text.specs.Known.{clock_in, events_in, cancelled_from_in, notes_held};
 ghost use Rattle.story_index.specs.Tasks.{sorted_in, walked_in};
 ghost use Rattle.story_index.specs.Lasts.{seen_last};
 ghost use Rattle.story_index.specs.Seen.{event_in};
-ghost use Rattle.story_waits.specs.QueueNotes.{held_notes};
 
 use crate::asks::push_asked;
 use crate::deadlock::push_deadlock;
@@ -23,10 +22,9 @@ use job_meaning::Clock;
 use job_story::{CancelledFrom, Event, Happening, What};
 use std::alloc::{AllocError, Global};
 use story_index::Tasks;
-use story_waits::QueueNotes;
 
 /// Returns the text of selected events of a story up to a limit. The events are given in order (`sorted`) and in the order of the
-/// walk (`walked`), and `known` and `notes` have all events up to the limit. After the story come a line for the limit, a line for
+/// walk (`walked`), and `known` has all events up to the limit. After the story come a line for the limit, a line for
 /// each task of the selected events that has not ended, with what it is doing, and a line about a deadlock in which some tasks
 /// are, if there is one. Returns `AllocError` if memory runs out.
 pub fn kept_text_to<'e>(
@@ -35,15 +33,14 @@ pub fn kept_text_to<'e>(
     walked: &[&'e Event],
     limit: u64,
     known: &Known<'_, '_>,
-    notes: &QueueNotes<'_>,
 ) -> Result<Vec<u8>, AllocError>
     ensures { IfOk result (λ text. text.items
-        ≡ kept_text_to (clock_in known.now) (cancelled_from_in known.now) (held_notes notes.now) limit (events_in known.now)
+        ≡ kept_text_to (clock_in known.now) (cancelled_from_in known.now) (notes_held known.now) limit (events_in known.now)
         (map event_in sorted.now) (map event_in walked.now)) }
 {
     let width = label_width(alloc, sorted)?;
     let mut out = Vec::new(alloc);
-    push_lines(&mut out, known, notes, sorted, width)?;
+    push_lines(&mut out, known, sorted, width)?;
     push_limit(&mut out, limit)?;
     let tasks = Tasks::of(alloc, sorted, walked)?;
     push_running(

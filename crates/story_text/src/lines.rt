@@ -1,9 +1,8 @@
 ghost use Rattle.std.specs.Prelude.{◌≡◌, ◌++◌, [], None, IfOk, OnOk, map, max, codes, decimal};
 ghost use Rattle.job_story.specs.Held.{event_of};
 ghost use Rattle.job_story.specs.Sentences.{label_width, tick_text, line_text, sentence_text, lines_text, kept_text};
-ghost use Rattle.story_text.specs.Known.{clock_in, events_in, cancelled_from_in};
+ghost use Rattle.story_text.specs.Known.{clock_in, events_in, cancelled_from_in, notes_held};
 ghost use Rattle.story_index.specs.Seen.{event_in};
-ghost use Rattle.story_waits.specs.QueueNotes.{held_notes};
 
 use crate::known::Known;
 use crate::label::push_padded;
@@ -15,23 +14,21 @@ use exceptions::push_label;
 use job_meaning::Clock;
 use job_story::Event;
 use std::alloc::{AllocError, Global};
-use story_waits::QueueNotes;
 
 /// Returns the text of selected events of a story, in order: a line for each tick in which one happens, and a line for each
-/// event. Causes are looked up among all events of the story, which `known` has, and what is said of other tasks in the notes.
-/// Returns `AllocError` if memory runs out.
+/// event. Causes are looked up among all events of the story, and what is said of other tasks in its notes, which `known`
+/// has. Returns `AllocError` if memory runs out.
 pub fn kept_text(
     alloc: Global,
     kept: &[&Event],
     known: &Known<'_, '_>,
-    notes: &QueueNotes<'_>,
 ) -> Result<Vec<u8>, AllocError>
     ensures { IfOk result (λ text. text.items
-        ≡ kept_text (clock_in known.now) (cancelled_from_in known.now) (held_notes notes.now) (events_in known.now) (map event_in kept.now)) }
+        ≡ kept_text (clock_in known.now) (cancelled_from_in known.now) (notes_held known.now) (events_in known.now) (map event_in kept.now)) }
 {
     let width = label_width(alloc, kept)?;
     let mut out = Vec::new(alloc);
-    push_lines(&mut out, known, notes, kept, width)?;
+    push_lines(&mut out, known, kept, width)?;
     Ok(out)
 }
 
@@ -53,19 +50,18 @@ pub(crate) fn label_width(alloc: Global, events: &[&Event]) -> Result<usize, All
 pub(crate) fn push_lines(
     out: &mut Vec<u8>,
     known: &Known<'_, '_>,
-    notes: &QueueNotes<'_>,
     events: &[&Event],
     width: usize,
 ) -> Result<(), AllocError>
     ensures { OnOk result (out.new.items
         ≡ out.old.items
-        ++ lines_text (clock_in known.now) (cancelled_from_in known.now) (held_notes notes.now) (events_in known.now) width None
+        ++ lines_text (clock_in known.now) (cancelled_from_in known.now) (notes_held known.now) (events_in known.now) width None
         (map event_in events.now)) }
 {
     let mut before = None;
     'events: for event in events {
         push_tick(out, known.clock, before, event.tick)?;
-        push_line(out, known, notes, width, event)?;
+        push_line(out, known, width, event)?;
         before = Some(known.clock.tick_of(event.tick));
     }
     Ok(())
@@ -93,32 +89,26 @@ fn push_tick(
 fn push_line(
     out: &mut Vec<u8>,
     known: &Known<'_, '_>,
-    notes: &QueueNotes<'_>,
     width: usize,
     event: &Event,
 ) -> Result<(), AllocError>
     ensures { OnOk result (out.new.items
         ≡ out.old.items
-        ++ line_text (clock_in known.now) (cancelled_from_in known.now) (held_notes notes.now) (events_in known.now) width (event_of event.now)) }
+        ++ line_text (clock_in known.now) (cancelled_from_in known.now) (notes_held known.now) (events_in known.now) width (event_of event.now)) }
 {
     out.extend_from_slice(b"  ")?;
     push_padded(out, width, &event.task)?;
     out.extend_from_slice(b"  ")?;
-    push_sentence(out, known, notes, event)?;
+    push_sentence(out, known, event)?;
     out.extend_from_slice(b"\n")
 }
 
 // Appends the sentence of an event, with what is said of other tasks.
-fn push_sentence(
-    out: &mut Vec<u8>,
-    known: &Known<'_, '_>,
-    notes: &QueueNotes<'_>,
-    event: &Event,
-) -> Result<(), AllocError>
+fn push_sentence(out: &mut Vec<u8>, known: &Known<'_, '_>, event: &Event) -> Result<(), AllocError>
     ensures { OnOk result (out.new.items
         ≡ out.old.items
-        ++ sentence_text (clock_in known.now) (cancelled_from_in known.now) (held_notes notes.now) (events_in known.now) (event_of event.now)) }
+        ++ sentence_text (clock_in known.now) (cancelled_from_in known.now) (notes_held known.now) (events_in known.now) (event_of event.now)) }
 {
     push_what(out, known, event)?;
-    push_note(out, notes.note_of(event))
+    push_note(out, known.note_of(event))
 }

@@ -6,6 +6,7 @@ use Rattle.std.proofs.lemmas.Result.{on_ok_weaker}
 use Rattle.cancel_scopes.specs.Sight.{Tick}
 use Rattle.job_meaning.specs.Log.{Table}
 use Rattle.job_meaning.specs.declared.clock.Clock.{Clock}
+use Rattle.job_story.specs.Notes.{Notes, notes_in}
 use Rattle.job_story.specs.Events.{Event, in_order}
 use Rattle.chart.specs.Bars.{Bar}
 use Rattle.chart.specs.Ticks.{all_ticks}
@@ -72,22 +73,23 @@ document_drawn sheet until bars width height empty a b new none w h p q r =
 -- the drawing of a story, from what is known of its sheet
 pub drawing_is : (clock : Clock) (width : ℕ) (table : Table) (until : Tick) (walked : List Event) (bars : List Bar)
     (names less : ℕ) (ticks : List ℕ) (all columns : List Column) (counted : Clock) (known : Table)
-    (events sorted : List Event) (svg : List ℕ) →
+    (events sorted : List Event) (said : Notes) (svg : List ℕ) →
     ticks ≡ all_ticks clock walked until → all ≡ columns_of ticks → columns ≡ all → less ≡ less_to_fit width all bars →
-    names ≡ longest_name bars → counted ≡ clock → known ≡ table → events ≡ sorted → sorted ≡ in_order walked →
+    names ≡ longest_name bars → counted ≡ clock → known ≡ table → events ≡ sorted → sorted ≡ in_order walked → said ≡ notes_in walked →
     svg ≡ content_text (document
-    (record { names = names; columns = columns; less = less; clock = counted; table = known; events = events }) until bars) →
+    (record { names = names; columns = columns; less = less; clock = counted; table = known; events = events; notes = said }) until bars) →
     svg ≡ chart_svg clock width table until walked bars
-drawing_is clock width table until walked bars names less ticks all columns counted known events sorted svg t a c f n m k e s p =
-    let drawn = λ (n : ℕ) (cs : List Column) (l : ℕ) (o : Clock) (k : Table) (es : List Event).
-    content_text (document (record { names = n; columns = cs; less = l; clock = o; table = k; events = es }) until bars) in
+drawing_is clock width table until walked bars names less ticks all columns counted known events sorted said svg t a c f n m k e s w p =
+    let drawn = λ (n : ℕ) (cs : List Column) (l : ℕ) (o : Clock) (k : Table) (es : List Event) (ns : Notes).
+    content_text (document (record { names = n; columns = cs; less = l; clock = o; table = k; events = es; notes = ns }) until bars) in
     let every : all ≡ columns_of (all_ticks clock walked until) = a ∙ ap columns_of t in
     let shown = columns_of (all_ticks clock walked until) in
     let fit = less_to_fit width shown bars in
     p
-    ∙ ap (λ n. drawn n columns less counted known events) n
-    ∙ ap (λ cs. drawn (longest_name bars) cs less counted known events) (c ∙ every)
-    ∙ ap (λ l. drawn (longest_name bars) shown l counted known events) (f ∙ ap (λ z. less_to_fit width z bars) every)
-    ∙ ap (λ o. drawn (longest_name bars) shown fit o known events) m
-    ∙ ap (λ k. drawn (longest_name bars) shown fit clock k events) k
-    ∙ ap (λ es. drawn (longest_name bars) shown fit clock table es) (e ∙ s)
+    ∙ ap (λ n. drawn n columns less counted known events said) n
+    ∙ ap (λ cs. drawn (longest_name bars) cs less counted known events said) (c ∙ every)
+    ∙ ap (λ l. drawn (longest_name bars) shown l counted known events said) (f ∙ ap (λ z. less_to_fit width z bars) every)
+    ∙ ap (λ o. drawn (longest_name bars) shown fit o known events said) m
+    ∙ ap (λ k. drawn (longest_name bars) shown fit clock k events said) k
+    ∙ ap (λ es. drawn (longest_name bars) shown fit clock table es said) (e ∙ s)
+    ∙ ap (λ ns. drawn (longest_name bars) shown fit clock table (in_order walked) ns) w

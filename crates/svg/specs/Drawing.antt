@@ -3,6 +3,7 @@ use Rattle.std.specs.Prelude.{ℕ, ◌+◌, ◌-◌, ◌*◌, Bool, true, false,
 use Rattle.cancel_scopes.specs.Sight.{Tick}
 use Rattle.job_meaning.specs.Log.{Table}
 use Rattle.job_meaning.specs.declared.clock.Clock.{Clock}
+use Rattle.job_story.specs.Notes.{Notes, notes_in}
 use Rattle.job_story.specs.Events.{Event, in_order}
 use Rattle.chart.specs.Bars.{Bar}
 use Rattle.chart.specs.Ticks.{all_ticks}
@@ -148,8 +149,8 @@ abbrev pub document : Sheet → Tick → List Bar → Content
 document sheet until bars = element tags.Svg (svg_attributes (width_of sheet bars) (height_of bars)) (inside_of sheet until bars) nothing
 
 -- the sheet of a chart with these columns, whose gaps are as much smaller as they are in a text chart of this width
-abbrev pub sheet_of : Clock → ℕ → Table → List Event → List Column → List Bar → Sheet
-sheet_of clock width table sorted all bars =
+abbrev pub sheet_of : Clock → ℕ → Table → Notes → List Event → List Column → List Bar → Sheet
+sheet_of clock width table notes sorted all bars =
     record {
       names = longest_name bars;
       columns = all;
@@ -157,12 +158,13 @@ sheet_of clock width table sorted all bars =
       clock = clock;
       table = table;
       events = sorted;
+      notes = notes;
     }
 
 -- the drawing of a story, from its events in the order of the walk and their bars, with a column for each tick at which something happens
 abbrev pub drawing_of : Clock → ℕ → Table → Tick → List Event → List Bar → Content
 drawing_of clock width table until walked bars =
-    document (sheet_of clock width table (in_order walked) (columns_of (all_ticks clock walked until)) bars) until bars
+    document (sheet_of clock width table (notes_in walked) (in_order walked) (columns_of (all_ticks clock walked until)) bars) until bars
 
 abbrev pub chart_svg : Clock → ℕ → Table → Tick → List Event → List Bar → List ℕ
 chart_svg clock width table until walked bars = content_text (drawing_of clock width table until walked bars)

@@ -3,7 +3,7 @@ use Rattle.std.specs.Prelude.{Option, map}
 use Rattle.std.specs.Borrow.{Bor}
 use Rattle.std.specs.Option.{option_map}
 use Rattle.exceptions.specs.Exceptions.{Label}
-use Rattle.story_text.specs.Known.{clock_in, events_in, cancelled_from_in}
+use Rattle.story_text.specs.Known.{clock_in, events_in, cancelled_from_in, notes_held}
 use Rattle.chart.specs.HeldColumns.{column_of}
 use Rattle.svg.specs.Sheets as sheets
 use Rattle.svg.specs.Rows as rows
@@ -21,6 +21,7 @@ sheet_held sheet =
       clock = clock_in sheet.known.now;
       table = cancelled_from_in sheet.known.now;
       events = events_in sheet.known.now;
+      notes = notes_held sheet.known.now;
     }
 
 abbrev pub size_held : Size → rows.Size

@@ -87,7 +87,7 @@ more_titled n = if nat_le n MAX_TITLED then [] else codes "and " ++ decimal (n -
 abbrev pub bar_title : Sheet → Bar → Content
 bar_title sheet bar =
     element tags.Title []
-    (text (kept_text sheet.clock sheet.table sheet.events (take MAX_TITLED (titled_events bar))
+    (text (kept_text sheet.clock sheet.table sheet.notes sheet.events (take MAX_TITLED (titled_events bar))
     ++ more_titled (length (titled_events bar))) nothing) nothing
 
 -- ---- parts of a row

@@ -4,6 +4,7 @@ use Rattle.job_meaning.specs.Log.{Table}
 use Rattle.job_meaning.specs.Moments.{tick_of}
 use Rattle.job_meaning.specs.declared.clock.Clock.{Clock}
 use Rattle.job_story.specs.Events.{Event}
+use Rattle.job_story.specs.Notes.{Notes}
 use Rattle.job_story.specs.Sentences.{kept_text}
 use Rattle.chart.specs.Columns.{Column, column_at, column_by, last_tick, gap_less}
 use Rattle.svg.specs.Content.{Content, nothing, text, element}
@@ -12,7 +13,7 @@ use Rattle.svg.specs.declared.layout.TheConstants.{LEFT, TOP, ROW, LETTER, PLACE
 
 -- What all parts of a drawing depend on: the length of the longest name of a row, the columns, by how much the gaps between them are
 -- smaller than with ample room, the clock of the story's moments, the moments from which scopes and nurseries are cancelled and events
--- of the job set, and the events of the story in order.
+-- of the job set, the events of the story in order, and what they say of one another.
 pub record Sheet : Type 0 where
   pub names : ℕ
   pub columns : List Column
@@ -20,6 +21,7 @@ pub record Sheet : Type 0 where
   pub clock : Clock
   pub table : Table
   pub events : List Event
+  pub notes : Notes
 
 -- the room from a column to the next, in characters, where gaps are so much smaller, and 1 for the last; it is never so small that the
 -- numbers above the two columns overlap
@@ -82,4 +84,4 @@ middle_of i = y_of i + 12
 
 -- what the story says of these events, as a title
 abbrev pub events_title : Sheet → List Event → Content
-events_title sheet es = element tags.Title [] (text (kept_text sheet.clock sheet.table sheet.events es) nothing) nothing
+events_title sheet es = element tags.Title [] (text (kept_text sheet.clock sheet.table sheet.notes sheet.events es) nothing) nothing

@@ -8,7 +8,7 @@ ghost use Rattle.job_story.specs.Sentences.{kept_text};
 ghost use Rattle.block_exits.specs.Held.{kind_of};
 ghost use Rattle.job_story.specs.Held.{unboxed_exc};
 ghost use Rattle.story_index.specs.Seen.{event_in};
-ghost use Rattle.story_text.specs.Known.{clock_in, events_in, cancelled_from_in};
+ghost use Rattle.story_text.specs.Known.{clock_in, events_in, cancelled_from_in, notes_held};
 ghost use Rattle.chart.specs.HeldBars.{bar_of, event_seen};
 ghost use Rattle.svg.specs.Content.{content_text};
 ghost use Rattle.svg.specs.Rows.{exc_word, end_word, class_by, class_of, size_of, titled_events, more_titled, bar_title};
@@ -132,7 +132,7 @@ fn title_text(
     events: &[&Event],
 ) -> Result<Vec<u8>, AllocError>
     ensures { IfOk result (λ title. title.items
-        ≡ kept_text (clock_in sheet.now.known.now) (cancelled_from_in sheet.now.known.now) (events_in sheet.now.known.now)
+        ≡ kept_text (clock_in sheet.now.known.now) (cancelled_from_in sheet.now.known.now) (notes_held sheet.now.known.now) (events_in sheet.now.known.now)
         (take MAX_TITLED (map event_in events.now)) ++ more_titled (length (map event_in events.now))) }
 {
     let mut title = kept_text(alloc, first_of(events), sheet.known)?;

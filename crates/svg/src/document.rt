@@ -35,6 +35,7 @@ use job_story::{CancelledFrom, Event};
 use std::alloc::{AllocError, Global};
 use story_index::Causes;
 use story_text::Known;
+use story_waits::QueueNotes;
 
 /// The story that a chart shows, and the width of the chart.
 #[derive(Clone, Copy)]
@@ -76,7 +77,8 @@ pub fn chart_svg<'e>(
     let ticks = all_ticks(alloc, clock, picture.walked, until)?;
     let columns = columns_of(alloc, ticks.as_slice())?;
     let less = less_to_fit(alloc, picture.width, columns.as_slice(), bars)?;
-    let known = Known::new(clock, sorted, picture.cancelled_from, causes);
+    let notes = QueueNotes::of(alloc, picture.walked)?;
+    let known = Known::new(clock, sorted, picture.cancelled_from, causes, &notes);
     let sheet = Sheet {
         names: longest_name(alloc, bars)?,
         columns: columns.as_slice(),
