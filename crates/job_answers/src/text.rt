@@ -48,14 +48,7 @@ fn task_text<'e>(
     let tasks = known.concerned_tasks(alloc, task)?;
     let sorted = of_tasks(alloc, known.events(), &tasks)?;
     let walked = of_tasks(alloc, walked, &tasks)?;
-    let text = text_until(
-        alloc,
-        sorted.as_slice(),
-        walked.as_slice(),
-        known,
-        notes,
-        until,
-    )?;
+    let text = text_until(alloc, sorted.as_slice(), walked.as_slice(), known, until)?;
     Ok(text)
 }
 
