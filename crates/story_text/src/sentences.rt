@@ -12,8 +12,8 @@ ghost use Rattle.story_index.specs.Found.{entering_in_code, cause_in_code};
 ghost use Rattle.story_text.specs.Known.{clock_in, events_in, cancelled_from_in};
 
 use crate::asks::{
-    push_asked, push_asking, push_closed, push_closes, push_deadlocks, push_enters_object, push_gets,
-    push_token_back,
+    push_asked, push_asking, push_closed, push_closes, push_deadlocks, push_enters_object,
+    push_gets, push_token_back,
 };
 use crate::known::Known;
 use crate::ticks::next_from;
@@ -115,7 +115,11 @@ fn push_verb(out: &mut Vec<u8>, verb: &[u8], name: Name) -> Result<(), AllocErro
 }
 
 // Appends some words, and a label after them.
-pub(crate) fn push_labelled(out: &mut Vec<u8>, words: &[u8], label: &Label) -> Result<(), AllocError>
+pub(crate) fn push_labelled(
+    out: &mut Vec<u8>,
+    words: &[u8],
+    label: &Label,
+) -> Result<(), AllocError>
     ensures { OnOk result (out.new.items ≡ out.old.items ++ (words.now ++ label_text label.now)) }
 {
     out.extend_from_slice(words)?;
