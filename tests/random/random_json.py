@@ -16,7 +16,7 @@ import sys
 import tempfile
 from concurrent.futures import ThreadPoolExecutor
 
-from jobs import job_of_any_format
+from jobs import job_of_any_format, random_job
 
 INPUT = b'error\nok\n\x00"\\ er\nlong line here\n'
 LIMIT = "60"
@@ -34,6 +34,14 @@ WORDS = {
     "sets": "sets event",
     "waits_for_event": "waits for event",
     "goes_on": "goes on: event",
+    "enters_limiter": "enters limiter",
+    "enters_channel": "enters channel",
+    "queues": "waits",
+    "is_granted": ("gets a token of", "sends to", "receives from"),
+    "finds_closed": "finds",
+    "deadlocks": "has waited",
+    "gives_token_back": "gives its token of",
+    "closes": "closes",
     "handles": "handles",
     "cleanup": "runs cleanup",
     "replaces": "replaces",
@@ -61,8 +69,9 @@ def entry_text(entry):
     if "line" in entry:
         line = entry["line"]
         return f"  line {line['at']}+{line['length']} {line['text']}"
-    if "wait" in entry:
-        return f"  wait {entry['wait']} {entry['tick']}"
+    for word in ("wait", "acquire", "send", "receive"):
+        if word in entry:
+            return f"  {word} {entry[word]} {entry['tick']}"
     kind = "scope" if "scope" in entry else "nursery"
     return f"  {kind} {entry[kind]} {entry['exit']} {'caught' if entry['caught'] else 'passed'}"
 
@@ -89,7 +98,7 @@ def story_of(text):
             tick = int(line[5:])
         elif line.startswith("limit "):
             limit = int(line[6:])
-        else:
+        elif not line.startswith("deadlock: "):
             task, sentence = re.fullmatch(r"  (\S+) +(.*)", line).groups()
             (events if limit is None else running).append((tick, task, sentence))
     return events, limit, [task for _, task, _ in running]
@@ -109,16 +118,21 @@ def compare_story(document, text):
     for event, (tick, task, sentence) in zip(document["events"], events):
         if (event["tick"], event["task"]) != (tick, task) or not sentence.startswith(WORDS[event["event"]]):
             raise Wrong(f"{event} is printed as: tick {tick}, {task} {sentence}")
-        for key in ("scope", "nursery", "name", "by", "label", "waiting_for"):
+        for key in ("scope", "nursery", "name", "by", "label", "waiting_for", "before_asking"):
             named = event.get(key)
             if named and not re.search(rf"(?<!\S){re.escape(named)}(?![\w.])", sentence) and event["event"] != "ends":
                 raise Wrong(f"{event} names {named}, and the story does not: {sentence}")
 
 
+def text_of(seed):
+    """The text of a random job, every fourth with limiters and channels."""
+    return random_job(seed, 3, True)[1] if seed % 4 == 0 else job_of_any_format(seed)[1]
+
+
 def try_job(program, folder, seed):
     path, data = os.path.join(folder, f"{seed}.job"), os.path.join(folder, "input")
     with open(path, "w") as file:
-        file.write(job_of_any_format(seed)[1])
+        file.write(text_of(seed))
     try:
         words = [path, data, "--limit", LIMIT]
         status, text = run(program, "run", *words)
