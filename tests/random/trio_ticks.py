@@ -6,7 +6,7 @@
 PROGRAM is the built executable. It wants Python 3.11 and Trio 0.22 or newer. The feeds are those of examples/ unless some are given. The program
 that `nursery trio` writes for the job of a feed is run on the feed's input under eight seeds of Trio's scheduler. Each time it has to print the task
 lines of the report, with the exceptions as such a program prints them: without labels and ticks, and sorted. If the `.races` kept beside
-the feed shows a race, one of the seeds has to. The end of a nursery is that of Trio 0.23 (trio_export.py), but for one run of each program by its own
+the feed shows a race, one of 200 seeds has to. The end of a nursery is that of Trio 0.23 (trio_export.py), but for one run of each program by its own
 command line.
 """
 
@@ -18,6 +18,9 @@ import tempfile
 
 from examples_in_trio import ROOT, has_race
 from trio_export import SEEDS, Exported, call, is_version, plain_outcome
+
+
+RACE_SEEDS = 200
 
 
 def task_lines(report):
@@ -45,7 +48,8 @@ def fault_of(program, feed):
         job, _, input_ = file.read().partition(b"%input\n")
     exported = Exported(program, job)
     wanted = "".join(task_lines(call(program, "run", job, input_)[1]))
-    found = {exported.names["run_once"](exported.root(), input_, seed, True) + "\n" for seed in range(SEEDS)}
+    seeds = range(RACE_SEEDS if has_race(feed) else SEEDS)
+    found = {exported.names["run_once"](exported.root(), input_, seed, True) + "\n" for seed in seeds}
     if wanted not in found or (len(found) > 1 and not has_race(feed)):
         return "".join(f"prints\n{told}" for told in sorted(found)) + f"instead of\n{wanted}"
     run = run_file(exported.text, input_)

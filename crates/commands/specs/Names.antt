@@ -17,13 +17,15 @@ abbrev pub first_word : List Token → Option (List ℕ)
 first_word [] = None
 first_word (t ∷ ts) = word_in t.shape
 
--- after these keywords comes the name that a job, a task, a scope, a nursery or an event is given
+-- after these keywords comes the name that a job, a task, a scope, a nursery, an event, a limiter or a channel is given
 abbrev pub given_if : Option Keyword → (after : List Token) → Option (List ℕ)
 given_if (Some keyword.Job) after = first_word after
 given_if (Some keyword.Start) after = first_word after
 given_if (Some keyword.Scope) after = first_word after
 given_if (Some keyword.Nursery) after = first_word after
 given_if (Some keyword.Event) after = first_word after
+given_if (Some keyword.Limiter) after = first_word after
+given_if (Some keyword.Channel) after = first_word after
 given_if _ after = None
 
 -- the name that comes after a token, if it is one of these keywords

@@ -8,8 +8,8 @@ use job_syntax::Keyword;
 use job_tokens::Token;
 use std::alloc::{AllocError, Global};
 
-/// Returns the names that a job text gives to its job, tasks, scopes, nurseries and events, in the order of the text. A text that
-/// is refused gives none. Returns `AllocError` if memory runs out.
+/// Returns the names that a job text gives to its job, tasks, scopes, nurseries, events, limiters and channels, in the order of the
+/// text. A text that is refused gives none. Returns `AllocError` if memory runs out.
 pub fn given_names(alloc: Global, job_text: &[u8]) -> Result<Vec<Name>, AllocError>
     ensures { IfOk result (λ names. AreGiven job_text.now names.items) }
 {
@@ -83,6 +83,8 @@ fn given_if(keyword: Option<Keyword>, after: &[Token]) -> Option<Name>
         Some(Keyword::Scope) => first_word(after),
         Some(Keyword::Nursery) => first_word(after),
         Some(Keyword::Event) => first_word(after),
+        Some(Keyword::Limiter) => first_word(after),
+        Some(Keyword::Channel) => first_word(after),
         _ => None,
     }
 }

@@ -514,22 +514,14 @@ const COUNTS: &[Row] = &[
     (b"trio-job 3\njob main { limiter sleep 0 { } }", 10, 30),
     (b"trio-job 3\njob main { limiter l 01 { } }", 5, 32),
     (b"trio-job 3\njob main { scope limiter x 0 { } }", 5, 38),
-    (
-        b"trio-job 3\njob main { scope limiter after 0 { } }",
-        0,
-        0,
-    ),
+    (b"trio-job 3\njob main { scope limiter after 0 { } }", 0, 0),
     (
         b"trio-job 3\njob main { scope limiter at 1000001 { } }",
         0,
         0,
     ),
     (b"trio-job 2\njob main { limiter l 0 { } }", 6, 22),
-    (
-        b"trio-job 2\njob main { channel q 2000000000 { } }",
-        5,
-        32,
-    ),
+    (b"trio-job 2\njob main { channel q 2000000000 { } }", 5, 32),
 ];
 
 #[test]
@@ -546,41 +538,17 @@ const STRAY: &[Row] = &[
         9,
         44,
     ),
-    (
-        b"trio-job 3\njob main { limiter l 1 { send l; } }",
-        9,
-        41,
-    ),
+    (b"trio-job 3\njob main { limiter l 1 { send l; } }", 9, 41),
     (
         b"trio-job 3\njob main { limiter l 1 { receive l { } } }",
         9,
         44,
     ),
-    (
-        b"trio-job 3\njob main { limiter l 1 { close l; } }",
-        9,
-        42,
-    ),
-    (
-        b"trio-job 3\njob main { limiter l 1 { set l; } }",
-        9,
-        40,
-    ),
-    (
-        b"trio-job 3\njob main { channel q 1 { cancel q; } }",
-        9,
-        43,
-    ),
-    (
-        b"trio-job 3\njob main { event e { receive e { } } }",
-        9,
-        40,
-    ),
-    (
-        b"trio-job 3\njob main { channel q 1 { } close q; }",
-        9,
-        44,
-    ),
+    (b"trio-job 3\njob main { limiter l 1 { close l; } }", 9, 42),
+    (b"trio-job 3\njob main { limiter l 1 { set l; } }", 9, 40),
+    (b"trio-job 3\njob main { channel q 1 { cancel q; } }", 9, 43),
+    (b"trio-job 3\njob main { event e { receive e { } } }", 9, 40),
+    (b"trio-job 3\njob main { channel q 1 { } close q; }", 9, 44),
     (
         b"trio-job 3\njob main { channel q 0 { receive q { send q; close r; } } }",
         9,

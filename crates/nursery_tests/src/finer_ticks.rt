@@ -223,7 +223,8 @@ fn a_name_that_is_spelled_as_a_keyword_is_no_step(rt: HostRuntime) -> Result<(),
         b"trio-job 3\njob wait { event set { scope hair_1 shield { sleep 1; } set set; wait set; raise hair; } }
 trio-job 3\njob wait { event set { set set; wait set; sleep 1; raise hair; } }\n",
     )?;
-    let text = b"trio-job 3\njob close { limiter acquire 1 { acquire acquire { raise close; } } }\n";
+    let text =
+        b"trio-job 3\njob close { limiter acquire 1 { acquire acquire { raise close; } } }\n";
     let moved = moved_texts(rt.alloc(), Clock::ByRounds, text)?;
     same(
         "the texts moved by a hair",

@@ -57,6 +57,7 @@ mod reports;
 mod rounds;
 #[cfg(test)]
 mod sharing_reports;
+#[cfg(test)]
 mod snapshots;
 #[cfg(test)]
 mod stories;

@@ -189,10 +189,7 @@ const LIMITERS: &[Row] = &[
         b"trio-job 3\njob m{limiter l 1{}}",
         b"17 nothing asks for a token of the limiter l: no `acquire l` is in it\n",
     ),
-    (
-        b"trio-job 3\njob m{limiter l 1{acquire l{sleep 1;}}}",
-        b"",
-    ),
+    (b"trio-job 3\njob m{limiter l 1{acquire l{sleep 1;}}}", b""),
     (
         b"trio-job 3\njob m{limiter a 1{limiter b 1{nursery n{start x{acquire a{acquire b{}}}start y{acquire b{acquire a{}}}}}}}",
         b"17 tokens of a and of a limiter in it are asked for in both orders, each while the other is held: this may deadlock\n",

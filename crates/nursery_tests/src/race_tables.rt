@@ -132,7 +132,8 @@ const OF_LOOPS: &[u8] = b"2:26  start w  copies  w.0 and w.1 meet at 1
 const CLOSES: &str = "trio-job 3
 job m{channel q 2{nursery n{start a{send q;}checkpoint;close q;}}}";
 
-const OF_CLOSES: &[u8] = b"2:45  checkpoint  later  m: raised n[ClosedResource(a)] -> done; a: raised ClosedResource(a) -> done
+const OF_CLOSES: &[u8] =
+    b"2:45  checkpoint  later  m: raised n[ClosedResource(a)] -> done; a: raised ClosedResource(a) -> done
 2:56  close q     later  m: raised n[ClosedResource(a)] -> done; a: raised ClosedResource(a) -> done
 4 hairs: 2 races
 ";
