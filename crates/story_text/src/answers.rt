@@ -83,8 +83,9 @@ impl<'k, 'e> Known<'k, 'e> {
         self.cancelled_from.of(label)
     }
 
-    // Returns what is said of other tasks in an event, or `None` if nothing is.
-    pub(crate) fn note_of(&self, event: &Event) -> Option<Note<'e>>
+    /// Returns what is said of other tasks in an event of the story: the place of its task in a queue, or by whose doing the task goes
+    /// on. Returns `None` if nothing is said.
+    pub fn note_of(&self, event: &Event) -> Option<Note<'e>>
         ensures { option_map note_in result ≡ notes_held self.now (event_of event.now) }
     {
         self.notes.note_of(event)
