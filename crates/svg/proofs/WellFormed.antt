@@ -17,7 +17,7 @@ use Rattle.svg.specs.Content.{Content, nothing, content_text, is_well_formed, Is
 use Rattle.svg.specs.declared.names.Tag.TheVariants as tags
 use Rattle.svg.specs.Sheets.{Sheet, x_of, x_by, next_place, is_linear}
 use Rattle.svg.specs.Rows.{cancelled_part, mark, marks, row, rows}
-use Rattle.svg.specs.Arrows.{Source, source_of, culprit, arrow_from, arrow_by, cancelled_at, arrow_at, event_set, beside, wait_arrow, wait_arrows, arrows}
+use Rattle.svg.specs.Arrows.{Source, source_of, culprit, arrow_from, arrow_by, cancelled_at, arrow_at, event_set, beside, set_arrow, leaves_queue, noted_source, queue_arrow, wait_arrow, wait_arrows, arrows}
 use Rattle.svg.specs.Legend.{legend}
 use Rattle.svg.specs.declared.layout.TheConstants.{ROW, MAX_ROWS}
 use Rattle.svg.specs.declared.culprits.TheConstants.{MAX_DEPTH}
@@ -111,10 +111,10 @@ arrow_at_well sheet all i (happens (leaves kind label inside caught outside)) fr
 arrow_at_well sheet all i (starts home lent) from rest = refl
 arrow_at_well sheet all i (ends home exc) from rest = refl
 
-wait_arrow_well : (sheet : Sheet) (all : List Bar) (i : ℕ) (task : Label) (m : ℕ) (event : Option Label) (rest : Content) →
-    is_well_formed (wait_arrow sheet all i task m event rest) ≡ is_well_formed rest
-wait_arrow_well sheet all i task m None rest = refl
-wait_arrow_well sheet all i task m (Some event) rest =
+set_arrow_well : (sheet : Sheet) (all : List Bar) (i : ℕ) (task : Label) (m : ℕ) (event : Option Label) (rest : Content) →
+    is_well_formed (set_arrow sheet all i task m event rest) ≡ is_well_formed rest
+set_arrow_well sheet all i task m None rest = refl
+set_arrow_well sheet all i task m (Some event) rest =
     elim (cases_Bool (is_from (sheet.table event) m)) [
       | inl now ↦
           rw now
@@ -122,11 +122,22 @@ wait_arrow_well sheet all i task m (Some event) rest =
       | inr now ↦ rw now refl
     ]
 
+queue_arrow_well : (sheet : Sheet) (all : List Bar) (i : ℕ) (e : Event) (rest : Content) →
+    is_well_formed (queue_arrow sheet all i e rest) ≡ is_well_formed rest
+queue_arrow_well sheet all i e rest =
+    elim (cases_Bool (leaves_queue e.what)) [
+      | inl leaves ↦
+          rw leaves
+          (arrow_by_well sheet all i (x_of sheet e.tick) (beside e.task (noted_source e.tick (sheet.notes e))) rest)
+      | inr stays ↦ rw stays refl
+    ]
+
 wait_arrows_well : (sheet : Sheet) (all : List Bar) (i : ℕ) (es : List Event) (rest : Content) →
     is_well_formed (wait_arrows sheet all i es rest) ≡ is_well_formed rest
 wait_arrows_well sheet all i [] rest = refl
 wait_arrows_well sheet all i (e ∷ es) rest =
-    wait_arrow_well sheet all i e.task e.tick (event_set e.what) (wait_arrows sheet all i es rest)
+    set_arrow_well sheet all i e.task e.tick (event_set e.what) (queue_arrow sheet all i e (wait_arrows sheet all i es rest))
+    ∙ queue_arrow_well sheet all i e (wait_arrows sheet all i es rest)
     ∙ wait_arrows_well sheet all i es rest
 
 arrows_well : (sheet : Sheet) (all : List Bar) (i : ℕ) (bars : List Bar) (rest : Content) →

@@ -1,15 +1,16 @@
--- Arrows from the task that cancelled something to what it cancelled, and from the task that set an event to the waits that end then,
--- and the marks of deadlines.
-use Rattle.std.specs.Prelude.{ℕ, zero, suc, ◌+◌, ◌==◌, ◌&&◌, Option, Some, None, List, [], ◌∷◌, ◌++◌, codes, decimal, nat_le, if◌then◌else◌}
+-- Arrows from the task that cancelled something to what it cancelled, and from the task that set an event, gave a token back, sent something or
+-- closed a channel to the waits that end then, and the marks of deadlines.
+use Rattle.std.specs.Prelude.{ℕ, zero, suc, ◌+◌, ◌-◌, ◌==◌, ◌&&◌, Bool, false, Option, Some, None, is_none, List, [], ◌∷◌, ◌++◌, codes, decimal, nat_le, if◌then◌else◌}
 use Rattle.exceptions.specs.Exceptions.{Label}
 use Rattle.job_meaning.specs.Log.{same_label}
 use Rattle.job_meaning.specs.Moments.{tick_of}
 use Rattle.job_meaning.specs.declared.clock.Clock.{Clock}
-use Rattle.job_story.specs.Story.{enters, is_cancelled, was_set}
+use Rattle.job_story.specs.Story.{enters, is_cancelled, was_set, gets, finds_closed}
 use Rattle.job_story.specs.Tell.{is_from}
 use Rattle.job_story.specs.Events.{What, happens, Event}
 use Rattle.job_story.specs.Limit.{is_start}
 use Rattle.job_story.specs.Causes.{Cause, by_deadline, by_task, by_set, by_failure, by_cancellation, cause_of}
+use Rattle.job_story.specs.Notes.{Note, given_back_by, sent_by, closed_by}
 use Rattle.chart.specs.Bars.{Bar}
 use Rattle.svg.specs.Content.{Content, nothing, text, element, Attribute, attribute}
 use Rattle.svg.specs.declared.names.Tag.TheVariants as tags
@@ -130,18 +131,43 @@ abbrev pub beside : Label → Option Source → Option Source
 beside task None = None
 beside task (Some source) = if same_label task source.task then None else Some source
 
--- An arrow to the wait of a task that ends in moment m, from the task that set the event, where it is set from that very moment on. A
--- task that waits for what it has set itself has no arrow.
-abbrev pub wait_arrow : Sheet → List Bar → ℕ → Label → ℕ → Option Label → Content → Content
-wait_arrow sheet all i task m None rest = rest
-wait_arrow sheet all i task m (Some event) rest =
+-- An arrow to the wait for an event of a task that ends in moment m, from the task that set the event, where it is set from that very moment
+-- on. A task that waits for what it has set itself has no arrow.
+abbrev pub set_arrow : Sheet → List Bar → ℕ → Label → ℕ → Option Label → Content → Content
+set_arrow sheet all i task m None rest = rest
+set_arrow sheet all i task m (Some event) rest =
     if is_from (sheet.table event) m
     then arrow_by sheet all i (x_of sheet m) (beside task (source_of (cause_of sheet.table sheet.events event))) rest
     else rest
 
+-- whether a task goes on that waited in the queue of a limiter or channel
+abbrev pub leaves_queue : What → Bool
+leaves_queue (happens (gets ask object at_once)) = is_none at_once
+leaves_queue (happens (finds_closed ask object at_once)) = is_none at_once
+leaves_queue _ = false
+
+-- The task that ended a wait in a queue, as the story notes it. The task that sends goes on in the same moment as the one that receives. A token
+-- is given back, and a channel is closed, in the moment before.
+abbrev pub noted_source : ℕ → Option Note → Option Source
+noted_source m (Some (given_back_by task)) = Some (record { task = task; tick = m - 1 })
+noted_source m (Some (sent_by task)) = Some (record { task = task; tick = m })
+noted_source m (Some (closed_by task)) = Some (record { task = task; tick = m - 1 })
+noted_source m _ = None
+
+-- an arrow to the wait of a task in a queue that ends with this event, from the task that ended it, unless that is the task itself
+abbrev pub queue_arrow : Sheet → List Bar → ℕ → Event → Content → Content
+queue_arrow sheet all i e rest =
+    if leaves_queue e.what
+    then arrow_by sheet all i (x_of sheet e.tick) (beside e.task (noted_source e.tick (sheet.notes e))) rest
+    else rest
+
+-- the arrow to the wait that ends with this event, if one does, and another task ended it
+abbrev pub wait_arrow : Sheet → List Bar → ℕ → Event → Content → Content
+wait_arrow sheet all i e rest = set_arrow sheet all i e.task e.tick (event_set e.what) (queue_arrow sheet all i e rest)
+
 abbrev pub wait_arrows : Sheet → List Bar → ℕ → List Event → Content → Content
 wait_arrows sheet all i [] rest = rest
-wait_arrows sheet all i (e ∷ es) rest = wait_arrow sheet all i e.task e.tick (event_set e.what) (wait_arrows sheet all i es rest)
+wait_arrows sheet all i (e ∷ es) rest = wait_arrow sheet all i e (wait_arrows sheet all i es rest)
 
 -- ---- all of them
 
