@@ -184,6 +184,49 @@ fn an_event_that_is_set_has_arrows_to_the_waits(rt: HostRuntime) -> Result<(), F
     Ok(())
 }
 
+// A task that holds the only token of a limiter until tick 3, and another one that waits for it.
+const POOL: &str =
+    "trio-job 3\njob m { limiter l 1 { nursery n { start a { acquire l { sleep 3; } } start b { acquire l { } } } } }";
+
+// An arrow from the task that gives the token back to the one that gets it.
+const POOL_ARROW: &str =
+    "<line class=\"arrow\" x1=\"158\" y1=\"104\" x2=\"158\" y2=\"128\"><title>tick 3
+  a  gives its token of l back
+  a  ends: done
+</title></line>";
+
+// A task that receives twice, and one that sends once and closes the channel.
+const QUEUE: &str =
+    "trio-job 3\njob m { channel q 0 { nursery n { start r { receive q { } try { receive q { } } except EndOfChannel { } } start s { sleep 3; send q; sleep 1; close q; } } } }";
+
+// Arrows from the task that sends, and closes the channel, to the one that receives.
+const QUEUE_ARROWS: &str =
+    "<line class=\"arrow\" x1=\"158\" y1=\"128\" x2=\"158\" y2=\"104\"><title>tick 3
+  s  sends to q
+  s  sleeps until 4
+</title></line><line class=\"arrow\" x1=\"186\" y1=\"128\" x2=\"186\" y2=\"104\"><title>tick 4
+  s  closes q
+  s  ends: done
+</title></line>";
+
+#[test]
+fn waits_in_queues_have_arrows_from_who_ended_them(rt: HostRuntime) -> Result<(), Fail> {
+    let form = ChartForm::Svg { width: 80 };
+    let (_, pool) = chart_of(&rt, POOL.as_bytes(), form, 1, &mut Forward)?;
+    assert!(rt;
+        str::from_utf8(pool.taken())
+            .unwrap_or("?")
+            .contains(POOL_ARROW)
+    );
+    let (_, queue) = chart_of(&rt, QUEUE.as_bytes(), form, 1, &mut Forward)?;
+    assert!(rt;
+        str::from_utf8(queue.taken())
+            .unwrap_or("?")
+            .contains(QUEUE_ARROWS)
+    );
+    Ok(())
+}
+
 // The first ten bytes of the chart.
 const FRONT: &[u8] = b"          ";
 

@@ -91,6 +91,99 @@ limit 100
   m  sleeping until 101 since 0
 ";
 
+// Three clients of a limiter with one token.
+const POOL: &str =
+    "trio-job 3\njob m { limiter l 1 { nursery n { start a { acquire l { sleep 3; } } start b { acquire l { } } start c { acquire l { } } } } }";
+
+const POOLED: &[u8] = b"tick 0
+  m  starts
+  m  enters limiter l (1 token)
+  m  enters nursery n
+  m  waits for nursery n
+  a  starts in nursery n
+  b  starts in nursery n
+  b  waits for a token of l (1 of 1 in use, first in the queue)
+  c  starts in nursery n
+  c  waits for a token of l (1 of 1 in use, second in the queue)
+  a  gets a token of l at once
+  a  sleeps until 3
+tick 3
+  a  gives its token of l back
+  a  ends: done
+  b  gets a token of l (given back by a)
+  b  gives its token of l back
+  b  ends: done
+  c  gets a token of l (given back by b)
+  c  gives its token of l back
+  c  ends: done
+  m  leaves nursery n: completed
+  m  ends: done
+";
+
+const OF_B: &[u8] = b"tick 0
+  b  starts in nursery n
+  b  waits for a token of l (1 of 1 in use, first in the queue)
+tick 3
+  b  gets a token of l (given back by a)
+  b  gives its token of l back
+  b  ends: done
+";
+
+// A task that receives twice, and one that sends once and closes the channel.
+const QUEUE: &str =
+    "trio-job 3\njob m { channel q 0 { nursery n { start r { receive q { } try { receive q { } } except EndOfChannel { } } start s { sleep 3; send q; sleep 1; close q; } } } }";
+
+const QUEUED: &[u8] = b"tick 0
+  m  starts
+  m  enters channel q (0 places)
+  m  enters nursery n
+  m  waits for nursery n
+  r  starts in nursery n
+  r  waits to receive from q (empty)
+  s  starts in nursery n
+  s  sleeps until 3
+tick 3
+  r  receives from q (sent by s)
+  r  waits to receive from q (empty)
+  s  sends to q
+  s  sleeps until 4
+tick 4
+  s  closes q
+  s  ends: done
+  r  finds q closed and empty (closed by s)
+  r  handles EndOfChannel(r@4)
+  r  ends: done
+  m  leaves nursery n: completed
+  m  ends: done
+";
+
+// Two tasks that ask for the tokens of two limiters in two orders.
+const STUCK: &str =
+    "trio-job 3\njob m { limiter a 1 { limiter b 1 { nursery n { start l { acquire a { sleep 1; acquire b { } } } start r { acquire b { sleep 2; acquire a { } } } } } } }";
+
+const DEADLOCKED: &[u8] = b"tick 0
+  m  starts
+  m  enters limiter a (1 token)
+  m  enters limiter b (1 token)
+  m  enters nursery n
+  m  waits for nursery n
+  l  starts in nursery n
+  r  starts in nursery n
+  l  gets a token of a at once
+  l  sleeps until 1
+  r  gets a token of b at once
+  r  sleeps until 2
+tick 1
+  l  waits for a token of b (1 of 1 in use, first in the queue)
+tick 2
+  r  waits for a token of a (1 of 1 in use, first in the queue)
+limit 100
+  m  waiting for nursery n since 0
+  l  waiting for a token of b since 1
+  r  waiting for a token of a since 2
+deadlock: l holds a and waits for b; r holds b and waits for a
+";
+
 // A job text, the task that is requested, the status, and the story.
 const STORIES: &[(&str, Option<&[u8]>, u8, &[u8])] = &[
     (
@@ -109,6 +202,10 @@ const STORIES: &[(&str, Option<&[u8]>, u8, &[u8])] = &[
         b"refused J9 NotEnclosing at 26\n",
     ),
     ("trio-job 1\njob m { sleep 101; }", None, 3, LATE),
+    (POOL, None, 0, POOLED),
+    (POOL, Some(b"b"), 0, OF_B),
+    (QUEUE, None, 0, QUEUED),
+    (STUCK, None, 3, DEADLOCKED),
 ];
 
 // Checks the status and the story of a row, by some workers in one order of picks.

@@ -44,7 +44,7 @@ abbrev pub marks_legend : ℕ → Content → Content
 marks_legend y rest =
     dot_sample LEFT y (codes "raises")
     (mark_sample (LEFT + SAMPLE) y (codes "#deadline") (codes "own deadline")
-    (arrow_sample (LEFT + SAMPLE * 2) y (codes "cancels, or sets") rest))
+    (arrow_sample (LEFT + SAMPLE * 2) y (codes "cancels, or wakes") rest))
 
 -- the legend, whose first row begins at a y coordinate
 abbrev pub legend : ℕ → Content → Content

@@ -45,7 +45,7 @@ fn push_marks(out: &mut Vec<u8>, y: u64) -> Result<(), AllocError>
 {
     push_dot_sample(out, LEFT, y, b"raises")?;
     push_mark_sample(out, LEFT + SAMPLE, y, b"#deadline", b"own deadline")?;
-    push_arrow_sample(out, LEFT + SAMPLE * 2, y, b"cancels, or sets")
+    push_arrow_sample(out, LEFT + SAMPLE * 2, y, b"cancels, or wakes")
 }
 
 // Appends a bar of a class, and what it means.

@@ -7,7 +7,7 @@
 //! text is character data: nothing in it is read as markup.
 //!
 //! A chart as an SVG document: when each task ran, which task cancelled which scope or nursery, which task ended the wait of
-//! another by setting an event, and which exceptions were raised.
+//! another, and which exceptions were raised.
 //!
 //! The layer promises that `chart_svg` returns the document of `specs/Drawing.antt`, and that this is well formed for every
 //! story. It has a column for each tick at which something happens, a row for each bar, whose title is what the story says of
