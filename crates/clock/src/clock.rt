@@ -20,6 +20,8 @@ pub enum Jump {
 pub struct MockClock {
     tick: u64,
     limit: u64,
+    // How many ticks before it is due a timer is due soon.
+    near: u64,
     timers: Timers,
 }
 
@@ -41,7 +43,10 @@ impl MockClock {
     ghost use Rattle.clock.specs.Answers.{Jumps};
 
     /// Creates a clock at tick 0 that jumps to no tick later than `limit`. No task has a timer. Does not allocate.
-    pub fn new(alloc: Global, limit: u64) -> MockClock
+    ///
+    /// A timer that is due at most `near` ticks after it is set takes constant time if all such timers are due at the same tick,
+    /// and otherwise time logarithmic in the number of timers. Nothing else depends on `near`.
+    pub fn new(alloc: Global, limit: u64, near: u64) -> MockClock
         ensures now { now_of result ≡ 0 }
         ensures limit { limit_of result ≡ limit }
         ensures timers { (task : ℕ) → due_of result task ≡ None }
@@ -49,6 +54,7 @@ impl MockClock {
         MockClock {
             tick: 0,
             limit,
+            near,
             timers: Timers::new(alloc),
         }
     }
@@ -71,7 +77,8 @@ impl MockClock {
         ensures time { OnOk result (SameTime self.old self.new) }
         ensures err { OnErr result (IsUnchanged self.old self.new) }
     {
-        self.timers.add(task.key(), due, self.tick + 1)?;
+        let soon_by = self.tick.saturating_add(self.near);
+        self.timers.add(task.key(), due, soon_by)?;
         Ok(())
     }
 

@@ -7,8 +7,8 @@ use std::alloc::{AllocError, Global};
 use std::collections::BTreeSet;
 use std::marker::Model;
 
-// The timers of a clock: at most one tick for each key. Those that are due at the clock's next tick when they are set are in
-// a list of their own, which is sorted only when the first of them is taken.
+// The timers of a clock: at most one tick for each key. Those that are due at one tick soon after they are set are in a list of
+// their own, which is sorted only when the first of them is taken.
 #[derive(Drop)]
 pub(crate) struct Timers {
     // The tick of each key, at the key's index. A key past the end has no tick.
@@ -49,15 +49,15 @@ impl Timers {
         }
     }
 
-    // Sets the tick of a key. `next_tick` is the next tick of the clock. The caller must ensure that the key has no tick yet.
-    // Returns `AllocError` if memory runs out; every key then keeps its tick.
-    pub(crate) fn add(&mut self, key: usize, tick: u64, next_tick: u64) -> Result<(), AllocError>
+    // Sets the tick of a key. A tick by `soon_by` is soon. The caller must ensure that the key has no tick yet. Returns
+    // `AllocError` if memory runs out; every key then keeps its tick.
+    pub(crate) fn add(&mut self, key: usize, tick: u64, soon_by: u64) -> Result<(), AllocError>
         requires { tick_in self.old key ≡ None }
         ensures ok { OnOk result (Puts self.old self.new key (Some tick)) }
         ensures err { OnErr result (IsSame self.old self.new) }
     {
         grow_to(&mut self.ticks, key)?;
-        if is_soon(&self.soon, self.soon_tick, tick, next_tick) {
+        if is_soon(&self.soon, self.soon_tick, tick, soon_by) {
             self.soon.push(key)?;
             self.soon_tick = tick;
             self.ticks[key] = Some(tick);
@@ -105,13 +105,12 @@ impl Timers {
     }
 }
 
-// Whether a timer for this tick joins those in `soon`: it has their tick, or there is none of them and it is due at the next tick
-// of the clock.
-fn is_soon(soon: &KeyList, soon_tick: u64, tick: u64, next_tick: u64) -> bool
+// Whether a timer for this tick joins those in `soon`: it has their tick, or there is none of them and it is due soon.
+fn is_soon(soon: &KeyList, soon_tick: u64, tick: u64, soon_by: u64) -> bool
     ensures { MatchBool result ((soon.now ≡ []) ⊎ (tick ≡ soon_tick)) ((soon.now ≡ []) ⊎ (tick ≢ soon_tick)) }
 {
     if soon.is_empty() {
-        return tick == next_tick;
+        return tick <= soon_by;
     }
     tick == soon_tick
 }

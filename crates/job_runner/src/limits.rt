@@ -1,4 +1,5 @@
 ghost use Rattle.std.specs.Prelude.{◌≡◌, ◌≤◌};
+ghost use Rattle.job_meaning.specs.Clocks.{start_of};
 ghost use Rattle.job_runner.specs.Limits.{last_tick, last_of};
 
 use job_meaning::{Clock, FAR, LAST_TICK, ROUNDS_IN_A_TICK};
@@ -16,6 +17,16 @@ pub(crate) fn last_tick(clock: Clock) -> u64
     match clock {
         Clock::ByTicks => LAST_TICK,
         Clock::ByRounds => FAR,
+    }
+}
+
+// The number of moments of a tick, which is the moment at which tick 1 starts.
+pub(crate) fn moments_in_a_tick(clock: Clock) -> u64
+    ensures { result ≡ start_of clock 1 }
+{
+    match clock {
+        Clock::ByTicks => 1,
+        Clock::ByRounds => ROUNDS_IN_A_TICK,
     }
 }
 

@@ -15,7 +15,7 @@ ghost use Rattle.job_runner.specs.Steps.{SeesOnly, TakesStarted, IsReadied, IsSt
 ghost use Rattle.job_runner.specs.Turns.{GoesOn, TakesTurn, Commits};
 
 use crate::finished::Run;
-use crate::limits::last_of;
+use crate::limits::{last_of, moments_in_a_tick};
 use crate::objects_by_label::ObjectTable;
 use crate::serving::RoundAct;
 use cancel_scopes::stacks_are_chains;
@@ -99,7 +99,7 @@ impl<'a> Runner<'a> {
             input,
             limit,
             world: World::new(alloc, clock),
-            clock: MockClock::new(alloc, last_of(clock, limit)),
+            clock: MockClock::new(alloc, last_of(clock, limit), moments_in_a_tick(clock)),
             task_table,
             sleepers: Sleepers::new(alloc),
             waiters: EventWaiters::new(alloc),

@@ -58,7 +58,7 @@ fn take(clock: &mut MockClock, task: TaskId) -> Result<(), Fail>
 fn three_timers(alloc: Global) -> Result<MockClock, Fail>
     ensures third { IfOk result (λ clock. due_of clock 3 ≡ Some 9) }
 {
-    let mut clock = MockClock::new(alloc, 100);
+    let mut clock = MockClock::new(alloc, 100, 1);
     sleep_again(&mut clock, TaskId::of(1), 5)?;
     sleep_again(&mut clock, TaskId::of(2), 5)?;
     sleep_again(&mut clock, TaskId::of(3), 9)?;
