@@ -126,10 +126,10 @@ queue_arrow_well : (sheet : Sheet) (all : List Bar) (i : ℕ) (e : Event) (rest 
     is_well_formed (queue_arrow sheet all i e rest) ≡ is_well_formed rest
 queue_arrow_well sheet all i e rest =
     elim (cases_Bool (leaves_queue e.what)) [
-      | inl leaves ↦
-          rw leaves
+      | inl gone ↦
+          rw gone
           (arrow_by_well sheet all i (x_of sheet e.tick) (beside e.task (noted_source e.tick (sheet.notes e))) rest)
-      | inr stays ↦ rw stays refl
+      | inr here ↦ rw here refl
     ]
 
 wait_arrows_well : (sheet : Sheet) (all : List Bar) (i : ℕ) (es : List Event) (rest : Content) →
