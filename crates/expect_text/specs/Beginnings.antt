@@ -35,9 +35,9 @@ any_after beginnings (Some pattern) = any_begins beginnings pattern
 
 -- ---- the lines of a report and of a story
 
--- lines that begin with no name of the job: a line that a task borrowed, a tick, the limit, a refusal
+-- lines that begin with no name of the job: a line that a task borrowed, a tick, the limit, a refusal, a deadlock
 abbrev pub plain_words : List (List ℕ)
-plain_words = codes "line " ∷ codes "tick " ∷ codes "limit " ∷ codes "refused " ∷ []
+plain_words = codes "line " ∷ codes "tick " ∷ codes "limit " ∷ codes "refused " ∷ codes "deadlock: " ∷ []
 
 -- the other lines of a report, in which a name of the job comes next
 abbrev pub record_words : List (List ℕ)

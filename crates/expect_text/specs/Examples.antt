@@ -153,6 +153,12 @@ a_comma_too_many = refl
 another_word : line_meaning names (codes "race: none") ≡ faulty unknown_word
 another_word = refl
 
+a_deadlock : line_meaning names (codes "deadlock: worker holds a *") ≡ expects (present (codes "deadlock: worker holds a *"))
+a_deadlock = refl
+
+no_deadlock : line_meaning names (codes "! deadlock: *") ≡ expects (absent (codes "deadlock: *"))
+no_deadlock = refl
+
 a_negated_demand : line_meaning names (codes "! races: none") ≡ faulty negated_demand
 a_negated_demand = refl
 

@@ -1,5 +1,5 @@
 -- The meaning of a line of a `.expect` file.
-use Rattle.std.specs.Prelude.{ℕ, ◌==◌, Bool, true, false, ◌&&◌, ◌||◌, nat_le, if◌then◌else◌, Option, Some, None, List, [], ◌∷◌, length, take, drop, codes}
+use Rattle.std.specs.Prelude.{ℕ, ◌==◌, Bool, true, false, ◌&&◌, ◌||◌, nat_le, if◌then◌else◌, Option, Some, None, is_none, List, [], ◌∷◌, length, take, drop, codes}
 use Rattle.std.specs.List.{list_all}
 use Rattle.std.specs.Str.{bytes_eq}
 use Rattle.expect_text.specs.Beginnings.{can_match}
@@ -14,8 +14,8 @@ pub data Expected : Type 0 where
   no_races : Expected
   no_faults : (kinds : Deny) → Expected
 
--- What is wrong with a line: it begins with a word and a colon, and the word is neither `races` nor `faults`; it begins with one of
--- these and does not continue as such a line does; it is such a line after `! `; or it is a pattern that can match no line.
+-- What is wrong with a line: it begins with a word and a colon, and the word is neither `races` nor `faults` nor `deadlock`; it begins with one
+-- of the first two and does not continue as such a line does; it is such a line after `! `; or it is a pattern that can match no line.
 pub data Wrong : Type 0 where
   unknown_word : Wrong
   wrong_demand : Wrong
@@ -62,10 +62,14 @@ abbrev pub has_colon : List ℕ → Bool
 has_colon [] = false
 has_colon (b ∷ bs) = b == 58 || (is_letter b && has_colon bs)
 
--- whether a text begins with a word of letters and a colon directly after it, as no line of a report or a story does
+-- whether a text begins with a word of letters and a colon directly after it
+abbrev pub begins_with_word : List ℕ → Bool
+begins_with_word [] = false
+begins_with_word (b ∷ bs) = is_letter b && has_colon bs
+
+-- the same, but for the line of a story about a deadlock, the only one that begins so
 abbrev pub is_demand : List ℕ → Bool
-is_demand [] = false
-is_demand (b ∷ bs) = is_letter b && has_colon bs
+is_demand text = is_none (rest_after (codes "deadlock:") text) && begins_with_word text
 
 -- the kinds with the one added that a text names
 abbrev pub with_kind : Deny → (text : List ℕ) → Option Deny

@@ -7,8 +7,9 @@ use crate::squeezing::squeezed_text;
 use job_tree::Name;
 use std::alloc::{AllocError, Global};
 
-// How the lines begin in which no name of the job comes next: a line that a task borrowed, a tick, the limit, a refusal.
-const PLAIN_WORDS: &[&'static [u8]] = &[b"line ", b"tick ", b"limit ", b"refused "];
+// How the lines begin in which no name of the job comes next: a line that a task borrowed, a tick, the limit, a refusal, a
+// deadlock.
+const PLAIN_WORDS: &[&'static [u8]] = &[b"line ", b"tick ", b"limit ", b"refused ", b"deadlock: "];
 
 // How the other lines of a report begin, in which a name of the job comes next.
 const RECORD_WORDS: &[&'static [u8]] = &[

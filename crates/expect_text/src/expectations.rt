@@ -1,6 +1,6 @@
 ghost use Rattle.std.specs.Prelude.{◌≡◌, IfOk, Some};
 ghost use Rattle.std.specs.Option.{option_map};
-ghost use Rattle.expect_text.specs.Expectations.{demand_line, faults_line, from_word, has_colon, is_comment, is_demand, is_letter, is_without_demands, no_kind, races_line, line_meaning, pattern_line, unwanted_line, wanted_line, with_kind, with_kinds};
+ghost use Rattle.expect_text.specs.Expectations.{demand_line, faults_line, from_word, has_colon, is_comment, begins_with_word, is_demand, is_letter, is_without_demands, no_kind, races_line, line_meaning, pattern_line, unwanted_line, wanted_line, with_kind, with_kinds};
 ghost use Rattle.expect_text.specs.Lines.{parts_of};
 ghost use Rattle.expect_text.specs.Views.{said_of};
 
@@ -38,7 +38,7 @@ pub enum ExpectLine<'a> {
 /// What is wrong with a line of a `.expect` file.
 #[derive(Clone, Copy, Debug, PartialEq, Eq)]
 pub enum LineFault {
-    /// It begins with a word of letters and a colon, and the word is neither `races` nor `faults`.
+    /// It begins with a word of letters and a colon, and the word is neither `races` nor `faults` nor `deadlock`.
     UnknownWord,
     /// It begins with `races:` or `faults:` and does not continue as such a line does.
     WrongDemand,
@@ -54,12 +54,12 @@ pub enum LineFault {
 ///
 /// A blank line means nothing, and so does one that begins with `#`. A line that begins with `races:` continues with `none`. A
 /// line that begins with `faults:` continues with one or more of `no stuck`, `no cut` and `no lost`, separated by commas; blanks
-/// around these do not count. A line that begins with another word of letters and a colon is wrong: no line of a report or a
-/// story begins so. After `! ` comes a pattern that no line may match. Any other line as a whole is a pattern that some line must
-/// match.
+/// around these do not count. A line that begins with another word of letters and a colon is wrong, unless the word is
+/// `deadlock`: no other line of a report or a story begins so. After `! ` comes a pattern that no line may match. Any other line
+/// as a whole is a pattern that some line must match.
 ///
 /// A pattern is wrong if its beginning, up to its first `*`, can begin no line of a report or a story of the job: such a line
-/// begins with `line`, `tick`, `limit` or `refused`; with `job`, `task`, `scope`, `nursery`, `wait`, `acquire`, `send` or
+/// begins with `line`, `tick`, `limit`, `refused` or `deadlock:`; with `job`, `task`, `scope`, `nursery`, `wait`, `acquire`, `send` or
 /// `receive` and a name of the job; or with the name of a task and what happens to it. Returns `AllocError` if memory runs out.
 pub fn read_expectation<'a>(
     alloc: Global,
@@ -176,9 +176,16 @@ fn unwanted_line<'a>(
     Ok(ExpectLine::Expects(Expectation::Absent(pattern)))
 }
 
-// Returns whether a text begins with a word of letters and a colon directly after it.
+// Returns whether a text begins as a demand does, and as no line of a report or a story.
 fn is_demand(text: &[u8]) -> bool
     ensures { result ≡ is_demand text.now }
+{
+    rest_after(b"deadlock:", text).is_none() && begins_with_word(text)
+}
+
+// Returns whether a text begins with a word of letters and a colon directly after it.
+fn begins_with_word(text: &[u8]) -> bool
+    ensures { result ≡ begins_with_word text.now }
 {
     match text.split_first() {
         Some((first, rest)) => is_letter(*first) && has_colon(rest),
