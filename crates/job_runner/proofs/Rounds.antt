@@ -67,6 +67,24 @@ runs_on job input limit old new h same u =
       limit_is = same.limit ∙ h.limit_is;
     }
 
+-- what an opened run is
+pub runs_opened : (job : Tree) (input : List ℕ) (limit : ℕ) (r : Runner) → IsUnderway r → r.job.now ≡ job → r.input.now ≡ input → r.limit ≡ limit →
+    RunsFor job input limit r
+runs_opened job input limit r u j i l = record { underway = u; job_is = j; input_is = i; limit_is = l }
+
+-- the same of a run that is still that of another one's job
+pub runs_from : (old r : Runner) → IsUnderway r → IsSameJob old r → RunsFor old.job.now old.input.now old.limit r
+runs_from old r u same =
+    record {
+      underway = u;
+      job_is = ap (λ (b : _). b.now) same.job;
+      input_is = ap (λ (b : _). b.now) same.input;
+      limit_is = same.limit;
+    }
+
+pub same_then : (a b c : Runner) → IsSameJob a b → IsSameJob b c → IsSameJob a c
+same_then a b c h i = record { job = i.job ∙ h.job; input = i.input ∙ h.input; limit = i.limit ∙ h.limit }
+
 -- what is said of the runner's job, input and limit is said of these
 pub said_for : (job : Tree) (input : List ℕ) (limit : ℕ) (r : Runner) → RunsFor job input limit r → (P : Tree → List ℕ → ℕ → Type 0) →
     P r.job.now r.input.now r.limit → P job input limit

@@ -32,19 +32,33 @@ impl<'a> Runner<'a> {
         ensures late { IfErr result (IsLate self.entry.job.now self.entry.input.now self.entry.limit) }
     {
         let mut runner = self;
-        let next = runner.next_round();
-        match runner.clock.jump(next) {
-            Jump::Limit => Err(RunFault::Limit {
-                limit: runner.limit,
-            }),
+        runner.jump_clock()?;
+        Ok(runner)
+    }
+
+    // Lets the clock jump, as `jump` does. After an error the run can only be dropped.
+    pub(crate) fn jump_clock(&mut self) -> Result<(), RunFault>
+        requires underway { IsUnderway self.old }
+        requires blocked { phase_of self.old ≡ Blocked }
+        ensures underway { OnOk result (IsUnderway self.new) }
+        ensures ready { OnOk result (phase_of self.new ≡ Ready) }
+        ensures same { OnOk result (IsSameJob self.old self.new) }
+        ensures turns { OnOk result (self.new.turns ≡ self.old.turns) }
+        ensures moment { OnOk result (IsNextMoment self.old self.new.world.tick) }
+        ensures limit { IfErr result (PassesLimit self.old) }
+        ensures late { IfErr result (IsLate self.old.job.now self.old.input.now self.old.limit) }
+    {
+        let next = self.next_round();
+        match self.clock.jump(next) {
+            Jump::Limit => Err(RunFault::Limit { limit: self.limit }),
             Jump::To(moment) => {
-                runner.world.set_now(moment);
-                runner.through = moment;
-                runner.wake_later();
-                runner.wake_seen()?;
-                runner.wake_due()?;
-                runner.batch.turn_over();
-                Ok(runner)
+                self.world.set_now(moment);
+                self.through = moment;
+                self.wake_later();
+                self.wake_seen()?;
+                self.wake_due()?;
+                self.batch.turn_over();
+                Ok(())
             }
         }
     }

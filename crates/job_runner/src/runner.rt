@@ -156,18 +156,35 @@ impl<'a> Runner<'a> {
         ensures commits { IfOk result (λ r. Commits P.picks self.entry r answers.entry.items picker.old picker.new) }
     {
         let mut runner = self;
-        runner.batch.place(answers);
-        'turns: while let Some(turn) = runner.batch.next(picker) {
-            let (id, wake) = turn;
-            runner.take_turn(id, wake)?;
-        }
-        runner.see_changed()?;
-        runner.batch.turn_over();
-        if !runner.has_to_serve() {
-            return Ok(runner);
-        }
-        runner.serve_round()?;
+        runner.commit_batch(answers, picker)?;
         Ok(runner)
+    }
+
+    // Executes one turn of each ready task, as `commit` does. After an error the run can only be dropped.
+    pub(crate) fn commit_batch<P: Pick>(
+        &mut self,
+        answers: Vec<Answer<'a>>,
+        picker: &mut P,
+    ) -> Result<(), AllocError>
+        requires underway { IsUnderway self.old }
+        requires answers { AreAnswers (requests_of self.old.batch.current) answers.items }
+        ensures underway { OnOk result (IsUnderway self.new) }
+        ensures same { OnOk result (IsSameJob self.old self.new) }
+        ensures turns { OnOk result (self.new.turns ≡ self.old.turns + length self.old.batch.current) }
+        ensures commits { OnOk result (Commits P.picks self.old self.new answers.entry.items picker.old picker.new) }
+    {
+        self.batch.place(answers);
+        'turns: while let Some(turn) = self.batch.next(picker) {
+            let (id, wake) = turn;
+            self.take_turn(id, wake)?;
+        }
+        self.see_changed()?;
+        self.batch.turn_over();
+        if !self.has_to_serve() {
+            return Ok(());
+        }
+        self.serve_round()?;
+        Ok(())
     }
 
     // Whether no task is ready in this moment any more, and what was done in it to limiters and channels is not served yet.

@@ -1,4 +1,4 @@
-ghost use Rattle.std.specs.Prelude.{◌≡◌, ◌+◌, ◌*◌, ◌<◌, ◌≤◌, IfOk, IfErr, length};
+ghost use Rattle.std.specs.Prelude.{◌≡◌, ◌+◌, ◌*◌, ◌<◌, ◌≤◌, IfOk, IfErr, OnOk, length};
 ghost use Rattle.job_meaning.specs.declared.limits.TheConstants.{MAX_INPUT};
 ghost use Rattle.job_meaning.specs.Clocks.{clock_of};
 ghost use Rattle.job_meaning.specs.GrantTable.{AreGrantsOf};
@@ -6,7 +6,7 @@ ghost use Rattle.job_meaning.specs.Meaning.{meaning_end, meaning_cancelled_from,
 ghost use Rattle.job_meaning.specs.Shown.{meaning_rows};
 ghost use Rattle.job_tree.specs.Names.{size_of};
 ghost use Rattle.task_table.specs.Records.{AreSlices};
-ghost use Rattle.job_runner.specs.declared.runner.Phase.TheVariants.{Ready};
+ghost use Rattle.job_runner.specs.declared.runner.Phase.TheVariants.{Over, Ready};
 ghost use Rattle.job_runner.specs.Limits.{last_tick};
 ghost use Rattle.job_runner.specs.Phases.{phase_of};
 ghost use Rattle.job_runner.specs.declared.limits.TheConstants.{MAX_WORKERS};
@@ -118,14 +118,38 @@ fn run_until<'a, R: Threads + Sync, P: Pick, G: Gate + Sync>(
     ensures late { IfErr result (IsLate job.now input.now limit) }
 {
     let mut runner = Runner::open(alloc, job, input, limit)?;
+    run_phases(rt, alloc, workers, &mut runner, picker, gate)?;
+    let run = runner.finish()?;
+    Ok(run)
+}
+
+// Executes batches of turns, and jumps of the clock between them, until the root has ended. After an error the run can only be
+// dropped.
+fn run_phases<'a, R: Threads + Sync, P: Pick, G: Gate + Sync>(
+    rt: &R,
+    alloc: Global,
+    workers: usize,
+    runner: &mut Runner<'a>,
+    picker: &mut P,
+    gate: &G,
+) -> Result<(), RunFault>
+    requires some_workers { 1 ≤ workers }
+    requires few_workers { workers ≤ MAX_WORKERS }
+    requires underway { IsUnderway runner.old }
+    ensures underway { OnOk result (IsUnderway runner.new) }
+    ensures over { OnOk result (phase_of runner.new ≡ Over) }
+    ensures same { OnOk result (IsSameJob runner.old runner.new) }
+    ensures late { IfErr result (IsLate runner.old.job.now runner.old.input.now runner.old.limit) }
+{
     'phases: loop {
         match runner.phase() {
-            Phase::Ready => runner = run_batch(rt, alloc, workers, runner, picker, gate)?,
-            Phase::Blocked => runner = runner.jump()?,
-            Phase::Over => {
-                let run = runner.finish()?;
-                return Ok(run);
+            Phase::Ready => {
+                run_batch(rt, alloc, workers, runner, picker, gate)?;
             }
+            Phase::Blocked => {
+                runner.jump_clock()?;
+            }
+            Phase::Over => return Ok(()),
         }
     }
 }
@@ -150,21 +174,21 @@ fn run_batch<'a, R: Threads + Sync, P: Pick, G: Gate + Sync>(
     rt: &R,
     alloc: Global,
     workers: usize,
-    runner: Runner<'a>,
+    runner: &mut Runner<'a>,
     picker: &mut P,
     gate: &G,
-) -> Result<Runner<'a>, AllocError>
+) -> Result<(), AllocError>
     requires some_workers { 1 ≤ workers }
     requires few_workers { workers ≤ 64 }
-    requires underway { IsUnderway runner }
-    requires ready { phase_of runner ≡ Ready }
-    ensures underway { IfOk result IsUnderway }
-    ensures same { IfOk result (IsSameJob runner.entry) }
-    ensures turns { IfOk result (λ r. runner.entry.turns < r.turns) }
+    requires underway { IsUnderway runner.old }
+    requires ready { phase_of runner.old ≡ Ready }
+    ensures underway { OnOk result (IsUnderway runner.new) }
+    ensures same { OnOk result (IsSameJob runner.old runner.new) }
+    ensures turns { OnOk result (runner.old.turns < runner.new.turns) }
 {
     let requests = runner.requests()?;
     let threads = threads_for(workers, requests.as_slice());
     let answers = work(rt, alloc, threads, requests.as_slice(), gate)?;
-    let runner = runner.commit(answers, picker)?;
-    Ok(runner)
+    runner.commit_batch(answers, picker)?;
+    Ok(())
 }
