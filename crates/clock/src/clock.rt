@@ -44,8 +44,8 @@ impl MockClock {
 
     /// Creates a clock at tick 0 that jumps to no tick later than `limit`. No task has a timer. Does not allocate.
     ///
-    /// A timer that is due at most `near` ticks after it is set takes constant time if all such timers are due at the same tick,
-    /// and otherwise time logarithmic in the number of timers. Nothing else depends on `near`.
+    /// Timers that are due at most `near` ticks after they are set, and all at the same tick, are in a list, which is sorted once.
+    /// To set or remove any other timer takes time logarithmic in the number of timers. Nothing else depends on `near`.
     pub fn new(alloc: Global, limit: u64, near: u64) -> MockClock
         ensures now { now_of result ≡ 0 }
         ensures limit { limit_of result ≡ limit }

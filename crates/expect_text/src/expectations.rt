@@ -59,8 +59,8 @@ pub enum LineFault {
 /// as a whole is a pattern that some line must match.
 ///
 /// A pattern is wrong if its beginning, up to its first `*`, can begin no line of a report or a story of the job: such a line
-/// begins with `line`, `tick`, `limit`, `refused` or `deadlock:`; with `job`, `task`, `scope`, `nursery`, `wait`, `acquire`, `send` or
-/// `receive` and a name of the job; or with the name of a task and what happens to it. Returns `AllocError` if memory runs out.
+/// begins with `line`, `tick`, `limit`, `refused` or `deadlock:`; with `job`, `task`, `scope`, `nursery`, `wait`, `acquire`, `send`
+/// or `receive` and a name of the job; or with the name of a task and what happens to it. Returns `AllocError` if memory runs out.
 pub fn read_expectation<'a>(
     alloc: Global,
     names: &[Name],

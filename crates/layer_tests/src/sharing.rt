@@ -9,7 +9,7 @@ use objects::{Given, Grant, Object, Operation, Queues, Ticket};
 use std::alloc::{AllocError, Global};
 use std::test::Fail;
 
-// Each task that asked waits still, but that of row 3.
+// Each task that asked waits still, but for the one at index 3 of the task table.
 struct AllButThree;
 
 impl Queues for AllButThree {

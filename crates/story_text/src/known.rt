@@ -9,7 +9,8 @@ use story_index::Causes;
 use story_waits::QueueNotes;
 
 /// What is needed to write the sentences of a story: the clock of its moments, its events in order, the table with the moments
-/// from which its scopes and nurseries are cancelled, and the events of the job set, the index of both, and what the events say of one another.
+/// from which its scopes and nurseries are cancelled, and the events of the job set, the index of both, and what the events say of
+/// one another.
 #[derive(Drop)]
 pub struct Known<'k, 'e> {
     pub(crate) clock: Clock,
