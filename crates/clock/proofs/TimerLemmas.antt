@@ -8,9 +8,9 @@ use Rattle.std.specs.Option.{option_copied}
 use Rattle.std.specs.BTreeSet as sorted
 use Rattle.std.specs.BTreeSet.{BTreeSet, contains}
 use Rattle.cancel_scopes.proofs.IndexLemmas.{some_same}
-use Rattle.clock.specs.Ticks.{tick_in, HasNone, IsFirst, IsSame, Puts}
+use Rattle.clock.specs.Ticks.{tick_in, IsFirst, IsSame, Puts}
 use Rattle.clock.specs.KeptTicks.{pair_cmp}
-use Rattle.clock.specs.KeptTimers.{AllAfter, AllKept, HasLive, HasNoPair, IsEarlierOf, IsEarliest, IsFirstLive, IsFirstOf, IsFirstPair, IsUpto, KeepsLive, KeepsOthers, NoPairBy, NoneLive}
+use Rattle.clock.specs.KeptTimers.{AllAfter, AllKept, HasLive, HasNoPair, IsEarlierOf, IsEarliest, IsFirstLive, IsFirstOf, IsFirstPair, IsUpto, KeepsOthers, NoPairBy, NoneLive}
 use Rattle.clock.proofs.TickLemmas.{at_other_key, at_other_tick, key_upto, tick_upto}
 
 no_pair : (order : BTreeSet (ℕ × ℕ)) (keys : List (ℕ × ℕ)) → order.keys ≡ keys →
@@ -33,11 +33,12 @@ pair_seen order (Some k) some among below =
     }
 
 -- a key that had no tick has one, in the sorted set
-pub kept_later : (ticks later_ticks : List (Option ℕ)) (order later_order : BTreeSet (ℕ × ℕ)) (soon_tick key tick : ℕ) (soon : List ℕ) →
-    AllKept ticks order soon_tick soon → tick_in ticks key ≡ None → sorted.Updates pair_cmp order later_order (tick, key) true →
-    Puts ticks later_ticks key (Some tick) → (soon ≡ []) ⊎ (tick ≢ soon_tick) → AllKept later_ticks later_order soon_tick soon
-kept_later ticks later_ticks order later_order soon_tick key tick soon kept none pairs keys differs =
-    record { listed = listed; found = found; apart = apart }
+pub kept_later : (horizon : ℕ) (ticks later_ticks : List (Option ℕ)) (order later_order : BTreeSet (ℕ × ℕ)) (soon_tick key tick : ℕ) (soon : List ℕ) →
+    AllKept horizon ticks order soon_tick soon → tick_in ticks key ≡ None → tick ≤ horizon →
+    sorted.Updates pair_cmp order later_order (tick, key) true → Puts ticks later_ticks key (Some tick) →
+    (soon ≡ []) ⊎ (tick ≢ soon_tick) → AllKept horizon later_ticks later_order soon_tick soon
+kept_later horizon ticks later_ticks order later_order soon_tick key tick soon kept none is_near pairs keys differs =
+    record { listed = listed; found = found; apart = apart; near = near; soon_near = kept.soon_near }
   where
     listed : (other later : ℕ) → contains pair_cmp later_order (later, other) ≡ true → tick_in later_ticks other ≡ Some later
     listed other later among =
@@ -55,15 +56,15 @@ kept_later ticks later_ticks order later_order soon_tick key tick soon kept none
               ∙ kept.listed other later (sym (pairs.2 (later, other) (at_other_key tick key later other differs)) ∙ among)
         ]
 
-    found : (other later : ℕ) → tick_in later_ticks other ≡ Some later →
+    found : (other later : ℕ) → tick_in later_ticks other ≡ Some later → later ≤ horizon →
         (contains pair_cmp later_order (later, other) ≡ true) ⊎ ((later ≡ soon_tick) × Contains soon other)
-    found other later has =
+    found other later has by =
         elim (cases_eq other key) [
           | inl same ↦
               let at : later ≡ tick = some_same later tick (sym has ∙ ap (tick_in later_ticks) same ∙ keys.changed) in
               inl (rw (same, at) pairs.1)
           | inr differs ↦
-              elim (kept.found other later (sym (keys.others other differs) ∙ has)) [
+              elim (kept.found other later (sym (keys.others other differs) ∙ has) by) [
                 | inl among ↦ inl (pairs.2 (later, other) (at_other_key tick key later other differs) ∙ among)
                 | inr live ↦ inr live
               ]
@@ -78,12 +79,19 @@ kept_later ticks later_ticks order later_order soon_tick key tick soon kept none
               ∙ kept.apart other among
         ]
 
+    near : (other later : ℕ) → contains pair_cmp later_order (later, other) ≡ true → later ≤ horizon
+    near other later among =
+        elim (cases_eq later tick) [
+          | inl at ↦ omega (arith, at, is_near)
+          | inr late ↦ kept.near other later (sym (pairs.2 (later, other) (at_other_tick tick key later other late)) ∙ among)
+        ]
+
 -- a key that had no tick has one, in the list
-pub kept_soon : (ticks later_ticks : List (Option ℕ)) (order : BTreeSet (ℕ × ℕ)) (soon_tick key tick : ℕ) (soon later_soon : List ℕ) →
-    AllKept ticks order soon_tick soon → tick_in ticks key ≡ None → Puts ticks later_ticks key (Some tick) →
-    (soon ≡ []) ⊎ (tick ≡ soon_tick) → later_soon ≡ soon ++ key ∷ [] → AllKept later_ticks order tick later_soon
-kept_soon ticks later_ticks order soon_tick key tick soon later_soon kept none keys same_tick are =
-    rw are record { listed = listed; found = found; apart = apart }
+pub kept_soon : (horizon : ℕ) (ticks later_ticks : List (Option ℕ)) (order : BTreeSet (ℕ × ℕ)) (soon_tick key tick : ℕ) (soon later_soon : List ℕ) →
+    AllKept horizon ticks order soon_tick soon → tick_in ticks key ≡ None → tick ≤ horizon → Puts ticks later_ticks key (Some tick) →
+    (soon ≡ []) ⊎ (tick ≡ soon_tick) → later_soon ≡ soon ++ key ∷ [] → AllKept horizon later_ticks order tick later_soon
+kept_soon horizon ticks later_ticks order soon_tick key tick soon later_soon kept none is_near keys same_tick are =
+    rw are record { listed = listed; found = found; apart = apart; near = kept.near; soon_near = is_near }
   where
     new_tick : (later : ℕ) → contains pair_cmp order (later, key) ≡ true → ⊥
     new_tick later among = let was = kept.listed key later among in absurd (cc)
@@ -95,15 +103,15 @@ kept_soon ticks later_ticks order soon_tick key tick soon later_soon kept none k
           | inr differs ↦ keys.others other differs ∙ kept.listed other later among
         ]
 
-    found : (other later : ℕ) → tick_in later_ticks other ≡ Some later →
+    found : (other later : ℕ) → tick_in later_ticks other ≡ Some later → later ≤ horizon →
         (contains pair_cmp order (later, other) ≡ true) ⊎ ((later ≡ tick) × Contains (soon ++ key ∷ []) other)
-    found other later has =
+    found other later has by =
         elim (cases_eq other key) [
           | inl same ↦
               let at : later ≡ tick = some_same later tick (sym has ∙ ap (tick_in later_ticks) same ∙ keys.changed) in
               inr (at, rw same (Contains-push soon key))
           | inr differs ↦
-              elim (kept.found other later (sym (keys.others other differs) ∙ has)) [
+              elim (kept.found other later (sym (keys.others other differs) ∙ has) by) [
                 | inl among ↦ inl among
                 | inr live ↦
                     elim same_tick [
@@ -129,11 +137,12 @@ kept_soon ticks later_ticks order soon_tick key tick soon later_soon kept none k
         ]
 
 -- a key's tick is removed, and its pair from the sorted set
-pub kept_removed : (ticks later_ticks : List (Option ℕ)) (order later_order : BTreeSet (ℕ × ℕ)) (soon_tick key tick : ℕ) (soon later_soon : List ℕ) →
-    AllKept ticks order soon_tick soon → Some tick ≡ tick_in ticks key → sorted.Updates pair_cmp order later_order (tick, key) false →
-    Puts ticks later_ticks key None → KeepsOthers soon later_soon key → AllKept later_ticks later_order soon_tick later_soon
-kept_removed ticks later_ticks order later_order soon_tick key tick soon later_soon kept has pairs keys left =
-    record { listed = listed; found = found; apart = apart }
+pub kept_removed : (horizon : ℕ) (ticks later_ticks : List (Option ℕ)) (order later_order : BTreeSet (ℕ × ℕ)) (soon_tick key tick : ℕ) (soon later_soon : List ℕ) →
+    AllKept horizon ticks order soon_tick soon → Some tick ≡ tick_in ticks key → tick ≤ horizon →
+    sorted.Updates pair_cmp order later_order (tick, key) false →
+    Puts ticks later_ticks key None → KeepsOthers soon later_soon key → AllKept horizon later_ticks later_order soon_tick later_soon
+kept_removed horizon ticks later_ticks order later_order soon_tick key tick soon later_soon kept has is_near pairs keys left =
+    record { listed = listed; found = found; apart = apart; near = near; soon_near = kept.soon_near }
   where
     listed : (other later : ℕ) → contains pair_cmp later_order (later, other) ≡ true → tick_in later_ticks other ≡ Some later
     listed other later among =
@@ -152,13 +161,13 @@ kept_removed ticks later_ticks order later_order soon_tick key tick soon later_s
               ∙ kept.listed other later (sym (pairs.2 (later, other) (at_other_key tick key later other differs)) ∙ among)
         ]
 
-    found : (other later : ℕ) → tick_in later_ticks other ≡ Some later →
+    found : (other later : ℕ) → tick_in later_ticks other ≡ Some later → later ≤ horizon →
         (contains pair_cmp later_order (later, other) ≡ true) ⊎ ((later ≡ soon_tick) × Contains later_soon other)
-    found other later own =
+    found other later own by =
         elim (cases_eq other key) [
           | inl same ↦ absurd (let gone : tick_in later_ticks other ≡ None = ap (tick_in later_ticks) same ∙ keys.changed in cc)
           | inr differs ↦
-              elim (kept.found other later (sym (keys.others other differs) ∙ own)) [
+              elim (kept.found other later (sym (keys.others other differs) ∙ own) by) [
                 | inl among ↦ inl (pairs.2 (later, other) (at_other_key tick key later other differs) ∙ among)
                 | inr live ↦ inr (live.0, left.others other differs live.1)
               ]
@@ -179,53 +188,15 @@ kept_removed ticks later_ticks order later_order soon_tick key tick soon later_s
               ∙ kept.apart other (left.fewer other among)
         ]
 
--- a key's tick is removed that is not in the sorted set, since the key is in the list with it
-pub kept_taken : (ticks later_ticks : List (Option ℕ)) (order : BTreeSet (ℕ × ℕ)) (soon_tick key tick : ℕ) (soon later_soon : List ℕ) →
-    AllKept ticks order soon_tick soon → Some tick ≡ tick_in ticks key → tick ≡ soon_tick → Contains soon key →
-    Puts ticks later_ticks key None → KeepsOthers soon later_soon key → AllKept later_ticks order soon_tick later_soon
-kept_taken ticks later_ticks order soon_tick key tick soon later_soon kept has at own keys left =
-    record {
-      listed = listed;
-      found = found;
-      apart = λ other among. kept.apart other (left.fewer other among);
-    }
-  where
-    listed : (other later : ℕ) → contains pair_cmp order (later, other) ≡ true → tick_in later_ticks other ≡ Some later
-    listed other later among =
-        elim (cases_eq other key) [
-          | inl same ↦
-              let now : later ≡ soon_tick = some_same later tick (sym (kept.listed other later among) ∙ ap (tick_in ticks) same ∙ sym has) ∙ at in
-              absurd (let is : contains pair_cmp order (soon_tick, key) ≡ true = rw (← same, ← now) among in
-              let out = kept.apart key own in cc)
-          | inr differs ↦ keys.others other differs ∙ kept.listed other later among
+    near : (other later : ℕ) → contains pair_cmp later_order (later, other) ≡ true → later ≤ horizon
+    near other later among =
+        elim (cases_eq later tick) [
+          | inl at ↦ omega (arith, at, is_near)
+          | inr late ↦ kept.near other later (sym (pairs.2 (later, other) (at_other_tick tick key later other late)) ∙ among)
         ]
 
-    found : (other later : ℕ) → tick_in later_ticks other ≡ Some later →
-        (contains pair_cmp order (later, other) ≡ true) ⊎ ((later ≡ soon_tick) × Contains later_soon other)
-    found other later is =
-        elim (cases_eq other key) [
-          | inl same ↦ absurd (let gone : tick_in later_ticks other ≡ None = ap (tick_in later_ticks) same ∙ keys.changed in cc)
-          | inr differs ↦
-              elim (kept.found other later (sym (keys.others other differs) ∙ is)) [
-                | inl among ↦ inl among
-                | inr live ↦ inr (live.0, left.others other differs live.1)
-              ]
-        ]
-
--- stale keys are dropped from the list
-pub kept_live : (ticks : List (Option ℕ)) (order : BTreeSet (ℕ × ℕ)) (soon_tick : ℕ) (soon later_soon : List ℕ) →
-    AllKept ticks order soon_tick soon → KeepsLive ticks soon_tick soon later_soon → AllKept ticks order soon_tick later_soon
-kept_live ticks order soon_tick soon later_soon kept left =
-    record {
-      listed = kept.listed;
-      found = λ key tick has. elim (kept.found key tick has) [
-        | inl among ↦ inl among
-        | inr live ↦ inr (live.0, left.live key (has ∙ ap Some live.0) live.1)
-      ];
-      apart = λ key among. kept.apart key (left.fewer key among);
-    }
-
-module _ (ticks : List (Option ℕ)) (order : BTreeSet (ℕ × ℕ)) (soon_tick now : ℕ) (keys : List ℕ) (kept : AllKept ticks order soon_tick keys) where
+module _ (horizon : ℕ) (ticks : List (Option ℕ)) (order : BTreeSet (ℕ × ℕ)) (soon_tick now : ℕ) (keys : List ℕ) (kept : AllKept horizon ticks order soon_tick keys)
+    (within : now ≤ horizon) where
   -- what was found of the list and of the sorted set
   abbrev SoonBy : Option ℕ → Type 0
   SoonBy soon = MatchOption soon (soon_tick ≤ now → NoneLive ticks soon_tick keys) (λ key. (soon_tick ≤ now) × IsFirstLive ticks soon_tick keys key)
@@ -237,12 +208,12 @@ module _ (ticks : List (Option ℕ)) (order : BTreeSet (ℕ × ℕ)) (soon_tick 
   pub first_seen : (soon : Option ℕ) (later first : Option (ℕ × ℕ)) → SoonBy soon → LaterBy later →
       MatchOption first ((soon ≡ None) × (later ≡ None)) (IsFirstOf soon soon_tick later) →
       MatchOption first (AllAfter ticks now) (λ p. (p.0 ≤ now) × IsFirst ticks p.0 p.1)
-  first_seen None None None none_soon none_later none = λ key tick has. elim (kept.found key tick has) [
-    | inl among ↦ none_later (tick, key) among
-    | inr live ↦
-        elim (cases_lt now soon_tick) [
-          | inl after ↦ omega (arith, after, live.0)
-          | inr come ↦ absurd (none_soon come key (has ∙ ap Some live.0) live.1)
+  first_seen None None None none_soon none_later none = λ key tick has. elim (cases_lt now tick) [
+    | inl after ↦ after
+    | inr by ↦
+        elim (kept.found key tick has (omega (arith, by, within))) [
+          | inl among ↦ none_later (tick, key) among
+          | inr live ↦ absurd (none_soon (omega (arith, by, live.0)) key (has ∙ ap Some live.0) live.1)
         ]
   ]
   first_seen None (Some p) None soon later none = absurd (let e = none.1 in cc)
@@ -311,28 +282,31 @@ module _ (ticks : List (Option ℕ)) (order : BTreeSet (ℕ × ℕ)) (soon_tick 
 
       upto : (other tick : ℕ) → tick_in ticks other ≡ Some tick → IsUpto first (tick, other)
       upto other tick has =
-          elim (kept.found other tick has) [
-            | inl among ↦ later_upto later later_first of.later_upto other tick among
-            | inr live ↦
-                let below = soon_upto soon soon_first of.soon_upto other (has ∙ ap Some live.0) live.1 in
-                rw live.0 below
+          elim (cases_lt horizon tick) [
+            | inl far ↦ (omega (arith, far, within, come), λ by. absurd (omega (arith, far, within, come, by)))
+            | inr by ↦
+                elim (kept.found other tick has by) [
+                  | inl among ↦ later_upto later later_first of.later_upto other tick among
+                  | inr live ↦
+                      let below = soon_upto soon soon_first of.soon_upto other (has ∙ ap Some live.0) live.1 in
+                      rw live.0 below
+                ]
           ]
 
-module _ (ticks : List (Option ℕ)) (order : BTreeSet (ℕ × ℕ)) (soon_tick : ℕ) (keys : List ℕ) (kept : AllKept ticks order soon_tick keys) where
+module _ (horizon : ℕ) (ticks : List (Option ℕ)) (order : BTreeSet (ℕ × ℕ)) (soon_tick : ℕ) (keys : List ℕ) (kept : AllKept horizon ticks order soon_tick keys) where
   -- the earliest tick is that of the list or the first of the sorted set
   pub earliest_seen : (is_soon : Bool) (later : Option (ℕ × ℕ)) (first : Option ℕ) →
       MatchBool is_soon (HasLive ticks soon_tick) (NoneLive ticks soon_tick keys) → MatchOption later (HasNoPair order) (IsFirstPair order) →
       MatchOption first ((is_soon ≡ false) × (later ≡ None)) (IsEarlierOf is_soon soon_tick later) →
-      MatchOption first (HasNone ticks) (IsEarliest ticks)
-  earliest_seen false None None none_soon none_later none = λ key. none_at key (tick_in ticks key) refl
-    where
-      none_at : (key : ℕ) (o : Option ℕ) → tick_in ticks key ≡ o → tick_in ticks key ≡ None
-      none_at key None e = e
-      none_at key (Some tick) e =
-          elim (kept.found key tick e) [
-            | inl among ↦ absurd (let out = none_later (tick, key) in cc)
-            | inr live ↦ absurd (none_soon key (e ∙ ap Some live.0) live.1)
-          ]
+      MatchOption first (AllAfter ticks horizon) (IsEarliest ticks)
+  earliest_seen false None None none_soon none_later none = λ key tick has. elim (cases_lt horizon tick) [
+    | inl far ↦ far
+    | inr by ↦
+        elim (kept.found key tick has by) [
+          | inl among ↦ absurd (let out = none_later (tick, key) in cc)
+          | inr live ↦ absurd (none_soon key (has ∙ ap Some live.0) live.1)
+        ]
+  ]
   earliest_seen false (Some p) None soon later none = absurd (let e = none.1 in cc)
   earliest_seen true later None soon later_first none = absurd (let e = none.0 in cc)
   earliest_seen is_soon later (Some tick) soon later_first of = elim of.is_one [
@@ -366,21 +340,40 @@ module _ (ticks : List (Option ℕ)) (order : BTreeSet (ℕ × ℕ)) (soon_tick 
           let two = (m.upto (late, other) among).0 in
           omega (arith, one, two)
 
+      later_near : (o : Option (ℕ × ℕ)) → MatchOption o (HasNoPair order) (IsFirstPair order) → (key : ℕ) → o ≡ Some (tick, key) → tick ≤ horizon
+      later_near None m key e = absurd (cc)
+      later_near (Some p) m key e =
+          let same : p ≡ (tick, key) = cc in
+          kept.near key tick (ap (contains pair_cmp order) (sym same) ∙ m.among)
+
+      near : tick ≤ horizon
+      near =
+          elim of.is_one [
+            | inl own ↦ let by = kept.soon_near in omega (arith, by, own.1)
+            | inr own ↦ later_near later later_first own.0 own.1
+          ]
+
       upto : (other due : ℕ) → tick_in ticks other ≡ Some due → tick ≤ due
       upto other due has =
-          elim (kept.found other due has) [
-            | inl among ↦ later_upto later later_first of.later_upto other due among
-            | inr live ↦
-                let below = soon_upto is_soon soon of.soon_upto other (has ∙ ap Some live.0) live.1 in
-                omega (arith, below, live.0)
+          elim (cases_lt horizon due) [
+            | inl far ↦ omega (arith, far, near)
+            | inr by ↦
+                elim (kept.found other due has by) [
+                  | inl among ↦ later_upto later later_first of.later_upto other due among
+                  | inr live ↦
+                      let below = soon_upto is_soon soon of.soon_upto other (has ∙ ap Some live.0) live.1 in
+                      omega (arith, below, live.0)
+                ]
           ]
 
 -- every key keeps its tick
-pub kept_same : (ticks later_ticks : List (Option ℕ)) (order : BTreeSet (ℕ × ℕ)) (soon_tick : ℕ) (soon : List ℕ) →
-    AllKept ticks order soon_tick soon → IsSame ticks later_ticks → AllKept later_ticks order soon_tick soon
-kept_same ticks later_ticks order soon_tick soon kept same =
+pub kept_same : (horizon : ℕ) (ticks later_ticks : List (Option ℕ)) (order : BTreeSet (ℕ × ℕ)) (soon_tick : ℕ) (soon : List ℕ) →
+    AllKept horizon ticks order soon_tick soon → IsSame ticks later_ticks → AllKept horizon later_ticks order soon_tick soon
+kept_same horizon ticks later_ticks order soon_tick soon kept same =
     record {
       listed = λ key tick among. same key ∙ kept.listed key tick among;
-      found = λ key tick has. kept.found key tick (sym (same key) ∙ has);
+      found = λ key tick has by. kept.found key tick (sym (same key) ∙ has) by;
       apart = kept.apart;
+      near = kept.near;
+      soon_near = kept.soon_near;
     }

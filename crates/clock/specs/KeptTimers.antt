@@ -24,12 +24,27 @@ abbrev pub earlier_of : Option ℕ → ℕ → ℕ
 earlier_of None due = due
 earlier_of (Some cancel) due = min due cancel
 
+-- what contracts see of the timers: the tick of each key, and the tick that no jump goes past
+pub record HeldTimers : Type 0 where
+  pub horizon : ℕ
+  pub ticks : List (Option ℕ)
+
+-- every timer is due at the clock's tick or later, the horizon is the clock's limit, and its tick is at most the limit
+pub record AllAhead (timers : HeldTimers) (tick limit : ℕ) : Type 0 where
+  pub ahead : NoneBefore timers.ticks tick
+  pub bounded : timers.horizon ≡ limit
+  pub within : tick ≤ limit
+
 -- Each pair in the sorted set is a tick with its key. The tick of each key is there, or it is that of the list and the key is in
--- the list. A key in the list is not in the sorted set with the tick of the list.
-pub record AllKept (ticks : List (Option ℕ)) (order : BTreeSet (ℕ × ℕ)) (soon_tick : ℕ) (soon : List ℕ) : Type 0 where
+-- the list, or it is later than the horizon. A key in the list is not in the sorted set with the tick of the list. No tick in the
+-- sorted set is later than the horizon, and the tick of the list is not either.
+pub record AllKept (horizon : ℕ) (ticks : List (Option ℕ)) (order : BTreeSet (ℕ × ℕ)) (soon_tick : ℕ) (soon : List ℕ) : Type 0 where
   pub listed : (key tick : ℕ) → contains pair_cmp order (tick, key) ≡ true → tick_in ticks key ≡ Some tick
-  pub found : (key tick : ℕ) → tick_in ticks key ≡ Some tick → (contains pair_cmp order (tick, key) ≡ true) ⊎ ((tick ≡ soon_tick) × Contains soon key)
+  pub found : (key tick : ℕ) → tick_in ticks key ≡ Some tick → tick ≤ horizon →
+      (contains pair_cmp order (tick, key) ≡ true) ⊎ ((tick ≡ soon_tick) × Contains soon key)
   pub apart : (key : ℕ) → Contains soon key → contains pair_cmp order (soon_tick, key) ≡ false
+  pub near : (key tick : ℕ) → contains pair_cmp order (tick, key) ≡ true → tick ≤ horizon
+  pub soon_near : soon_tick ≤ horizon
 
 -- no key in the list is less than one after it
 abbrev pub Falls : List ℕ → Type 0

@@ -30,12 +30,12 @@ impl Model for MockClock {
 
     ghost Value = { Clock };
 
-    ghost use Rattle.clock.specs.KeptTimers.{NoneBefore};
+    ghost use Rattle.clock.specs.KeptTimers.{AllAhead};
 
-    ghost view = { λ c. record { tick = c.tick; limit = c.limit; timers = c.timers } };
+    ghost view = { λ c. record { tick = c.tick; limit = c.limit; timers = c.timers.ticks } };
 
     // A timer that is due is due at the current tick, so the first timer is that of the least task that is due.
-    ghost invariant = { λ c. NoneBefore c.timers c.tick };
+    ghost invariant = { λ c. AllAhead c.timers c.tick c.limit };
 }
 
 impl MockClock {
@@ -44,8 +44,10 @@ impl MockClock {
 
     /// Creates a clock at tick 0 that jumps to no tick later than `limit`. No task has a timer. Does not allocate.
     ///
-    /// Timers that are due at most `near` ticks after they are set, and all at the same tick, are in a list, which is sorted once.
-    /// To set or remove any other timer takes time logarithmic in the number of timers. Nothing else depends on `near`.
+    /// A timer that is due later than `limit` takes amortized constant time to set and constant time to remove, because the clock
+    /// never jumps to its tick. Of the timers that are due by `limit`, those that are due at most `near` ticks after they are set,
+    /// and all at the same tick, are in a list, which is sorted once. To set or remove any other timer takes time logarithmic in
+    /// the number of timers that are due by `limit`. Nothing else depends on `near`.
     pub fn new(alloc: Global, limit: u64, near: u64) -> MockClock
         ensures now { now_of result ≡ 0 }
         ensures limit { limit_of result ≡ limit }
@@ -55,7 +57,7 @@ impl MockClock {
             tick: 0,
             limit,
             near,
-            timers: Timers::new(alloc),
+            timers: Timers::new(alloc, limit),
         }
     }
 
@@ -105,8 +107,11 @@ impl MockClock {
         ensures { Jumps self.old next_cancel result self.new }
     {
         let next = match self.timers.first_tick() {
-            Some(due) => earlier_of(due, next_cancel),
-            None => next_cancel.unwrap(),
+            Some(due) => Some(earlier_of(due, next_cancel)),
+            None => next_cancel,
+        };
+        let Some(next) = next else {
+            return Jump::Limit;
         };
         if next > self.limit {
             return Jump::Limit;

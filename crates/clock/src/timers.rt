@@ -11,37 +11,39 @@ use std::marker::Model;
 // their own, which is sorted only when the first of them is taken.
 #[derive(Drop)]
 pub(crate) struct Timers {
+    // No jump goes past this tick, so timers that are due later are in no order.
+    horizon: u64,
     // The tick of each key, at the key's index. A key past the end has no tick.
     ticks: Vec<Option<u64>>,
-    // Each tick with its key, sorted by tick, and then by key, except for those in `soon`.
+    // Each tick by the horizon with its key, sorted by tick, and then by key, except for those in `soon`.
     order: BTreeSet<(u64, usize)>,
-    // The tick of the keys in `soon`.
+    // The tick of the keys in `soon`, at most the horizon.
     soon_tick: u64,
     // Keys that had the tick `soon_tick` when they were added.
     soon: KeyList,
 }
 
 impl Model for Timers {
-    ghost use Rattle.std.specs.Prelude.{ℕ, List, Option};
+    ghost use Rattle.clock.specs.KeptTimers.{AllKept, HeldTimers};
 
-    ghost Value = { List (Option ℕ) };
+    ghost Value = { HeldTimers };
 
-    ghost use Rattle.clock.specs.KeptTimers.{AllKept};
+    ghost view = { λ t. record { horizon = t.horizon; ticks = t.ticks.items } };
 
-    ghost view = { λ t. t.ticks.items };
-
-    ghost invariant = { λ t. AllKept t.ticks.items t.order t.soon_tick t.soon };
+    ghost invariant = { λ t. AllKept t.horizon t.ticks.items t.order t.soon_tick t.soon };
 }
 
 impl Timers {
     ghost use Rattle.clock.specs.Ticks.{tick_in, HasNone, IsFirst, IsSame, Puts};
     ghost use Rattle.clock.specs.KeptTimers.{AllAfter, IsEarliest};
 
-    // Creates `Timers` in which no key has a tick. Does not allocate.
-    pub(crate) fn new(alloc: Global) -> Timers
-        ensures { HasNone result }
+    // Creates `Timers` in which no key has a tick, for a clock that jumps to no tick later than `horizon`. Does not allocate.
+    pub(crate) fn new(alloc: Global, horizon: u64) -> Timers
+        ensures none { HasNone result.ticks }
+        ensures horizon { result.horizon ≡ horizon }
     {
         Timers {
+            horizon,
             ticks: Vec::new(alloc),
             order: BTreeSet::new(alloc),
             soon_tick: 0,
@@ -52,11 +54,16 @@ impl Timers {
     // Sets the tick of a key. A tick by `soon_by` is soon. The caller must ensure that the key has no tick yet. Returns
     // `AllocError` if memory runs out; every key then keeps its tick.
     pub(crate) fn add(&mut self, key: usize, tick: u64, soon_by: u64) -> Result<(), AllocError>
-        requires { tick_in self.old key ≡ None }
-        ensures ok { OnOk result (Puts self.old self.new key (Some tick)) }
-        ensures err { OnErr result (IsSame self.old self.new) }
+        requires { tick_in self.old.ticks key ≡ None }
+        ensures ok { OnOk result (Puts self.old.ticks self.new.ticks key (Some tick)) }
+        ensures err { OnErr result (IsSame self.old.ticks self.new.ticks) }
+        ensures horizon { self.new.horizon ≡ self.old.horizon }
     {
         grow_to(&mut self.ticks, key)?;
+        if tick > self.horizon {
+            self.ticks[key] = Some(tick);
+            return Ok(());
+        }
         if is_soon(&self.soon, self.soon_tick, tick, soon_by) {
             self.soon.push(key)?;
             self.soon_tick = tick;
@@ -70,7 +77,8 @@ impl Timers {
 
     // Removes the tick of a key, if it has one. Does not allocate.
     pub(crate) fn remove(&mut self, key: usize)
-        ensures { Puts self.old self.new key None }
+        ensures ticks { Puts self.old.ticks self.new.ticks key None }
+        ensures horizon { self.new.horizon ≡ self.old.horizon }
     {
         let Some(slot) = self.ticks.get_mut(key) else {
             return;
@@ -78,26 +86,33 @@ impl Timers {
         let Some(tick) = slot.take() else {
             return;
         };
+        if tick > self.horizon {
+            return;
+        }
         if self.soon.take_last(key) && tick == self.soon_tick {
             return;
         }
         self.order.remove(&(tick, key));
     }
 
-    // Returns the earliest tick of all, or `None` if no key has a tick. Does not allocate.
+    // Returns the earliest tick of all, or `None` if no key has a tick by the horizon. Does not allocate.
     pub(crate) fn first_tick(&mut self) -> Option<u64>
-        ensures same { IsSame self.old self.new }
-        ensures first { MatchOption result (HasNone self.old) (IsEarliest self.old) }
+        ensures same { IsSame self.old.ticks self.new.ticks }
+        ensures horizon { self.new.horizon ≡ self.old.horizon }
+        ensures first { MatchOption result (AllAfter self.old.ticks self.old.horizon) (IsEarliest self.old.ticks) }
     {
         let is_soon = self.soon.has_live(&self.ticks, self.soon_tick);
         let later = first_pair(&self.order);
         earlier_tick(is_soon, self.soon_tick, later)
     }
 
-    // Returns the earliest tick and the least key that has it, or `None` if no key has a tick by `now`. Does not allocate.
+    // Returns the earliest tick and the least key that has it, or `None` if no key has a tick by `now`. The caller must ensure
+    // that `now` is not later than the horizon. Does not allocate.
     pub(crate) fn first_by(&mut self, now: u64) -> Option<(u64, usize)>
-        ensures same { IsSame self.old self.new }
-        ensures first { MatchOption result (AllAfter self.old now) (λ first. (first.0 ≤ now) × IsFirst self.old first.0 first.1) }
+        requires { now ≤ self.old.horizon }
+        ensures same { IsSame self.old.ticks self.new.ticks }
+        ensures horizon { self.new.horizon ≡ self.old.horizon }
+        ensures first { MatchOption result (AllAfter self.old.ticks now) (λ first. (first.0 ≤ now) × IsFirst self.old.ticks first.0 first.1) }
     {
         let soon = soon_by(&mut self.soon, &self.ticks, self.soon_tick, now);
         let later = later_by(&self.order, now);
