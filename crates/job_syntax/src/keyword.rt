@@ -1,4 +1,5 @@
-ghost use Rattle.std.specs.Prelude.{◌≡◌};
+ghost use Rattle.std.specs.Prelude.{◌≡◌, true};
+ghost use Rattle.std.specs.Str.{bytes_eq};
 ghost use Rattle.job_syntax.specs.Keywords.{spelling_of, may_be_name, is_kept, keyword_among, keyword_of};
 
 use job_tree::Name;
@@ -194,9 +195,27 @@ fn keyword_among(keywords: &[Keyword], word: &[u8]) -> Option<Keyword>
     ensures { result ≡ keyword_among keywords.now word.now }
 {
     for keyword in keywords {
-        if keyword.bytes() == word {
+        if is_spelled(*keyword, word) {
             return Some(*keyword);
         }
     }
     None
+}
+
+// Returns whether a word is the spelling of a keyword.
+fn is_spelled(keyword: Keyword, word: &[u8]) -> bool
+    ensures { result ≡ bytes_eq (spelling_of keyword) word.now }
+{
+    let spelling = keyword.bytes();
+    begin_alike(spelling, word) && spelling == word
+}
+
+// Returns whether two words may be the same by their first bytes, which differ in most comparisons.
+fn begin_alike(a: &[u8], b: &[u8]) -> bool
+    ensures { bytes_eq a.now b.now ≡ true → result ≡ true }
+{
+    match (a.first(), b.first()) {
+        (Some(a), Some(b)) => a == b,
+        _ => true,
+    }
 }
