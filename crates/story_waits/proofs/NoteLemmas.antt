@@ -3,7 +3,7 @@ use Rattle.std.proofs.Common.{◌≡◌, ◌<◌, ℕ, suc, ◌+◌, refl, subst
 use Rattle.std.specs.Prelude.{Bool, true, false, ◌&&◌, ◌==◌, Option, Some, None, is_some, List, [], ◌∷◌, nat_eq, if◌then◌else◌}
 use Rattle.std.specs.Bool.{beq}
 use Rattle.std.specs.Borrow.{Bor}
-use Rattle.std.specs.Cmp.{IsEquivalence, bool_eq_equiv}
+use Rattle.std.specs.Cmp.{bool_eq_equiv}
 use Rattle.std.specs.Option.{option_map, option_or}
 use Rattle.std.proofs.lemmas.Bool.{eqb-true}
 use Rattle.std.proofs.lemmas.Cmp.{nat_eq_equiv}
@@ -17,7 +17,7 @@ use Rattle.job_story.specs.Notes as notes
 use Rattle.job_story.specs.Notes.{Turn, is_noted_as, joins_by, same_joining, note_by, noted_in, number_in}
 use Rattle.job_story.specs.declared.event.Event.{Event}
 use Rattle.story_waits.specs.Noted.{note_in}
-use Rattle.story_waits.specs.QueueNotes.{is_asker, noted_at, noted_by}
+use Rattle.story_waits.specs.QueueNotes.{noted_at, noted_by}
 use Rattle.story_index.specs.Seen.{event_in}
 use Rattle.story_waits.specs.declared.note.Note.{Note}
 use Rattle.story_waits.specs.declared.queue_notes.Asker.{Asker}

@@ -1,5 +1,5 @@
 -- What is known of numbers after one more move.
-use Rattle.std.proofs.Common.{◌≡◌, ◌<◌, ℕ, suc, ◌+◌, arith, refl, subst, List, [], ◌∷◌, ◌++◌, sym, ap, ◌∙◌, length, map, drop, get_or}
+use Rattle.std.proofs.Common.{◌≡◌, ◌<◌, ℕ, suc, ◌+◌, refl, List, [], ◌∷◌, ◌++◌, sym, ap, ◌∙◌, length, map, drop, get_or}
 use Rattle.std.specs.Prelude.{Option, Some, None, ◌==◌, if◌then◌else◌}
 use Rattle.std.proofs.Math.Seq.{drop-cons}
 use Rattle.std.proofs.lemmas.List.{append_assoc}

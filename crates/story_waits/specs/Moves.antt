@@ -1,8 +1,9 @@
 -- The moves of the code, as the definitions see them.
-use Rattle.std.specs.Prelude.{Bool}
+use Rattle.std.specs.Prelude.{Bool, true, false, ◌||◌, List, [], ◌∷◌}
 use Rattle.std.specs.Cmp.{IsEquivalence, on_equiv}
 use Rattle.std.proofs.lemmas.Cmp.{nat_eq_equiv}
-use Rattle.std.specs.Borrow.{Bor}
+use Rattle.job_story.specs.Story.{deadlocks, finds_closed, gets, gives_token_back, closes_channel, is_cancelled, queues}
+use Rattle.job_story.specs.Events.{What, happens, Event}
 use Rattle.job_story.specs.Notes as notes
 use Rattle.story_waits.specs.declared.moves.Move.{Move}
 use Rattle.story_waits.specs.declared.moves.Move.TheVariants.{Joins, Goes, IsGranted, GivesBack, Closes}
@@ -24,3 +25,19 @@ same_made_equiv = on_equiv (λ made. notes.move_number (move_in made)) nat_eq_eq
 abbrev pub turn_in : Turn → notes.Turn
 turn_in x =
     record { event = x.event; record_place = x.record_place; task = x.task.now; object = x.object.now; moment = x.moment; move = move_in x.made }
+
+-- whether what an event is may have moves
+abbrev pub may_move : What → Bool
+may_move (happens (queues ask object part left)) = true
+may_move (happens (gets ask object at_once)) = true
+may_move (happens (finds_closed ask object at_once)) = true
+may_move (happens (is_cancelled by during in_cleanup)) = true
+may_move (happens (deadlocks ask object)) = true
+may_move (happens (gives_token_back object)) = true
+may_move (happens (closes_channel object)) = true
+may_move _ = false
+
+-- whether any of these events may
+abbrev pub some_may_move : List Event → Bool
+some_may_move [] = false
+some_may_move (e ∷ es) = may_move e.what || some_may_move es

@@ -7,7 +7,7 @@ ghost use Rattle.job_story.specs.Held.{asked_of, during_of, happening_of, what_o
 ghost use Rattle.job_story.specs.Story as story;
 ghost use Rattle.job_story.specs.Notes.{record_of, turn, turns_by, turns_in};
 ghost use Rattle.story_waits.specs.Records.{KnowsStarts};
-ghost use Rattle.story_waits.specs.Moves.{move_in, turn_in};
+ghost use Rattle.story_waits.specs.Moves.{may_move, move_in, some_may_move, turn_in};
 ghost use Rattle.story_index.specs.Seen.{event_in};
 
 use crate::moves::{Move, Turn};
@@ -30,8 +30,11 @@ pub(crate) struct Actor<'e> {
 pub(crate) fn turns_in<'e>(alloc: Global, walked: &[&'e Event]) -> Result<Vec<Turn<'e>>, AllocError>
     ensures { IfOk result (λ turns. map turn_in turns.items ≡ turns_in (map event_in walked.now) 0 0 (map event_in walked.now)) }
 {
-    let records = Records::of(alloc, walked)?;
     let mut turns = Vec::new(alloc);
+    if !has_moves(walked) {
+        return Ok(turns);
+    }
+    let records = Records::of(alloc, walked)?;
     let mut joined = 0;
     'events: for i in 0..walked.len() {
         let event = walked[i];
@@ -39,6 +42,44 @@ pub(crate) fn turns_in<'e>(alloc: Global, walked: &[&'e Event]) -> Result<Vec<Tu
         joined = event.tick;
     }
     Ok(turns)
+}
+
+// Returns whether any of these events may have moves.
+fn has_moves(walked: &[&Event]) -> bool
+    ensures { result ≡ some_may_move (map event_in walked.now) }
+{
+    'events: for event in walked {
+        if may_move(&event.what) {
+            return true;
+        }
+    }
+    false
+}
+
+// Returns whether what an event is may have moves.
+fn may_move(what: &What) -> bool
+    ensures { result ≡ may_move (what_of what.now) }
+{
+    match what {
+        What::Happens(happening) => may_move_in(happening),
+        What::Starts { .. } | What::Ends { .. } => false,
+    }
+}
+
+// Returns whether what happens to a task may have moves.
+fn may_move_in(happening: &Happening) -> bool
+    ensures { result ≡ may_move (happens (happening_of happening.now)) }
+{
+    matches!(
+        happening,
+        Happening::Queues { .. }
+            | Happening::Gets { .. }
+            | Happening::FindsClosed { .. }
+            | Happening::IsCancelled { .. }
+            | Happening::Deadlocks { .. }
+            | Happening::GivesTokenBack { .. }
+            | Happening::ClosesChannel { .. }
+    )
 }
 
 // Appends the moves in the event with this number in the walk, where the event before it was in the moment `joined`.
@@ -53,6 +94,9 @@ fn push_event<'e>(
         OnOk result (map turn_in turns.new.items ≡ map turn_in turns.old.items
         ++ turns_by number (record_of event.entry.now.task walked) joined event.entry.now.task event.entry.now.tick (what_of event.entry.now.what)) }
 {
+    if !may_move(&event.what) {
+        return Ok(());
+    }
     let actor = Actor {
         event: number,
         record_place: records.of_task(&event.task),

@@ -1,4 +1,4 @@
-use Rattle.std.proofs.Common.{◌≡◌, ap, ◌∙◌, ℕ, Option, Some, None, length}
+use Rattle.std.proofs.Common.{ap, ◌∙◌, ℕ, Option, length}
 use Rattle.std.specs.Option.{unwrap_or}
 use Rattle.story_waits.proofs.records.Records.of_task.Goals as goal
 
