@@ -255,13 +255,16 @@ running_has_none : (clock : Clock) (until : Tick) (sorted walked : List Event) �
 running_has_none clock None sorted walked = refl
 running_has_none clock (Some limit) sorted walked = tasks_have_none clock sorted (running_in walked walked)
 
--- values of an event, of a tick and of the tasks that have not ended have no float
+-- values of an event, of a tick, of an exception and of the tasks that have not ended have no float
 pub event_has_no_float : (value : Data) (clock : Clock) (table : Table) (notes : Notes) (es : List Event) (e : Event) →
     value ≡ event_json clock table notes es e → has_float value ≡ false
 event_has_no_float value clock table notes es e is = rw (is, event_has_none clock table notes es e) refl
 
 pub tick_has_no_float : (value : Data) (t : Tick) → value ≡ tick_json t → has_float value ≡ false
 tick_has_no_float value t is = rw (is, tick_has_none t) refl
+
+pub exc_has_no_float : (value : Data) (e : Option Exc) → value ≡ exc_or_null e → has_float value ≡ false
+exc_has_no_float value e is = rw (is, exc_has_none e) refl
 
 pub running_has_no_float : (value : Data) (clock : Clock) (until : Tick) (sorted walked : List Event) →
     value ≡ list_of (running_json clock until sorted walked) → has_float value ≡ false

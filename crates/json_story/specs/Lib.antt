@@ -4,3 +4,4 @@ pub mod Known
 pub mod Events
 pub mod Running
 pub mod Stories
+pub mod Frequent

@@ -11,6 +11,7 @@ ghost use Rattle.story_waits.specs.Noted.{note_in};
 ghost use Rattle.std.specs.Option.{option_map};
 
 use crate::found::push_found;
+use crate::frequent::{Ending, push_end, push_sleep, push_start};
 use crate::happening::{happening_word, put_happening};
 use crate::known::Known;
 use crate::optional::{exc_or_null, label_or_null, moment_value};
@@ -41,7 +42,8 @@ pub(crate) fn push_events(
     Ok(())
 }
 
-// Appends an event as a JSON object. The lines that a kernel answered may be millions, so no value is made of them.
+// Appends an event as a JSON object. No value is made of an event of which a story has many: that a task starts, sleeps, finds
+// lines, of which there may be millions, or ends.
 fn push_event(
     alloc: Global,
     out: &mut Vec<u8>,
@@ -51,15 +53,37 @@ fn push_event(
     ensures { OnOk result (out.new.items
         ≡ out.old.items ++ compact_text (event_json (clock_in known.now) (cancelled_from_in known.now) (notes_held known.now) (events_in known.now) (event_of event.now))) }
 {
-    if let What::Happens(Happening::Finds { lines }) = &event.what {
-        return push_found(
-            alloc,
-            out,
-            &event.task,
-            known.clock.tick_of(event.tick),
-            lines.as_slice(),
-        );
+    let tick = known.clock.tick_of(event.tick);
+    match &event.what {
+        What::Starts { home, .. } => push_start(alloc, out, &event.task, tick, home),
+        What::Happens(Happening::Sleeps { until }) => {
+            push_sleep(alloc, out, &event.task, tick, known.clock, *until)
+        }
+        What::Happens(Happening::Finds { lines }) => {
+            push_found(alloc, out, &event.task, tick, lines.as_slice())
+        }
+        What::Ends { home, exc } => {
+            let ending = Ending {
+                nursery: home,
+                exc,
+                from: known.failure_from(home, exc, event.tick),
+            };
+            push_end(alloc, out, &event.task, tick, known.clock, ending)
+        }
+        What::Happens(_) => push_other(alloc, out, known, event),
     }
+}
+
+// Appends an event as a JSON object, of which a value is made.
+fn push_other(
+    alloc: Global,
+    out: &mut Vec<u8>,
+    known: &Known<'_, '_>,
+    event: &Event,
+) -> Result<(), AllocError>
+    ensures { OnOk result (out.new.items
+        ≡ out.old.items ++ compact_text (event_json (clock_in known.now) (cancelled_from_in known.now) (notes_held known.now) (events_in known.now) (event_of event.now))) }
+{
     let value = event_value(alloc, known, event)?;
     push_value(alloc, out, &value)
 }

@@ -17,6 +17,7 @@ mod asks;
 mod event;
 mod exc;
 mod found;
+mod frequent;
 mod happening;
 mod known;
 mod laws;

@@ -4,7 +4,7 @@ use Rattle.serde_json.specs.Written.{compact_text}
 use Rattle.job_story.specs.Held.{event_of}
 use Rattle.json_story.specs.Known.{clock_in, events_in, cancelled_from_in, notes_held}
 use Rattle.json_story.proofs.Integers.{event_has_no_float}
-use Rattle.json_story.proofs.event.push_event.Goals as goal
+use Rattle.json_story.proofs.event.push_other.Goals as goal
 
 pub push_value-requires : goal.push_value-requires
 push_value-requires c =
