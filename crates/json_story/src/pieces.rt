@@ -2,15 +2,12 @@
 
 ghost use Rattle.std.specs.Prelude.{◌≡◌, ◌++◌, ◌∷◌, ℕ, List, OnOk, true, false, nat_lt};
 ghost use Rattle.json.specs.Print.{quoted};
-ghost use Rattle.serde_json.specs.Data.{Members, object, member, number as number_data};
-ghost use Rattle.serde_json.specs.View.{number_view, view};
+ghost use Rattle.serde_json.specs.Data.{Members, object, member};
+ghost use Rattle.serde_json.specs.View.{view};
 ghost use Rattle.serde_json.specs.Written.{comma_if, compact_text, has_float, members_text};
 
-use basics::push_number;
-use json::Writer;
-use serde_json::{Number, Value};
+use serde_json::Value;
 use std::alloc::{AllocError, Global};
-use std::mem;
 
 /// Appends the JSON text of a value. The caller must ensure that the value has no floating-point number. Returns `AllocError` if
 /// memory runs out; a front part of the text may be appended then.
@@ -18,48 +15,8 @@ pub fn push_value(alloc: Global, out: &mut Vec<u8>, value: &Value) -> Result<(),
     requires { has_float (view value.now) ≡ false }
     ensures { OnOk result (out.new.items ≡ out.old.items ++ compact_text (view value.now)) }
 {
-    match value {
-        Value::Null => out.extend_from_slice(b"null"),
-        Value::String(text) => push_text(alloc, out, text.as_str()),
-        Value::Number(number) => push_integer(alloc, out, number, value),
-        Value::Bool(_) | Value::Array(_) | Value::Object(_) => push_whole(alloc, out, value),
-    }
-}
-
-// Appends the JSON text of a value, which is made apart from the texts before it.
-fn push_whole(alloc: Global, out: &mut Vec<u8>, value: &Value) -> Result<(), AllocError>
-    requires { has_float (view value.now) ≡ false }
-    ensures { OnOk result (out.new.items ≡ out.old.items ++ compact_text (view value.now)) }
-{
     let text = value.to_vec(alloc)?;
     out.extend_from_slice(text.as_slice())
-}
-
-// Appends a text as a JSON string.
-fn push_text(alloc: Global, out: &mut Vec<u8>, text: &str) -> Result<(), AllocError>
-    ensures { OnOk result (out.new.items ≡ out.old.items ++ quoted text.now) }
-{
-    let mut writer = Writer::new(mem::replace(out, Vec::new(alloc)));
-    let written = writer.string(text);
-    *out = writer.into_inner();
-    written
-}
-
-// Appends a number that is the value given with it.
-fn push_integer(
-    alloc: Global,
-    out: &mut Vec<u8>,
-    number: &Number,
-    value: &Value,
-) -> Result<(), AllocError>
-    requires has_no_float { has_float (view value.now) ≡ false }
-    requires same { view value.now ≡ number_data (number_view number.now) }
-    ensures { OnOk result (out.new.items ≡ out.old.items ++ compact_text (view value.now)) }
-{
-    match number.as_u64() {
-        Some(n) => push_number(out, n),
-        None => push_whole(alloc, out, value),
-    }
 }
 
 /// Appends the comma that stands before an item of an array, given its index: none before the first one. Returns `AllocError` if
@@ -112,8 +69,7 @@ pub fn push_member(
 pub fn push_key(alloc: Global, out: &mut Vec<u8>, key: &str) -> Result<(), AllocError>
     ensures { OnOk result ((rest : List ℕ) → out.new.items ++ rest ≡ out.old.items ++ (quoted key.now ++ 58 ∷ rest)) }
 {
-    let mut writer = Writer::new(mem::replace(out, Vec::new(alloc)));
-    let written = writer.key(key);
-    *out = writer.into_inner();
-    written
+    push_value(alloc, out, &Value::try_from_str(alloc, key)?)?;
+    out.push(b':')?;
+    Ok(())
 }
