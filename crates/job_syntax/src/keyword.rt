@@ -1,6 +1,5 @@
-ghost use Rattle.std.specs.Prelude.{◌≡◌, true};
-ghost use Rattle.std.specs.Str.{bytes_eq};
-ghost use Rattle.job_syntax.specs.Keywords.{spelling_of, may_be_name, is_kept, keyword_among, keyword_of};
+ghost use Rattle.std.specs.Prelude.{◌≡◌};
+ghost use Rattle.job_syntax.specs.Keywords.{spelling_of, may_be_name, is_kept, keyword_among, keyword_of, keywords};
 
 use job_tree::Name;
 
@@ -75,42 +74,6 @@ pub enum Keyword {
     Close,
 }
 
-/// All keywords.
-pub const KEYWORDS: [Keyword; 32] = [
-    Keyword::Job,
-    Keyword::Sleep,
-    Keyword::Checkpoint,
-    Keyword::Forever,
-    Keyword::Pace,
-    Keyword::Find,
-    Keyword::Head,
-    Keyword::Longest,
-    Keyword::Need,
-    Keyword::Raise,
-    Keyword::Cancel,
-    Keyword::Scope,
-    Keyword::After,
-    Keyword::At,
-    Keyword::Shield,
-    Keyword::Fail,
-    Keyword::Nursery,
-    Keyword::Start,
-    Keyword::Over,
-    Keyword::Try,
-    Keyword::Except,
-    Keyword::Finally,
-    Keyword::Repeat,
-    Keyword::Event,
-    Keyword::Set,
-    Keyword::Wait,
-    Keyword::Limiter,
-    Keyword::Acquire,
-    Keyword::Channel,
-    Keyword::Send,
-    Keyword::Receive,
-    Keyword::Close,
-];
-
 impl Keyword {
     /// Returns the bytes of the keyword.
     pub fn bytes(self) -> &'static [u8]
@@ -176,7 +139,8 @@ impl Keyword {
     pub fn of(word: Name) -> Option<Keyword>
         ensures { result ≡ keyword_of word }
     {
-        keyword_among(&KEYWORDS, word.bytes())
+        let word = word.bytes();
+        keyword_among(beginning_alike(word), word)
     }
 }
 
@@ -190,32 +154,54 @@ pub fn is_kept(keyword: Option<Keyword>) -> bool
     }
 }
 
+// Returns the keywords that begin with the first byte of this word: those that it may be.
+fn beginning_alike(word: &[u8]) -> &'static [Keyword]
+    ensures { keyword_among result.now word.now ≡ keyword_among keywords word.now }
+{
+    match word.first() {
+        Some(b'a') => &[Keyword::After, Keyword::At, Keyword::Acquire],
+        Some(b'c') => &[
+            Keyword::Checkpoint,
+            Keyword::Cancel,
+            Keyword::Channel,
+            Keyword::Close,
+        ],
+        Some(b'e') => &[Keyword::Except, Keyword::Event],
+        Some(b'f') => &[
+            Keyword::Forever,
+            Keyword::Find,
+            Keyword::Fail,
+            Keyword::Finally,
+        ],
+        Some(b'h') => &[Keyword::Head],
+        Some(b'j') => &[Keyword::Job],
+        Some(b'l') => &[Keyword::Longest, Keyword::Limiter],
+        Some(b'n') => &[Keyword::Need, Keyword::Nursery],
+        Some(b'o') => &[Keyword::Over],
+        Some(b'p') => &[Keyword::Pace],
+        Some(b'r') => &[Keyword::Raise, Keyword::Repeat, Keyword::Receive],
+        Some(b's') => &[
+            Keyword::Sleep,
+            Keyword::Scope,
+            Keyword::Shield,
+            Keyword::Start,
+            Keyword::Set,
+            Keyword::Send,
+        ],
+        Some(b't') => &[Keyword::Try],
+        Some(b'w') => &[Keyword::Wait],
+        _ => &[],
+    }
+}
+
 // Returns the first of these keywords that has this spelling.
 fn keyword_among(keywords: &[Keyword], word: &[u8]) -> Option<Keyword>
     ensures { result ≡ keyword_among keywords.now word.now }
 {
     for keyword in keywords {
-        if is_spelled(*keyword, word) {
+        if keyword.bytes() == word {
             return Some(*keyword);
         }
     }
     None
-}
-
-// Returns whether a word is the spelling of a keyword.
-fn is_spelled(keyword: Keyword, word: &[u8]) -> bool
-    ensures { result ≡ bytes_eq (spelling_of keyword) word.now }
-{
-    let spelling = keyword.bytes();
-    begin_alike(spelling, word) && spelling == word
-}
-
-// Returns whether two words may be the same by their first bytes, which differ in most comparisons.
-fn begin_alike(a: &[u8], b: &[u8]) -> bool
-    ensures { bytes_eq a.now b.now ≡ true → result ≡ true }
-{
-    match (a.first(), b.first()) {
-        (Some(a), Some(b)) => a == b,
-        _ => true,
-    }
 }
