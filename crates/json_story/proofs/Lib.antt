@@ -3,6 +3,7 @@ pub mod ReportIntegers
 pub mod Words
 pub mod PieceLemmas
 pub mod QuotedLemmas
+pub mod LiteralLemmas
 pub mod LineLemmas
 pub mod Integers
 pub mod SpanLemmas

@@ -25,7 +25,7 @@ pub(crate) fn push_found(
     ensures { OnOk result (out.new.items ≡ out.old.items ++ compact_text (found_json task.now tick (map span_in lines.now))) }
 {
     push_first_member(alloc, out, "event", &Value::try_from_str(alloc, "finds")?)?;
-    push_lines(alloc, out, lines)?;
+    push_lines(out, lines)?;
     push_member(alloc, out, "task", &label_value(alloc, task)?)?;
     push_member(alloc, out, "tick", &Value::from(tick))?;
     out.push(b'}')?;
@@ -33,12 +33,12 @@ pub(crate) fn push_found(
 }
 
 // Appends the member `lines`.
-fn push_lines(alloc: Global, out: &mut Vec<u8>, lines: &[Span]) -> Result<(), AllocError>
+fn push_lines(out: &mut Vec<u8>, lines: &[Span]) -> Result<(), AllocError>
     ensures { OnOk result ((later : Members) → out.new.items ++ members_text true later
         ≡ out.old.items ++ members_text true (member (codes "lines") (list_of (map span_json (map span_in lines.now))) later)) }
 {
     out.push(b',')?;
-    push_key(alloc, out, "lines")?;
+    push_key(out, "lines")?;
     push_spans(out, lines)?;
     Ok(())
 }

@@ -21,6 +21,7 @@ mod frequent;
 mod happening;
 mod known;
 mod laws;
+mod literal;
 mod optional;
 mod pieces;
 mod quoted;

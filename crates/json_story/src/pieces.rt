@@ -6,6 +6,8 @@ ghost use Rattle.serde_json.specs.Data.{Members, object, member};
 ghost use Rattle.serde_json.specs.View.{view};
 ghost use Rattle.serde_json.specs.Written.{comma_if, compact_text, has_float, members_text};
 
+use crate::literal::push_string;
+use basics::push_number;
 use serde_json::Value;
 use std::alloc::{AllocError, Global};
 
@@ -15,8 +17,17 @@ pub fn push_value(alloc: Global, out: &mut Vec<u8>, value: &Value) -> Result<(),
     requires { has_float (view value.now) ≡ false }
     ensures { OnOk result (out.new.items ≡ out.old.items ++ compact_text (view value.now)) }
 {
-    let text = value.to_vec(alloc)?;
-    out.extend_from_slice(text.as_slice())
+    if let Some(n) = value.as_u64() {
+        return push_number(out, n);
+    }
+    match value {
+        Value::Null => out.extend_from_slice(b"null"),
+        Value::String(text) => push_string(out, text.as_str()),
+        _ => {
+            let text = value.to_vec(alloc)?;
+            out.extend_from_slice(text.as_slice())
+        }
+    }
 }
 
 /// Appends the comma that stands before an item of an array, given its index: none before the first one. Returns `AllocError` if
@@ -43,7 +54,7 @@ pub fn push_first_member(
         ≡ out.old.items ++ compact_text (object (member key.now (view value.now) later))) }
 {
     out.push(b'{')?;
-    push_key(alloc, out, key)?;
+    push_key(out, key)?;
     push_value(alloc, out, value)
 }
 
@@ -60,16 +71,16 @@ pub fn push_member(
         ≡ out.old.items ++ members_text true (member key.now (view value.now) later)) }
 {
     out.push(b',')?;
-    push_key(alloc, out, key)?;
+    push_key(out, key)?;
     push_value(alloc, out, value)
 }
 
 /// Appends the name of a member and the colon after it. Returns `AllocError` if memory runs out; a front part of the text may be
 /// appended then.
-pub fn push_key(alloc: Global, out: &mut Vec<u8>, key: &str) -> Result<(), AllocError>
+pub fn push_key(out: &mut Vec<u8>, key: &str) -> Result<(), AllocError>
     ensures { OnOk result ((rest : List ℕ) → out.new.items ++ rest ≡ out.old.items ++ (quoted key.now ++ 58 ∷ rest)) }
 {
-    push_value(alloc, out, &Value::try_from_str(alloc, key)?)?;
+    push_string(out, key)?;
     out.push(b':')?;
     Ok(())
 }

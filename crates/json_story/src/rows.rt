@@ -200,7 +200,7 @@ fn push_entries_member(
         ≡ out.old.items ++ members_text true (member (codes "entries") (list_of (map entry_json (map entry_of entries.now))) later)) }
 {
     out.push(b',')?;
-    push_key(alloc, out, "entries")?;
+    push_key(out, "entries")?;
     push_entries(alloc, out, entries)?;
     Ok(())
 }
@@ -246,7 +246,7 @@ pub(crate) fn push_tasks(
         ≡ out.old.items ++ members_text true (member (codes "tasks") (list_of (map row_json (map row_in rows.now))) later)) }
 {
     out.push(b',')?;
-    push_key(alloc, out, "tasks")?;
+    push_key(out, "tasks")?;
     push_rows(alloc, out, rows)?;
     Ok(())
 }

@@ -112,7 +112,7 @@ fn push_events_member(
         (list_of (map (event_json (clock_in known.now) (cancelled_from_in known.now) (notes_held known.now) (events_in known.now)) (map event_in sorted.now))) later))) }
 {
     out.push(b'{')?;
-    push_key(alloc, out, "events")?;
+    push_key(out, "events")?;
     push_events(alloc, out, known, sorted)?;
     Ok(())
 }
