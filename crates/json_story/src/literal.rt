@@ -1,6 +1,6 @@
 //! Texts as JSON strings.
 
-ghost use Rattle.std.specs.Prelude.{◌≡◌, ◌++◌, OnOk};
+ghost use Rattle.std.specs.Prelude.{◌≡◌, ◌++◌, ◌∷◌, [], OnOk, IsTrue};
 ghost use Rattle.json.specs.Print.{escape, escape_byte, escape_letter, quoted};
 
 use basics::hex_digit;
@@ -20,10 +20,33 @@ pub(crate) fn push_string(out: &mut Vec<u8>, text: &str) -> Result<(), AllocErro
 fn push_literals(out: &mut Vec<u8>, bytes: &[u8]) -> Result<(), AllocError>
     ensures { OnOk result (out.new.items ≡ out.old.items ++ escape bytes.now) }
 {
+    if are_literals(bytes) {
+        return out.extend_from_slice(bytes);
+    }
     'bytes: for b in bytes {
         push_literal(out, *b)?;
     }
     Ok(())
+}
+
+// Returns whether every byte stands for itself between the quotes of a JSON string.
+fn are_literals(bytes: &[u8]) -> bool
+    ensures { IsTrue result → escape bytes.now ≡ bytes.now }
+{
+    'bytes: for b in bytes {
+        if !is_literal(*b) {
+            return false;
+        }
+    }
+    true
+}
+
+// Returns whether a byte stands for itself.
+#[tactic(auto, using(crate::proofs::LiteralLemmas::escape_plain))]
+fn is_literal(b: u8) -> bool
+    ensures { IsTrue result → escape_byte b ≡ b ∷ [] }
+{
+    32 <= b && escape_letter(b) == 0
 }
 
 // Appends what stands for a byte.
