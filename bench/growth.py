@@ -2,19 +2,27 @@
 """Doubles jobs of many shapes and the inputs of other commands, and prints how their time grows.
 
     python3 bench/growth.py PROGRAM [ROUNDS]
+    python3 bench/growth.py PROGRAM --most TIMES    # exit status 1 if a doubled job takes more than so many times the instructions
 
 PROGRAM is the built executable. Each shape is a job whose size is a number of parts: it is run with so many and with twice as many,
 ROUNDS times each (3 without the word), and the least times are compared, each without that of an empty job. A time in proportion to
 the size doubles; one that goes with the square of the size has four times. A text of a job has at most 65,536 bytes and a format 2 job
 1,000,000 steps, so the sizes are as large as the shape allows. The inputs of other commands are doubled five times, and each
 time is divided by the one before it.
+
+With `--most` jobs of a SHARE of these sizes are doubled, and the instructions that valgrind counts are compared in the place of times:
+they do not depend on what else the machine does, nor on its caches.
 """
 
+import argparse
 import os
+import re
+import shutil
 import subprocess
 import sys
 import tempfile
 import time
+from concurrent.futures import ThreadPoolExecutor
 
 
 def job(body):
@@ -146,28 +154,72 @@ def seconds(program, folder, words, rounds):
     return least
 
 
-def main():
-    program = os.path.abspath(sys.argv[1])
-    rounds = int(sys.argv[2]) if len(sys.argv) > 2 else 3
+# Under valgrind a program takes fifty times as long.
+SHARE = 10
+
+
+def instructions(program, text):
+    """How many instructions the program takes for a job."""
     with tempfile.TemporaryDirectory() as folder:
+        write(folder, "a.job", text)
+        words = ["valgrind", "--tool=cachegrind", "--cache-sim=no", "--cachegrind-out-file=/dev/null", program, "run", "a.job", os.devnull]
+        run = subprocess.run(words, cwd=folder, stdout=subprocess.DEVNULL, stderr=subprocess.PIPE, text=True)
+    counted = re.search(r"I +refs: +([0-9,]+)", run.stderr)
+    if run.returncode not in (0, 1) or not counted:
+        raise SystemExit(f"growth.py: {run.stderr}")
+    return int(counted[1].replace(",", ""))
 
-        def timed(text):
-            write(folder, "a.job", text)
-            return seconds(program, folder, ["run", "a.job", os.devnull], rounds)
 
-        empty = timed(job(b""))
-        print("| Shape | ms | ms, twice as large | times |\n|---|---|---|---|")
-        for name, size, make in SHAPES:
-            once, twice = timed(make(size)) - empty, timed(make(2 * size)) - empty
-            print(f"| {name} | {once * 1000:.1f} | {twice * 1000:.1f} | {twice / max(once, 1e-9):.1f} |", flush=True)
+def check_growth(program, most):
+    """Doubles each shape, and returns the exit status."""
+    if not shutil.which("valgrind"):
+        print("growth.py: valgrind is not installed: no job is doubled")
+        return 0
+    texts = [job(b"")] + [make(n * size // SHARE) for _, size, make in SHAPES for n in (1, 2)]
+    with ThreadPoolExecutor(os.cpu_count()) as pool:
+        empty, *counts = pool.map(lambda text: instructions(program, text), texts)
+    found = [((twice - empty) / (once - empty), shape[0]) for once, twice, shape in zip(counts[::2], counts[1::2], SHAPES)]
+    for times, name in found:
+        if times > most:
+            print(f"growth.py: {name}: {times:.2f} times the instructions when doubled, and at most {most} is expected")
+    times, name = max(found)
+    print(f"growth.py: {len(found)} shapes doubled, at most {times:.2f} times the instructions ({name})")
+    return 1 if times > most else 0
 
-        print(f"\n| Command | from | ms at {2 ** DOUBLINGS} times as much | each doubling |\n|---|---|---|---|")
-        for name, size, files in COMMANDS:
-            sizes = [size << k for k in range(DOUBLINGS + 1)]
-            times = [seconds(program, folder, files(folder, n), rounds) - empty for n in sizes]
-            steps = " ".join(f"{after / max(before, 1e-3):.1f}" for before, after in zip(times, times[1:]))
-            print(f"| {name} | {size} | {times[-1] * 1000:.1f} | {steps} |", flush=True)
+
+def print_growth(program, folder, rounds):
+    """Prints how the time of each shape and of each command grows."""
+
+    def timed(text):
+        write(folder, "a.job", text)
+        return seconds(program, folder, ["run", "a.job", os.devnull], rounds)
+
+    empty = timed(job(b""))
+    print("| Shape | ms | ms, twice as large | times |\n|---|---|---|---|")
+    for name, size, make in SHAPES:
+        once, twice = timed(make(size)) - empty, timed(make(2 * size)) - empty
+        print(f"| {name} | {once * 1000:.1f} | {twice * 1000:.1f} | {twice / max(once, 1e-9):.1f} |", flush=True)
+
+    print(f"\n| Command | from | ms at {2 ** DOUBLINGS} times as much | each doubling |\n|---|---|---|---|")
+    for name, size, files in COMMANDS:
+        sizes = [size << k for k in range(DOUBLINGS + 1)]
+        times = [seconds(program, folder, files(folder, n), rounds) - empty for n in sizes]
+        steps = " ".join(f"{after / max(before, 1e-3):.1f}" for before, after in zip(times, times[1:]))
+        print(f"| {name} | {size} | {times[-1] * 1000:.1f} | {steps} |", flush=True)
     return 0
+
+
+def main():
+    parser = argparse.ArgumentParser(description=__doc__, formatter_class=argparse.RawDescriptionHelpFormatter)
+    parser.add_argument("program")
+    parser.add_argument("rounds", nargs="?", type=int, default=3)
+    parser.add_argument("--most", type=float)
+    asked = parser.parse_args()
+    program = os.path.abspath(asked.program)
+    if asked.most is not None:
+        return check_growth(program, asked.most)
+    with tempfile.TemporaryDirectory() as folder:
+        return print_growth(program, folder, asked.rounds)
 
 
 if __name__ == "__main__":
