@@ -271,6 +271,32 @@ class Bench:
                 events = sum(line.startswith(b"  ") for line in out)
             table.row(name, events, milliseconds(run.seconds), f"{run.seconds * 1e9 / events:.0f}", run.memory // 1024, run.memory * 1024 // events)
 
+    def beside_run(self):
+        """Each command of 64 x 64 tasks with three sleeps each, beside their run."""
+        table = Table("Command", "ms", "of the run's time", "MB")
+        path = self.file("beside.job", grid(b"sleep 1; sleep 1; sleep 1;"))
+        words = [["run"], ["run", "--json"], ["explain"], ["explain", "--json"], ["chart"], ["chart", "--svg"]]
+        runs = [Run(" ".join(it), self.program, *it, path) for it in words]
+        measure(runs, self.rounds)
+        for run in runs:
+            table.row(run.name, milliseconds(run.seconds), f"{run.seconds / runs[0].seconds:.2f}", run.memory // 1024)
+
+    def asking(self):
+        """100,000 tasks that ask a limiter in one tick, beside as many that sleep, and as many that wait until a deadline."""
+        table = Table("100,000 tasks", "ms", "of the time of sleeping tasks", "MB")
+        tasks = b"repeat 1000 { repeat 100 { start t { %s } }"
+        ask = b"acquire l { }"
+        jobs = [("each sleeps a tick", b"nursery n { " + tasks % b"sleep 1;" + b" } }")]
+        for tokens in [1, 2, 10, 100]:
+            jobs.append((f"each asks for a token of {tokens}", b"limiter l %d { nursery n { " % tokens + tasks % ask + b" } } }"))
+        jobs.append(("each sleeps until a deadline", b"nursery n after 5 { " + tasks % b"sleep 9;" + b" } }"))
+        jobs.append(("each waits in a queue until a deadline", b"limiter l 1 { acquire l { nursery n after 5 { " + tasks % ask + b" } } } }"))
+        runs = [Run(name, self.program, "run", self.file(f"asking{n}.job", job_of_format_3(body))) for n, (name, body) in enumerate(jobs)]
+        measure(runs, 3 * self.rounds)
+        for run in runs:
+            beside = runs[-2] if run in runs[-2:] else runs[0]
+            table.row(run.name, milliseconds(run.seconds), f"{run.seconds / beside.seconds:.2f}", run.memory // 1024)
+
     def charts(self):
         """Charts of jobs with many tasks, as text and as SVG."""
         table = Table("Work", "form", "ms", "MB", "bytes")
@@ -345,7 +371,9 @@ def main():
     with tempfile.TemporaryDirectory() as folder:
         Run.out = os.path.join(folder, "out")
         bench = Bench(program, rounds, folder)
-        for table in [bench.lines, bench.turns, bench.large, bench.by_rounds, bench.stories, bench.charts, bench.faults, bench.workers, bench.trio]:
+        tables = [bench.lines, bench.turns, bench.large, bench.by_rounds, bench.asking]
+        tables += [bench.beside_run, bench.stories, bench.charts, bench.faults, bench.workers, bench.trio]
+        for table in tables:
             print(f"\n{table.__doc__.splitlines()[0]}\n")
             table()
     return 0
